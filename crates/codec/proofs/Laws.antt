@@ -64,6 +64,7 @@ bytesOf-numbersOf (a ∷ b ∷ c ∷ d ∷ s) e h =
     let r = bytesOf-numbersOf s (omega arith) (λ i. h (suc (suc (suc (suc i))))) in
     cc
 
+-- four bytes to a number
 pub length-bytesOf : (ns : List ℕ) → length (bytesOf ns) ≡ 4 * length ns
 unfolding bytesOf
 length-bytesOf [] = refl
@@ -114,6 +115,7 @@ pub bytesOfNumber-lt : (n : ℕ) → Below 256 (bytesOfNumber n)
 unfolding bytesOf
 bytesOfNumber-lt n = bytesOf-lt (n ∷ [])
 
+-- lists one after the other
 pub bytesOf-append : (ms ns : List ℕ) → bytesOf (ms ++ ns) ≡ bytesOf ms ++ bytesOf ns
 unfolding bytesOf
 bytesOf-append [] ns = refl
@@ -145,10 +147,12 @@ getD-over-further front s i h =
     let e : i ≡ length front + (i - length front) = omega arith in
     rw (e, getD-append-add, getD-drop)
 
+-- the length stays
 pub length-over : (front s : List ℕ) → length front ≤ length s → length (over front s) ≡ length s
 length-over front s h = simp (length-append, length-drop) (omega arith)
 
 module _ (s : List ℕ) (at : ℕ) (t : List ℕ) (fits : at + length t ≤ length s) where
+  -- the length stays
   pub length-stored : length (stored s at t) ≡ length s
   length-stored = simp (length-append, length-take, length-drop) (omega arith)
 

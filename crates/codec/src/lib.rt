@@ -5,7 +5,7 @@ ghost use lib.ListN.{length};
 ghost use Rattle.codec.specs.Number.{numberOf, numberAt, bytesOfNumber, numbersOf, bytesOf, stored, over};
 
 // The number that four bytes stand for, high byte first.
-pub fn number(a: u8, b: u8, c: u8, d: u8) -> u32
+fn number(a: u8, b: u8, c: u8, d: u8) -> u32
     ensures { λ r. ⌜ r ≡ numberOf a b c d ⌝ }
 {
     ((a as u32 * 256 + b as u32) * 256 + c as u32) * 256 + d as u32
