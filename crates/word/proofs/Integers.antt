@@ -67,6 +67,9 @@ double k h = ap (λ (j : ℕ). 2 ^ j) (up k h) ∙ pow-suc 2 (k - 1)
     up : (k : ℕ) → 0 < k → k ≡ suc (k - 1)
     up k h = omega arith
 
+pub half-most : (k : ℕ) → k ≤ 32 → 2 ^ (k - 1) ≤ 2 ^ 31
+half-most k u = pow-mono {i = k - 1} {j = 31} (omega arith)
+
 -- 1 shifted by less than the width
 pub one-shifted : (w n : ℕ) → n < w → (1 * 2 ^ n) % 2 ^ w ≡ 2 ^ n
 one-shifted w n h = rw one-mul (mod-eq-of-lt (pow-lt h))
@@ -125,12 +128,9 @@ module _ (k : ℕ) (p : 0 < k) where
       ∙ ap negsuc (omega arith)
 
 module _ (k : ℕ) (p : 0 < k) (u : k ≤ 32) where
-  half-mono : 2 ^ (k - 1) ≤ 2 ^ 31
-  half-mono = pow-mono {i = k - 1} {j = 31} (omega arith)
-
   -- i32 holds the reading of at most 32 bits
   pub signed-fits : (n : ℕ) → n < 2 ^ k → SFits w32 (signedOf k n)
-  signed-fits n b = record { sfits = omega (arith, half-mono, signed-range k p n b) }
+  signed-fits n b = record { sfits = omega (arith, half-most k u, signed-range k p n b) }
 
   -- a field whose sign is extended, read as signed, is the field read as signed
   pub signed-extend : (w : ℕ) → signedOf 32 (extendOf k w) ≡ signedOf k (w % 2 ^ k)

@@ -3,3 +3,4 @@ pub mod Integers
 pub mod Bitwise
 pub mod Bounds
 pub mod Flags
+pub mod Worked

@@ -29,7 +29,18 @@ unfolding addOf
 returns c =
     let s = c .before .before .before .before .before .before in
     let d = c .before .before .before .before .before .wrapping-add-u32 in
-    rw (c .is-outside .ensures, back w64 (c .before .before .sum-wide .result) (c .before .before .sum-wide .ok), c .before .before .sum-wide .ensures, back w32 (c .before .before .before .signed2 .result) (c .before .before .before .signed2 .ok), back w32 (c .before .before .before .before .signed .result) (c .before .before .before .before .signed .ok), c .before .before .before .signed2 .ensures, c .before .before .before .before .signed .ensures, c .before .result-flags .ensures, d .ensures, carry-is (s .args .a) (s .args .b) (s .fits .a .fits) (s .fits .b .fits))
+    rw (
+      c .is-outside .ensures,
+      back w64 (c .before .before .sum-wide .result) (c .before .before .sum-wide .ok),
+      c .before .before .sum-wide .ensures,
+      back w32 (c .before .before .before .signed2 .result) (c .before .before .before .signed2 .ok),
+      back w32 (c .before .before .before .before .signed .result) (c .before .before .before .before .signed .ok),
+      c .before .before .before .signed2 .ensures,
+      c .before .before .before .before .signed .ensures,
+      c .before .result-flags .ensures,
+      d .ensures,
+      carry-is (s .args .a) (s .args .b) (s .fits .a .fits) (s .fits .b .fits),
+    )
 
 pub add-spec : {M : Type 1} → statement M
 add-spec =

@@ -17,7 +17,14 @@ condition-flags-requires c κs = search needs
 
 returns : tie.Need-returns
 unfolding cmpOf
-returns c = rw (c .condition-flags .ensures, back w32 (c .before .signed2 .result) (c .before .signed2 .ok), back w32 (c .before .before .signed .result) (c .before .before .signed .ok), c .before .signed2 .ensures, c .before .before .signed .ensures)
+returns c =
+    rw (
+      c .condition-flags .ensures,
+      back w32 (c .before .signed2 .result) (c .before .signed2 .ok),
+      back w32 (c .before .before .signed .result) (c .before .before .signed .ok),
+      c .before .signed2 .ensures,
+      c .before .before .signed .ensures,
+    )
 
 pub cmp-spec : {M : Type 1} → statement M
 cmp-spec = tie.close (tie.spec signed-requires signed-requires-2 condition-flags-requires returns)

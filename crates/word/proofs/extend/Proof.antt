@@ -20,14 +20,22 @@ cast-low : tie.Need-cast-low
 cast-low c = rw (power-shifted (c .args .k) (c .pre .1)) (omega (arith, mod-le (c .args .a) (2 ^ c .args .k)))
 
 signed-field-requires : tie.Need-signed-field-requires
-signed-field-requires c κs = rw (power-shifted (c .args .k) (c .pre .1)) (c .pre .0, c .pre .1, mod-lt (c .args .a) (pow-pos (c .args .k)))
+signed-field-requires c κs =
+    rw (power-shifted (c .args .k) (c .pre .1))
+    (c .pre .0, c .pre .1, mod-lt (c .args .a) (pow-pos (c .args .k)))
 
 word-requires : tie.Need-word-requires
 word-requires c κs = search needs
 
 returns : tie.Need-returns
 unfolding extendOf
-returns c = rw (c .word .ensures, back w32 (c .before .signed-field .result) (c .before .signed-field .ok), c .before .signed-field .ensures, power-shifted (c .before .before .args .k) (c .before .before .pre .1))
+returns c =
+    rw (
+      c .word .ensures,
+      back w32 (c .before .signed-field .result) (c .before .signed-field .ok),
+      c .before .signed-field .ensures,
+      power-shifted (c .before .before .args .k) (c .before .before .pre .1),
+    )
 
 pub extend-spec : {M : Type 1} → statement M
 extend-spec =

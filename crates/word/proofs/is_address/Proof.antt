@@ -21,7 +21,9 @@ returns : tie.Need-returns
 returns c = low (c .before .args .x) (rw (toZ-ofZ (c .before .fits .x)) at (c .if1 .taken))
 
 returns-2 : tie.Need-returns-2
-returns-2 c = rw (toZ-ofZ (c .before .fits .x)) (high (c .before .args .x) (rw (toZ-ofZ (c .before .fits .x)) at (c .if1 .left)))
+returns-2 c =
+    rw (toZ-ofZ (c .before .fits .x))
+    (high (c .before .args .x) (rw (toZ-ofZ (c .before .fits .x)) at (c .if1 .left)))
 
 pub is-address-spec : {M : Type 1} → statement M
 is-address-spec = tie.close (tie.spec returns returns-2)

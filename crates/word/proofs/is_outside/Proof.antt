@@ -20,10 +20,14 @@ high : (z : ℤ) → ltZ z (pos 0) ≡ false → ltZ (pos 2147483647) z ≡ outs
 high z t = rw (is-natural z t)
 
 returns : tie.Need-returns
-returns c = rw (toZ-ofZ (c .before .fits .x)) (low (c .before .args .x) (rw (toZ-ofZ (c .before .fits .x)) at (c .if1 .taken)))
+returns c =
+    rw (toZ-ofZ (c .before .fits .x))
+    (low (c .before .args .x) (rw (toZ-ofZ (c .before .fits .x)) at (c .if1 .taken)))
 
 returns-2 : tie.Need-returns-2
-returns-2 c = rw (toZ-ofZ (c .before .fits .x)) (high (c .before .args .x) (rw (toZ-ofZ (c .before .fits .x)) at (c .if1 .left)))
+returns-2 c =
+    rw (toZ-ofZ (c .before .fits .x))
+    (high (c .before .args .x) (rw (toZ-ofZ (c .before .fits .x)) at (c .if1 .left)))
 
 pub is-outside-spec : {M : Type 1} → statement M
 is-outside-spec = tie.close (tie.spec returns returns-2)

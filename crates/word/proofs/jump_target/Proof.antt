@@ -20,13 +20,23 @@ cast-result-2 : tie.Need-cast-result-2
 cast-result-2 c = wide-fits (c .fits .x)
 
 mul-result : tie.Need-mul-result
-mul-result c = rw (wide-is (c .fits .x)) (product-fits (c .args .x) (pos 2) (2 ^ 31) 2 (size (c .fits .x)) (omega arith) tt)
+mul-result c =
+    rw (wide-is (c .fits .x))
+    (product-fits (c .args .x) (pos 2) (2 ^ 31) 2 (size (c .fits .x)) (omega arith) tt)
 
 add-result : tie.Need-add-result
-add-result c = rw (toZ-ofZ (mul-result c), toZ-pos w64 {n = c .args .slot} (omega arith), wide-is (c .fits .x)) (sum-fits (pos (c .args .slot)) (c .args .x *ℤ pos 2) (2 ^ 32 - 1) (2 ^ 32) (omega arith) (twice (c .fits .x)) tt)
+add-result c =
+    rw (toZ-ofZ (mul-result c), toZ-pos w64 {n = c .args .slot} (omega arith), wide-is (c .fits .x))
+    (sum-fits (pos (c .args .slot)) (c .args .x *ℤ pos 2) (2 ^ 32 - 1) (2 ^ 32) (omega arith) (twice (c .fits .x)) tt)
 
 returns : tie.Need-returns
-returns c = rw (toZ-ofZ (add-result c), toZ-ofZ (mul-result c), toZ-pos w64 {n = c .args .slot} (omega arith), wide-is (c .fits .x))
+returns c =
+    rw (
+      toZ-ofZ (add-result c),
+      toZ-ofZ (mul-result c),
+      toZ-pos w64 {n = c .args .slot} (omega arith),
+      wide-is (c .fits .x),
+    )
 
 pub jump-target-spec : {M : Type 1} → statement M
 jump-target-spec = tie.close (tie.spec cast-result cast-result-2 mul-result add-result returns)

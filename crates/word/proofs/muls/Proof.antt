@@ -15,7 +15,14 @@ multiply-requires : tie.Need-multiply-requires
 multiply-requires c κs = search needs
 
 returns : tie.Need-returns
-returns c = rw (c .multiply .ensures, back w32 (c .before .signed2 .result) (c .before .signed2 .ok), back w32 (c .before .before .signed .result) (c .before .before .signed .ok), c .before .signed2 .ensures, c .before .before .signed .ensures)
+returns c =
+    rw (
+      c .multiply .ensures,
+      back w32 (c .before .signed2 .result) (c .before .signed2 .ok),
+      back w32 (c .before .before .signed .result) (c .before .before .signed .ok),
+      c .before .signed2 .ensures,
+      c .before .before .signed .ensures,
+    )
 
 pub muls-spec : {M : Type 1} → statement M
 muls-spec = tie.close (tie.spec signed-requires signed-requires-2 multiply-requires returns)

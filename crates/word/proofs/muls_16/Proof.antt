@@ -20,7 +20,16 @@ low-word-requires c κs = search needs
 
 returns : tie.Need-returns
 unfolding shortProductOf
-returns c = rw (c .low-word .ensures, back w64 (c .before .product-wide .result) (c .before .product-wide .ok), c .before .product-wide .ensures, back w32 (c .before .before .signed-half2 .result) (c .before .before .signed-half2 .ok), back w32 (c .before .before .before .signed-half .result) (c .before .before .before .signed-half .ok), c .before .before .signed-half2 .ensures, c .before .before .before .signed-half .ensures)
+returns c =
+    rw (
+      c .low-word .ensures,
+      back w64 (c .before .product-wide .result) (c .before .product-wide .ok),
+      c .before .product-wide .ensures,
+      back w32 (c .before .before .signed-half2 .result) (c .before .before .signed-half2 .ok),
+      back w32 (c .before .before .before .signed-half .result) (c .before .before .before .signed-half .ok),
+      c .before .before .signed-half2 .ensures,
+      c .before .before .before .signed-half .ensures,
+    )
 
 pub muls-16-spec : {M : Type 1} → statement M
 muls-16-spec =

@@ -18,7 +18,15 @@ halves-requires c κs = search needs
 
 returns : tie.Need-returns
 unfolding productOf
-returns c = rw (c .halves .ensures, c .before .word64 .ensures, back w64 (c .before .before .product-wide .result) (c .before .before .product-wide .ok), c .before .before .product-wide .ensures, toZ-ofZ (c .before .before .before .fits .x), toZ-ofZ (c .before .before .before .fits .y))
+returns c =
+    rw (
+      c .halves .ensures,
+      c .before .word64 .ensures,
+      back w64 (c .before .before .product-wide .result) (c .before .before .product-wide .ok),
+      c .before .before .product-wide .ensures,
+      toZ-ofZ (c .before .before .before .fits .x),
+      toZ-ofZ (c .before .before .before .fits .y),
+    )
 
 pub multiply-spec : {M : Type 1} → statement M
 multiply-spec = tie.close (tie.spec product-wide-requires word64-requires halves-requires returns)

@@ -20,7 +20,15 @@ halves-requires c κs = search needs
 
 returns : tie.Need-returns
 unfolding productOf
-returns c = rw (c .halves .ensures, c .before .word64 .ensures, back w64 (c .before .before .product-mixed .result) (c .before .before .product-mixed .ok), c .before .before .product-mixed .ensures, back w32 (c .before .before .before .signed .result) (c .before .before .before .signed .ok), c .before .before .before .signed .ensures)
+returns c =
+    rw (
+      c .halves .ensures,
+      c .before .word64 .ensures,
+      back w64 (c .before .before .product-mixed .result) (c .before .before .product-mixed .ok),
+      c .before .before .product-mixed .ensures,
+      back w32 (c .before .before .before .signed .result) (c .before .before .before .signed .ok),
+      c .before .before .before .signed .ensures,
+    )
 
 pub mulus-spec : {M : Type 1} → statement M
 mulus-spec =

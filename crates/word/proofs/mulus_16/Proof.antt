@@ -17,7 +17,14 @@ low-word-requires c κs = search needs
 
 returns : tie.Need-returns
 unfolding shortProductOf
-returns c = rw (c .low-word .ensures, back w64 (c .before .product-mixed .result) (c .before .product-mixed .ok), c .before .product-mixed .ensures, back w32 (c .before .before .signed-half .result) (c .before .before .signed-half .ok), c .before .before .signed-half .ensures)
+returns c =
+    rw (
+      c .low-word .ensures,
+      back w64 (c .before .product-mixed .result) (c .before .product-mixed .ok),
+      c .before .product-mixed .ensures,
+      back w32 (c .before .before .signed-half .result) (c .before .before .signed-half .ok),
+      c .before .before .signed-half .ensures,
+    )
 
 pub mulus-16-spec : {M : Type 1} → statement M
 mulus-16-spec =

@@ -16,7 +16,9 @@ cast-result-2 : tie.Need-cast-result-2
 cast-result-2 c = wide-fits (c .fits .x)
 
 add-result : tie.Need-add-result
-add-result c = rw (toZ-pos w64 {n = c .args .a} (omega arith), wide-is (c .fits .x)) (sum-fits (pos (c .args .a)) (c .args .x) (2 ^ 32 - 1) (2 ^ 31) (omega arith) (size (c .fits .x)) tt)
+add-result c =
+    rw (toZ-pos w64 {n = c .args .a} (omega arith), wide-is (c .fits .x))
+    (sum-fits (pos (c .args .a)) (c .args .x) (2 ^ 32 - 1) (2 ^ 31) (omega arith) (size (c .fits .x)) tt)
 
 returns : tie.Need-returns
 returns c = rw (toZ-ofZ (add-result c), toZ-pos w64 {n = c .args .a} (omega arith), wide-is (c .fits .x))

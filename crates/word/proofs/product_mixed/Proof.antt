@@ -16,7 +16,9 @@ cast-result-2 : tie.Need-cast-result-2
 cast-result-2 c = wide-fits (c .fits .y)
 
 mul-result : tie.Need-mul-result
-mul-result c = rw (toZ-pos w64 {n = c .args .a} (omega arith), wide-is (c .fits .y)) (product-fits (pos (c .args .a)) (c .args .y) (2 ^ 32 - 1) (2 ^ 31) (omega arith) (size (c .fits .y)) tt)
+mul-result c =
+    rw (toZ-pos w64 {n = c .args .a} (omega arith), wide-is (c .fits .y))
+    (product-fits (pos (c .args .a)) (c .args .y) (2 ^ 32 - 1) (2 ^ 31) (omega arith) (size (c .fits .y)) tt)
 
 returns : tie.Need-returns
 returns c = rw (toZ-ofZ (mul-result c), toZ-pos w64 {n = c .args .a} (omega arith), wide-is (c .fits .y))

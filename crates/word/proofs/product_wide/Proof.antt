@@ -11,7 +11,9 @@ cast-result-2 : tie.Need-cast-result-2
 cast-result-2 c = wide-fits (c .fits .y)
 
 mul-result : tie.Need-mul-result
-mul-result c = rw (wide-is (c .fits .x), wide-is (c .fits .y)) (product-wide-fits (c .args .x) (c .args .y) (c .fits .x) (c .fits .y))
+mul-result c =
+    rw (wide-is (c .fits .x), wide-is (c .fits .y))
+    (product-wide-fits (c .args .x) (c .args .y) (c .fits .x) (c .fits .y))
 
 returns : tie.Need-returns
 returns c = rw (toZ-ofZ (mul-result c), wide-is (c .fits .x), wide-is (c .fits .y))

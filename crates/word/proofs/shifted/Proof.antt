@@ -20,7 +20,9 @@ shr-result c = search needs
 
 returns : tie.Need-returns
 unfolding divZ
-returns c = rw (wide-is (c .fits .x)) (toZ-ofZ (sfits-le (mag-shr (c .args .x) (2 ^ c .args .s)) (sfits-widen tt (c .fits .x))))
+returns c =
+    rw (wide-is (c .fits .x))
+    (toZ-ofZ (sfits-le (mag-shr (c .args .x) (2 ^ c .args .s)) (sfits-widen tt (c .fits .x))))
 
 pub shifted-spec : {M : Type 1} → statement M
 shifted-spec = tie.close (tie.spec cast-result cast-result-2 shr-result returns)

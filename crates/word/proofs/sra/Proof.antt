@@ -17,7 +17,14 @@ low-word-requires c κs = search needs
 
 returns : tie.Need-returns
 unfolding sraOf
-returns c = rw (c .low-word .ensures, back w64 (c .before .shifted .result) (c .before .shifted .ok), c .before .shifted .ensures, back w32 (c .before .before .signed .result) (c .before .before .signed .ok), c .before .before .signed .ensures)
+returns c =
+    rw (
+      c .low-word .ensures,
+      back w64 (c .before .shifted .result) (c .before .shifted .ok),
+      c .before .shifted .ensures,
+      back w32 (c .before .before .signed .result) (c .before .before .signed .ok),
+      c .before .before .signed .ensures,
+    )
 
 pub sra-spec : {M : Type 1} → statement M
 sra-spec = tie.close (tie.spec signed-requires shifted-requires low-word-requires returns)

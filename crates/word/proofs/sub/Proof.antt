@@ -29,7 +29,17 @@ unfolding subOf
 returns c =
     let s = c .before .before .before .before .before .before in
     let d = c .before .before .before .before .before .wrapping-sub-u32 in
-    rw (c .is-outside .ensures, back w64 (c .before .before .difference-wide .result) (c .before .before .difference-wide .ok), c .before .before .difference-wide .ensures, back w32 (c .before .before .before .signed2 .result) (c .before .before .before .signed2 .ok), back w32 (c .before .before .before .before .signed .result) (c .before .before .before .before .signed .ok), c .before .before .before .signed2 .ensures, c .before .before .before .before .signed .ensures, c .before .result-flags .ensures, difference-is (d .result) (s .args .a) (s .args .b) (d .ok) (s .fits .a .fits) (s .fits .b .fits) (d .ensures))
+    rw (
+      c .is-outside .ensures,
+      back w64 (c .before .before .difference-wide .result) (c .before .before .difference-wide .ok),
+      c .before .before .difference-wide .ensures,
+      back w32 (c .before .before .before .signed2 .result) (c .before .before .before .signed2 .ok),
+      back w32 (c .before .before .before .before .signed .result) (c .before .before .before .before .signed .ok),
+      c .before .before .before .signed2 .ensures,
+      c .before .before .before .before .signed .ensures,
+      c .before .result-flags .ensures,
+      difference-is (d .result) (s .args .a) (s .args .b) (d .ok) (s .fits .a .fits) (s .fits .b .fits) (d .ensures),
+    )
 
 pub sub-spec : {M : Type 1} → statement M
 sub-spec =

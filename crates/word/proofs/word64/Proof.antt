@@ -28,19 +28,29 @@ unfolding modZ
 of-natural z f t = rw (is-natural z t) (omega (arith, f .sfits))
 
 sub-result : tie.Need-sub-result
-sub-result c = rw (toZ-ofZ (c .before .fits .x), turned (c .before .args .x) (negative c)) (record { sfits = c .before .fits .x .sfits })
+sub-result c =
+    rw (toZ-ofZ (c .before .fits .x), turned (c .before .args .x) (negative c))
+    (record { sfits = c .before .fits .x .sfits })
 
 cast-result : tie.Need-cast-result
-cast-result c = rw (toZ-ofZ (c .before .fits .x), turned (c .before .args .x) (negative c), toZ-pos w64 (c .before .fits .x .sfits)) (tt, record { fits = omega arith })
+cast-result c =
+    rw (toZ-ofZ (c .before .fits .x), turned (c .before .args .x) (negative c), toZ-pos w64 (c .before .fits .x .sfits))
+    (tt, record { fits = omega arith })
 
 sub-result-2 : tie.Need-sub-result-2
-sub-result-2 c = rw (toZ-ofZ (c .before .fits .x), turned (c .before .args .x) (negative c), toZ-pos w64 (c .before .fits .x .sfits)) (omega arith)
+sub-result-2 c =
+    rw (toZ-ofZ (c .before .fits .x), turned (c .before .args .x) (negative c), toZ-pos w64 (c .before .fits .x .sfits))
+    (omega arith)
 
 cast-result-2 : tie.Need-cast-result-2
-cast-result-2 c = rw (toZ-ofZ (c .before .fits .x), is-natural (c .before .args .x) (natural c)) (tt, record { fits = omega arith })
+cast-result-2 c =
+    rw (toZ-ofZ (c .before .fits .x), is-natural (c .before .args .x) (natural c))
+    (tt, record { fits = omega arith })
 
 returns : tie.Need-returns
-returns c = rw (toZ-ofZ (c .before .fits .x), turned (c .before .args .x) (negative c), toZ-pos w64 (c .before .fits .x .sfits)) (of-negative (c .before .args .x) (c .before .fits .x) (negative c))
+returns c =
+    rw (toZ-ofZ (c .before .fits .x), turned (c .before .args .x) (negative c), toZ-pos w64 (c .before .fits .x .sfits))
+    (of-negative (c .before .args .x) (c .before .fits .x) (negative c))
 
 returns-2 : tie.Need-returns-2
 returns-2 c = rw (toZ-ofZ (c .before .fits .x)) (of-natural (c .before .args .x) (c .before .fits .x) (natural c))
