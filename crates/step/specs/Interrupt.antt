@@ -16,9 +16,9 @@ use Rattle.machine.specs.Control.{controlAt, INT-VECTORS, INT-MODE-IL, INT-MODE
 use Rattle.machine.specs.Stack.{withStack}
 use Rattle.machine.specs.declared.Position.{Position}
 use Rattle.machine.specs.declared.Entry.{Entry}
-use Rattle.step.specs.View.{View}
-use Rattle.step.specs.declared.Fetched.{Fetched}
-use Rattle.step.specs.declared.Fetched.the-variants.{Word, Fault, Absent}
+use Rattle.decide.specs.View.{View}
+use Rattle.decide.specs.declared.Fetched.{Fetched}
+use Rattle.decide.specs.declared.Fetched.the-variants.{Word, Fault, Absent}
 
 -- ---- requests
 

@@ -1,9 +1,4 @@
--- One step: what may be seen (View), what an operation does (Execute), the order of the tests (Decide), what an effect changes (Apply),
--- interrupts (Interrupt), the step itself (Step).
-pub mod View
-pub mod Execute
-pub mod Decide
-pub mod Apply
+-- One step: interrupts (Interrupt), the step itself (Step), and 01's worked examples (Worked).
 pub mod Interrupt
 pub mod Step
 pub mod Worked

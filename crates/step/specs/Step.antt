@@ -5,12 +5,12 @@ use mathlib.Core.Option.{Option, none, some}
 use Prim.Native.Nat.{ℕ}
 use Rattle.word.specs.Choice.{if_then_else_}
 use Rattle.machine.specs.Machine.{State}
-use Rattle.step.specs.View.{View, view}
-use Rattle.step.specs.Decide.{decide}
-use Rattle.step.specs.Apply.{Transition, machineOnly, apply}
+use Rattle.decide.specs.View.{View, view}
+use Rattle.decide.specs.Decide.{decide}
+use Rattle.apply.specs.Apply.{Transition, machineOnly, apply}
 use Rattle.step.specs.Interrupt.{withRequests, acceptedSource, accept}
-use Rattle.step.specs.declared.Kind.{Kind}
-use Rattle.step.specs.declared.Kind.the-variants.{Ordinary, Interrupt, SystemCall, InterruptReturn, Exception, Stop}
+use Rattle.apply.specs.declared.Kind.{Kind}
+use Rattle.apply.specs.declared.Kind.the-variants.{Ordinary, Interrupt, SystemCall, InterruptReturn, Exception, Stop}
 
 unfoldable pub isStop : Kind → Bool
 isStop Ordinary = false

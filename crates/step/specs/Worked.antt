@@ -8,10 +8,10 @@ use Rattle.machine.specs.Machine.{Machine, State, PSR, positionAt}
 use Rattle.machine.specs.declared.Position.{Position}
 use Rattle.machine.specs.Control.{reset, DMEM-BOUND-LO, DMEM-BOUND-HI, IMEM-BOUND-LO, IMEM-BOUND-HI}
 use Rattle.codec.specs.Number.{bytesOf}
-use Rattle.step.specs.Apply.{Transition}
+use Rattle.apply.specs.Apply.{Transition}
 use Rattle.step.specs.Step.{step}
-use Rattle.step.specs.declared.Kind.{Kind}
-use Rattle.step.specs.declared.Kind.the-variants.{Ordinary, Exception}
+use Rattle.apply.specs.declared.Kind.{Kind}
+use Rattle.apply.specs.declared.Kind.the-variants.{Ordinary, Exception}
 
 pub record Case : Type 0 where
   pub psr : ℕ

@@ -13,10 +13,10 @@ use Rattle.isa.specs.Decode.{bytesOf}
 use Rattle.machine.specs.Machine.{Machine, State, psr, userMode, readsSet2, writesSet2, widthOf, setBy}
 use Rattle.machine.specs.Control.{controlAt, within, CCB-BASE, DMEM-BOUND-LO, DMEM-BOUND-HI, IMEM-BOUND-LO, IMEM-BOUND-HI}
 use Rattle.machine.specs.declared.Position.{Position}
-use Rattle.step.specs.declared.Fetched.{Fetched}
-use Rattle.step.specs.declared.Fetched.the-variants.{Word, Fault, Absent}
-use Rattle.step.specs.declared.Place.{Place}
-use Rattle.step.specs.declared.Place.the-variants.{Block, Cell, Refused, Missing}
+use Rattle.decide.specs.declared.Fetched.{Fetched}
+use Rattle.decide.specs.declared.Fetched.the-variants.{Word, Fault, Absent}
+use Rattle.decide.specs.declared.Place.{Place}
+use Rattle.decide.specs.declared.Place.the-variants.{Block, Cell, Refused, Missing}
 
 -- ---- program memory
 

@@ -11,12 +11,12 @@ use Rattle.isa.specs.Decode.{decode}
 use Rattle.isa.specs.declared.Instruction.{Instruction}
 use Rattle.machine.specs.Machine.{userMode, widthOf}
 use Rattle.machine.specs.declared.Position.{Position}
-use Rattle.step.specs.View.{View}
-use Rattle.step.specs.Execute.{execute}
-use Rattle.step.specs.declared.Fetched.{Fetched}
-use Rattle.step.specs.declared.Fetched.the-variants.{Word, Fault, Absent}
-use Rattle.step.specs.declared.Effect.{Effect}
-use Rattle.step.specs.declared.Effect.the-variants.{Stopped, Raised, Next}
+use Rattle.decide.specs.View.{View}
+use Rattle.decide.specs.Execute.{execute}
+use Rattle.decide.specs.declared.Fetched.{Fetched}
+use Rattle.decide.specs.declared.Fetched.the-variants.{Word, Fault, Absent}
+use Rattle.decide.specs.declared.Effect.{Effect}
+use Rattle.decide.specs.declared.Effect.the-variants.{Stopped, Raised, Next}
 
 -- its own effect
 unfoldable pub perform : View → Instruction → Operation → Effect
