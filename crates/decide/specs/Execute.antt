@@ -72,10 +72,10 @@ jumped v target taken =
 unfoldable pub branch : Condition → View → Instruction → Effect
 branch when v i = if holds when (getD (v .conditions) (i .creg) 0) then jumped v (targetBy v (i .immediate)) Jump else Next
 
--- Cn at bits 3n+2..3n
+-- condition registers in a word: Cn, three bits, at bits 3n+2..3n
 unfoldable pub packed : List ℕ → ℕ
 packed [] = 0
-packed (c ∷ cs) = c + 8 * packed cs
+packed (c ∷ cs) = c % 8 + 8 * packed cs
 
 -- ---- one clause for each operation; x and y are the two sources
 
