@@ -1,0 +1,78 @@
+-- The machine image: numbers in sections, each after its count, as bytes (01 "Machine image"). Assumes nothing.
+use mathlib.Core.Bool.{Bool, not}
+use mathlib.Core.List.{List, [], _∷_, _++_, reverse}
+use Prim.Native.Nat.{ℕ, zero, suc, _+_, _*_}
+use lib.ListN.{length, getD}
+use lib.Dec.{leb, eqb}
+use Rattle.word.specs.Choice.{if_then_else_}
+use Rattle.codec.specs.Number.{numbersOf, bytesOf}
+use Rattle.machine.specs.Machine.{Machine}
+use Rattle.machine.specs.Words.{SET1, SET2, CONDITIONS, CONTROL, POSITION, DEPTH, machineOf}
+use Rattle.image.specs.Questions.{all, question3, question4, question5}
+use Rattle.machine.specs.declared.Position.{Position}
+use Rattle.machine.specs.declared.Entry.{Entry}
+
+-- ---- writing
+
+unfoldable pub positionNumbers : Position → List ℕ
+positionNumbers q = q .pc ∷ q .slot ∷ q .target ∷ q .held ∷ q .high ∷ q .low ∷ []
+
+unfoldable pub entryNumbers : List Entry → List ℕ
+entryNumbers [] = []
+entryNumbers (e ∷ es) = e .source ∷ e .address ∷ e .psr ∷ e .c0 ∷ entryNumbers es
+
+-- sections in this order, each after its count; the stack's top is last
+unfoldable pub imageNumbers : Machine → List ℕ
+imageNumbers m =
+    32 ∷ m .set1 ++ (
+    32 ∷ m .set2 ++ (
+    8 ∷ m .conditions ++ (
+    45 ∷ m .control ++ (
+    6 ∷ positionNumbers (m .position) ++ (
+    length (m .stack) ∷ entryNumbers (reverse (m .stack)))))))
+
+unfoldable pub writeImage : Machine → List ℕ
+writeImage m = bytesOf (imageNumbers m)
+
+-- ---- 2: exactly these sections and counts
+
+-- the count of the section that begins at a place
+abbrev pub countOf : (start : ℕ) (numbers : List ℕ) → ℕ
+countOf (suc n) ns = getD ns n 0
+countOf zero ns = 0
+
+unfoldable pub sectionTests : (bytes : ℕ) (numbers : List ℕ) → List Bool
+sectionTests bytes ns =
+    eqb bytes (516 + 16 * getD ns DEPTH 0) ∷
+    leb (getD ns DEPTH 0) 12 ∷
+    eqb (countOf SET1 ns) 32 ∷
+    eqb (countOf SET2 ns) 32 ∷
+    eqb (countOf CONDITIONS ns) 8 ∷
+    eqb (countOf CONTROL ns) 45 ∷
+    eqb (countOf POSITION ns) 6 ∷
+    []
+
+unfoldable pub question2 : (image : List ℕ) → Bool
+question2 image = all (sectionTests (length image) (numbersOf image))
+
+-- ---- questions 2 to 5 in order: the number of the first no, or the machine
+
+pub data Read : Type 0 where
+  Refused : ℕ → Read
+  Accepted : Machine → Read
+
+-- 3 to 5
+unfoldable pub askMachine : Machine → Read
+askMachine m =
+    if not (question3 m) then Refused 3
+    else if not (question4 m) then Refused 4
+    else if not (question5 m) then Refused 5
+    else Accepted m
+
+unfoldable pub readImage : (image : List ℕ) → Read
+readImage image = if question2 image then askMachine (machineOf (numbersOf image)) else Refused 2
+
+-- what reading says of an answer and of the machine read: 0 accepts it
+unfoldable pub readBy : (answer : ℕ) → Machine → Read
+readBy zero m = Accepted m
+readBy (suc n) m = Refused (suc n)

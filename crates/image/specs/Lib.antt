@@ -1,0 +1,4 @@
+-- The machine image and the questions asked of it.
+pub mod Questions
+pub mod Image
+pub mod Computed

@@ -1,0 +1,3 @@
+pub fn operations() -> u32 {
+    58
+}

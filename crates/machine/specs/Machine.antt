@@ -1,0 +1,96 @@
+-- The machine's state (002 section 2; 01 "Machine image"). Assumes nothing.
+use mathlib.Core.Bool.{Bool, true, false}
+use mathlib.Core.List.{List}
+use Prim.Native.Nat.{ℕ, _+_, _*_, _%_}
+use lib.ListN.{getD, set}
+use Rattle.word.specs.Word.{bitAt, bitOf}
+use Rattle.isa.specs.Operation.{Width, widthBy}
+use Rattle.machine.specs.declared.Position.{Position}
+use Rattle.machine.specs.declared.Entry.{Entry}
+
+-- ---- the state
+
+pub record Machine : Type 0 where
+  pub set1 : List ℕ  -- R0 to R31
+  pub set2 : List ℕ  -- PR0 to PR31: PR29 is PSR, PR30 SPSR
+  pub conditions : List ℕ  -- C0 to C7
+  pub control : List ℕ  -- the control block's registers
+  pub position : Position
+  pub stack : List Entry  -- top first
+
+-- with the data memory
+pub record State : Type 0 where
+  pub machine : Machine
+  pub cells : List ℕ
+
+-- a position with no slot and no product
+unfoldable pub positionAt : (pc : ℕ) → Position
+positionAt pc = record { pc = pc; slot = 0; target = 0; held = 0; high = 0; low = 0 }
+
+-- ---- one part replaced
+
+unfoldable pub withSet1 : List ℕ → Machine → Machine
+withSet1 l m = record { set1 = l; set2 = m .set2; conditions = m .conditions; control = m .control; position = m .position; stack = m .stack }
+
+unfoldable pub withSet2 : List ℕ → Machine → Machine
+withSet2 l m = record { set1 = m .set1; set2 = l; conditions = m .conditions; control = m .control; position = m .position; stack = m .stack }
+
+unfoldable pub withConditions : List ℕ → Machine → Machine
+withConditions l m = record { set1 = m .set1; set2 = m .set2; conditions = l; control = m .control; position = m .position; stack = m .stack }
+
+unfoldable pub withControl : List ℕ → Machine → Machine
+withControl l m = record { set1 = m .set1; set2 = m .set2; conditions = m .conditions; control = l; position = m .position; stack = m .stack }
+
+unfoldable pub withPosition : Position → Machine → Machine
+withPosition p m = record { set1 = m .set1; set2 = m .set2; conditions = m .conditions; control = m .control; position = p; stack = m .stack }
+
+-- ---- special registers of set 2 (002 section 2.4), and the link register of both sets
+
+abbrev pub PSR : ℕ
+PSR = 29
+
+abbrev pub SPSR : ℕ
+SPSR = 30
+
+abbrev pub LINK : ℕ
+LINK = 31
+
+unfoldable pub psr : Machine → ℕ
+psr m = getD (m .set2) PSR 0
+
+unfoldable pub withPsr : ℕ → Machine → Machine
+withPsr q m = withSet2 (set (m .set2) PSR q) m
+
+-- ---- the bits of PSR (002 section 2.4)
+
+-- UM
+unfoldable pub userMode : (psr : ℕ) → Bool
+userMode q = bitAt 0 q
+
+-- RSRD
+unfoldable pub readsSet2 : (psr : ℕ) → Bool
+readsSet2 q = bitAt 1 q
+
+-- RSWR
+unfoldable pub writesSet2 : (psr : ℕ) → Bool
+writesSet2 q = bitAt 2 q
+
+-- IL
+unfoldable pub wideWords : (psr : ℕ) → Bool
+wideWords q = bitAt 3 q
+
+-- IE
+unfoldable pub interruptsEnabled : (psr : ℕ) → Bool
+interruptsEnabled q = bitAt 4 q
+
+-- the length of instruction words
+unfoldable pub widthOf : (psr : ℕ) → Width
+widthOf q = widthBy (wideWords q)
+
+-- PSR with IL and IE set anew
+unfoldable pub withModes : (psr : ℕ) (wide enabled : Bool) → ℕ
+withModes q wide enabled = q % 8 + 8 * bitOf wide + 16 * bitOf enabled
+
+-- PSR of scall and of exceptions, and at reset: super user, set 2, 32-bit words, interrupts disabled
+abbrev pub SUPER : ℕ
+SUPER = 0x0E

@@ -1,0 +1,32 @@
+-- The hardware stack of interrupts in service, and the control registers that show it (01 "One step", "Control block"). Assumes nothing.
+use mathlib.Core.List.{List, [], _∷_, map}
+use Prim.Native.Nat.{ℕ}
+use lib.ListN.{set}
+use Rattle.word.specs.Flags.{flagsAt}
+use Rattle.machine.specs.Machine.{Machine}
+use Rattle.machine.specs.Control.{INT-SERV, RETI-ADDR, RETI-PSR, RETI-CR0}
+use Rattle.machine.specs.declared.Position.{Position}
+use Rattle.machine.specs.declared.Entry.{Entry}
+
+-- the sources in service
+unfoldable pub sourcesOf : List Entry → List ℕ
+sourcesOf es = map (λ (e : Entry). e .source) es
+
+-- INT_SERV: a flag for each source in service
+unfoldable pub serviceFlags : List Entry → ℕ
+serviceFlags es = flagsAt (sourcesOf es)
+
+-- what the RETI_ registers show: the top, or 1, 9, 0 when empty
+unfoldable pub shownTop : List Entry → Entry
+shownTop [] = record { source = 0; address = 1; psr = 9; c0 = 0 }
+shownTop (e ∷ es) = e
+
+-- the control block that shows a stack
+unfoldable pub showStack : List Entry → (control : List ℕ) → List ℕ
+showStack es l =
+    let top = shownTop es in
+    set (set (set (set l INT-SERV (serviceFlags es)) RETI-ADDR (top .address)) RETI-PSR (top .psr)) RETI-CR0 (top .c0)
+
+-- the machine with this stack, and its control block showing it
+unfoldable pub withStack : List Entry → Machine → Machine
+withStack es m = record { set1 = m .set1; set2 = m .set2; conditions = m .conditions; control = showStack es (m .control); position = m .position; stack = es }

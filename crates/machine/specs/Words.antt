@@ -1,0 +1,58 @@
+-- The running machine as one list of words: an image's numbers in their order (01 "Machine image"). Assumes nothing.
+use mathlib.Core.List.{List, [], _∷_, reverse}
+use Prim.Native.Nat.{ℕ, zero, suc}
+use lib.ListN.{getD, take, drop}
+use Rattle.machine.specs.Machine.{Machine}
+use Rattle.machine.specs.declared.Position.{Position}
+use Rattle.machine.specs.declared.Entry.{Entry}
+
+-- where the sections' numbers begin, each just after its count
+
+abbrev pub SET1 : ℕ
+SET1 = 1
+
+abbrev pub SET2 : ℕ
+SET2 = 34
+
+abbrev pub CONDITIONS : ℕ
+CONDITIONS = 67
+
+abbrev pub CONTROL : ℕ
+CONTROL = 76
+
+abbrev pub POSITION : ℕ
+POSITION = 122
+
+-- the count of stack entries, and the entries, four words each, the top last
+abbrev pub DEPTH : ℕ
+DEPTH = 128
+
+abbrev pub ENTRIES : ℕ
+ENTRIES = 129
+
+-- as many words as the longest image has
+abbrev pub WORDS : ℕ
+WORDS = 177
+
+abbrev pub section : (start count : ℕ) (words : List ℕ) → List ℕ
+section start count ws = take count (drop start ws)
+
+unfoldable pub positionOf : (words : List ℕ) → Position
+positionOf l = record { pc = getD l 0 0; slot = getD l 1 0; target = getD l 2 0; held = getD l 3 0; high = getD l 4 0; low = getD l 5 0 }
+
+unfoldable pub entriesOf : (count : ℕ) (words : List ℕ) → List Entry
+entriesOf zero l = []
+entriesOf (suc n) l =
+    record { source = getD l 0 0; address = getD l 1 0; psr = getD l 2 0; c0 = getD l 3 0 } ∷ entriesOf n (drop 4 l)
+
+-- the machine that words in this order say; words past the last entry say nothing
+unfoldable pub machineOf : (words : List ℕ) → Machine
+machineOf ws =
+    record {
+      set1 = section SET1 32 ws;
+      set2 = section SET2 32 ws;
+      conditions = section CONDITIONS 8 ws;
+      control = section CONTROL 45 ws;
+      position = positionOf (section POSITION 6 ws);
+      stack = reverse (entriesOf (getD ws DEPTH 0) (drop ENTRIES ws));
+    }
