@@ -6,11 +6,12 @@ use mathlib.Core.List.{List, [], _∷_, _++_, reverse, reverse-append, append-as
 use Prim.Native.Nat.{ℕ, zero, suc, _+_, _-_, _*_, _≤_, _<_}
 use native.Mathlib.Omega.{arith}
 use lib.Dec.{leb}
-use lib.ListN.{length, getD, set, take, drop, length-drop, length-set, length-reverse}
+use lib.ListN.{length, getD, set, take, drop, length-drop, length-set, length-reverse, List·getD-eq-default}
 use lib.Seq.{drop-set-add, drop-set-lt, take-set-lt, take-set-le, getD-set-same, getD-set-other, getD-take, getD-drop, drop-drop, length-take-le, sets, sets-eq, take-at, drop-at}
 use borrow.Author.Tests.{leb-true}
-use Rattle.machine.specs.Machine.{Machine, withSet1, withSet2, withConditions, withControl, withPosition, withRegister, withPsr, PSR}
-use Rattle.machine.specs.Words.{SET1, SET2, CONDITIONS, CONTROL, POSITION, DEPTH, ENTRIES, WORDS, section, positionOf, entriesOf, machineOf}
+use Rattle.machine.specs.Machine.{Machine, withSet1, withSet2, withConditions, withControl, withPosition, setBy, withRegister}
+use Rattle.machine.specs.Control.{controlAt}
+use Rattle.machine.specs.Words.{SET1, SET2, CONDITIONS, CONTROL, POSITION, DEPTH, ENTRIES, WORDS, startBy, section, positionOf, entriesOf, machineOf}
 use Rattle.machine.specs.declared.Position.{Position}
 use Rattle.machine.specs.declared.Entry.{Entry}
 
@@ -97,6 +98,29 @@ module _ (w : List ℕ) (v j : ℕ) where
   pub control-stored : j < 45 → machineOf (set w (CONTROL + j) v) ≡ withControl (set (machineOf w .control) j v) (machineOf w)
   unfolding machineOf withControl
   control-stored h = simp (store-in w v CONTROL 45 j h, store-apart w v CONTROL 45 j h, stack-below w (CONTROL + j) (v ∷ []) (omega arith))
+
+-- ---- the set that a bit of PSR names
+
+pub start-small : (second : Bool) → startBy second ≤ SET2
+start-small true = omega arith
+start-small false = omega arith
+
+pub register-at : (w : List ℕ) (second : Bool) (n : ℕ) → n < 32 → getD (setBy second (machineOf w)) n 0 ≡ getD w (startBy second + n) 0
+unfolding setBy machineOf
+register-at w true n h = section-at w SET2 32 n h
+register-at w false n h = section-at w SET1 32 n h
+
+pub register-stored : (w : List ℕ) (v n : ℕ) (second : Bool) → n < 32 → machineOf (set w (startBy second + n) v) ≡ withRegister second n v (machineOf w)
+unfolding withRegister
+register-stored w v n true h = set2-stored w v n h
+register-stored w v n false h = set1-stored w v n h
+
+-- ---- the control block
+
+-- a load beyond its registers
+pub control-beyond : (w : List ℕ) (n : ℕ) → length w ≡ WORDS → 45 ≤ n → controlAt (machineOf w) n ≡ 0
+unfolding machineOf
+control-beyond w n h l = List·getD-eq-default (section CONTROL 45 w) 0 (rw (section-length w CONTROL 45 (omega arith)) l)
 
 -- ---- the position
 
