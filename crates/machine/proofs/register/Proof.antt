@@ -1,25 +1,22 @@
+-- `machine::register` meets its contract: an element of the set that the bit names. Assumes nothing.
+use mathlib.Core.Path.{sym, _∙_}
+use native.Mathlib.Omega.{arith}
+use Rattle.machine.proofs.Flat.{start-small, register-at}
 use borrow.Author.Needs.{needs}
 use Rattle.machine.proofs.register.Statement.{statement}
 use Rattle.machine.proofs.register.Tie as tie
-use Rattle.machine.proofs.register.Reads as reads
-use Rattle.machine.proofs.register.Lts as lts
-use Rattle.machine.proofs.place.Reads as place-reads
 
--- src/lib.rt:81:7
 place-requires : tie.Need-place-requires
 place-requires c κs = search needs
 
--- src/lib.rt:81:5
 mul-result : tie.Need-mul-result
-mul-result c = ?
+mul-result c = omega (arith, start-small (c .before .before .args .second))
 
--- src/lib.rt:81:5
 shared-slice-read-result : tie.Need-shared-slice-read-result
-shared-slice-read-result c = ?
+shared-slice-read-result c = omega (arith, start-small (c .before .before .before .args .second))
 
--- src/lib.rt:77:1
 returns : tie.Need-returns
-returns c = ?
+returns c = rw (c .before .place .ensures) (sym (register-at (c .before .before .before .args .w .now) (c .before .before .before .args .second) (c .before .before .before .args .n) (c .before .before .before .pre .1)))
 
 pub register-spec : {M : Type 1} → statement M
 register-spec = tie.close (tie.spec place-requires mul-result shared-slice-read-result returns)

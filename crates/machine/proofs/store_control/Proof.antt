@@ -1,35 +1,30 @@
+-- `machine::store_control` meets its contract: a writable register keeps what it can hold, and any other stays. Assumes nothing.
+use mathlib.Core.Path.{sym, ap, _∙_}
+use Rattle.machine.specs.Machine.{withControl}
+use Rattle.machine.specs.Control.{registerAt}
+use Rattle.machine.proofs.Widths.{writable-small, stored-writable, stored-ignored}
 use borrow.Author.Needs.{needs}
 use Rattle.machine.proofs.store_control.Statement.{statement}
 use Rattle.machine.proofs.store_control.Tie as tie
-use Rattle.machine.proofs.store_control.Reads as reads
-use Rattle.machine.proofs.store_control.Lts as lts
-use Rattle.machine.proofs.kept.Reads as kept-reads
-use Rattle.machine.proofs.set_control.Reads as set-control-reads
-use Rattle.machine.proofs.writable.Reads as writable-reads
 
--- src/lib.rt:188:8
 writable-requires : tie.Need-writable-requires
 writable-requires c κs = search needs
 
--- src/lib.rt:189:32
 kept-requires : tie.Need-kept-requires
 kept-requires c κs = search needs
 
--- src/lib.rt:189:9
 set-control-requires : tie.Need-set-control-requires
-set-control-requires c κs = ?
+set-control-requires c κs = (search needs, writable-small (c .before .before .before .before .before .args .offset) (sym (c .before .before .before .writable .ensures) ∙ c .before .before .if1 .taken))
 
--- src/lib.rt:184:1
 same-length : tie.Need-same-length
 same-length c = search needs
 
--- src/lib.rt:184:1
 returns : tie.Need-returns
-returns c = ?
+returns c = rw (stored-writable _ _ _ (sym (c .before .before .before .before .before .before .writable .ensures) ∙ c .before .before .before .before .before .if1 .taken), ← (c .before .before .before .kept .ensures)) (c .before .before .set-control .ensures)
 
--- src/lib.rt:184:1
 returns-2 : tie.Need-returns-2
-returns-2 c = ?
+unfolding withControl
+returns-2 c = rw (stored-ignored _ _ _ (sym (c .before .writable .ensures) ∙ c .if1 .left))
 
 pub store-control-spec : {M : Type 1} → statement M
 store-control-spec =
