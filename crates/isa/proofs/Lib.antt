@@ -1,0 +1,2 @@
+-- Laws of the instruction set.
+pub mod Fields

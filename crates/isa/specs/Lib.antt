@@ -1,0 +1,7 @@
+-- The instruction set: operations, instruction words, conditions.
+pub mod Text
+pub mod Operation
+pub mod Condition
+pub mod Format
+pub mod Decode
+pub mod Computed
