@@ -1,2 +1,3 @@
 -- Laws of the instruction set.
 pub mod Fields
+pub mod Table

@@ -1,6 +1,7 @@
 -- An instruction word taken apart. Assumes nothing.
 use mathlib.Core.Bool.{Bool, _&&_}
 use mathlib.Core.List.{List, [], _∷_}
+use mathlib.Core.Option.{Option, none, some}
 use Prim.Native.Nat.{ℕ, _+_}
 use lib.Dec.{eqb}
 use lib.IntN.{ℤ, pos}
@@ -57,3 +58,10 @@ decode width word =
       sreg2 = o .sreg2;
       immediate = o .immediate;
     }
+
+-- ---- answers
+
+-- an exception's code as the answer of a function, 0 where there is none; code 00h is not among those asked
+unfoldable pub codeOf : Option ℕ → ℕ
+codeOf none = 0
+codeOf (some code) = code
