@@ -1,6 +1,6 @@
 -- The table of operations by number: a test computed for the 64 numbers is a law. Assumes nothing.
 use mathlib.Core.Path.{_≡_, refl, sym, ap, _∙_}
-use mathlib.Core.Logic.{_⊎_, inl, inr}
+use mathlib.Core.Logic.{_≢_}
 use mathlib.Core.Bool.{Bool, true, false}
 use mathlib.Core.List.{List, [], _∷_}
 use Prim.Native.Nat.{ℕ, zero, suc, _+_, _≤_, _<_}
@@ -30,6 +30,15 @@ module _ {A : Type 0} where
           let here : n ≡ first = omega arith in
           let same : f first ≡ g first = cc in
           cc
+
+-- n is none of the numbers below k: what a match of 0 to k - 1 leaves
+abbrev pub Rest : (k n : ℕ) → Type 0
+Rest zero n = Unit {0}
+Rest (suc k) n = Rest k n × (n ≢ k)
+
+pub past : (k n : ℕ) → Rest k n → k ≤ n
+past zero n r = omega arith
+past (suc k) n r = let l : k ≤ n = past k n (r .0) in let d : n ≢ k = r .1 in omega arith
 
 -- no operation has a number of 64 or more
 pub beyond : (n : ℕ) → 64 ≤ n → operationOf n ≡ unknown

@@ -5,7 +5,6 @@ ghost use lib.IntN.{pos};
 ghost use Rattle.word.specs.Word.{signedOf};
 ghost use Rattle.isa.specs.Operation.{operationOf, properties, Properties, w16, w32, widthBy, unavailable};
 ghost use Rattle.isa.specs.Condition.{conditionOf, holds};
-ghost use Rattle.isa.specs.Format.{fieldsOf, imm9};
 ghost use Rattle.isa.specs.Decode.{opcodeOf, operandsOf, decode, codeOf};
 
 // The operands of an instruction; one that it does not have is 0.
@@ -67,19 +66,6 @@ pub fn unavailability(op: u32, wide: bool, user: bool) -> u32
     }
 }
 
-// The k bits n read as signed.
-fn signed_field(n: u32, k: u32) -> i32
-    requires { ⌜ (0 < k) × (k ≤ 32) × (n < 2 ^ k) ⌝ }
-    ensures { λ r. ⌜ r ≡ signedOf k n ⌝ }
-{
-    let half: u32 = 1 << (k - 1);
-    if n < half {
-        n as i32
-    } else {
-        (n as i32) - (half as i32) - (half as i32)
-    }
-}
-
 // Operands that are registers.
 fn registers(dreg: u32, sreg1: u32, sreg2: u32) -> Operands
     ensures { λ r. ⌜ r ≡ record { dreg = dreg; sreg1 = sreg1; sreg2 = sreg2; immediate = pos 0 } ⌝ }
@@ -114,7 +100,7 @@ fn signed(dreg: u32, sreg1: u32, n: u32, k: u32) -> Operands
         dreg,
         sreg1,
         sreg2: 0,
-        immediate: signed_field(n, k),
+        immediate: word::signed_field(n, k),
     }
 }
 
@@ -279,7 +265,7 @@ pub fn decode(word: u32, wide: bool) -> Instruction
         let o = wide_operands(op, word);
         Instruction {
             opcode: op,
-            conditional: is_conditional(op) & (word / 0x0200_0000 % 2 == 1),
+            conditional: (word / 0x0200_0000 % 2 == 1) & is_conditional(op),
             creg: word / 0x0040_0000 % 8,
             condition: word / 0x0008_0000 % 8,
             dreg: o.dreg,

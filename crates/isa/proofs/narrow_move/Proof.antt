@@ -61,7 +61,7 @@ unfolding instructions values
 returns-5 c =
     let a = c .before .before .before .args in
     let l : 34 ≤ a .op = ⊎-elim (λ w. omega arith) (λ w. omega arith) (c .before .if1 .came) in
-    c .registers4 .ensures ∙ (simp (mul-one, add-zero, div-one)) ∙ grouped w16 Halfword 34 2 refl (a .op) (a .w) l (omega arith)
+    c .registers4 .ensures ∙ grouped w16 Halfword 34 2 refl (a .op) (a .w) l (omega arith)
 
 pub narrow-move-spec : {M : Type 1} → statement M
 narrow-move-spec =
