@@ -11,7 +11,7 @@ use lib.Seq.{drop-set-add, drop-set-lt, take-set-lt, take-set-le, getD-set-same,
 use borrow.Author.Tests.{leb-true}
 use Rattle.machine.specs.Machine.{Machine, withSet1, withSet2, withConditions, withControl, withPosition, setBy, withRegister}
 use Rattle.machine.specs.Control.{controlAt}
-use Rattle.machine.specs.Words.{SET1, SET2, CONDITIONS, CONTROL, POSITION, DEPTH, ENTRIES, WORDS, startBy, section, positionOf, entriesOf, machineOf}
+use Rattle.machine.specs.Words.{SET1, SET2, CONDITIONS, CONTROL, POSITION, DEPTH, ENTRIES, WORDS, startBy, section, positionOf, entryOf, entriesOf, machineOf}
 use Rattle.machine.specs.declared.Position.{Position}
 use Rattle.machine.specs.declared.Entry.{Entry}
 
@@ -130,3 +130,61 @@ unfolding machineOf withPosition positionOf
 position-filled w p h =
     let vs = p .pc ∷ p .slot ∷ p .target ∷ p .held ∷ p .high ∷ p .low ∷ [] in
     simp (fill-in w POSITION vs (omega arith), fill-apart w POSITION vs, stack-below w POSITION vs (omega arith))
+
+-- ---- entries of the stack
+
+length-entries : (n : ℕ) (l : List ℕ) → length (entriesOf n l) ≡ n
+unfolding entriesOf
+length-entries zero l = refl
+length-entries (suc n) l = ap suc (length-entries n (drop 4 l))
+
+-- n entries lie in the first 4 × n words
+entries-front : (n : ℕ) (l : List ℕ) → entriesOf n (take (4 * n) l) ≡ entriesOf n l
+unfolding entriesOf
+entries-front zero l = refl
+entries-front (suc n) l =
+    let e : 4 * suc n ≡ suc (suc (suc (suc (4 * n)))) = omega arith in
+    rw e (go l (entries-front n (drop 4 l)))
+  where
+    go : (l : List ℕ) → entriesOf n (take (4 * n) (drop 4 l)) ≡ entriesOf n (drop 4 l) → entriesOf (suc n) (take (suc (suc (suc (suc (4 * n))))) l) ≡ entriesOf (suc n) l
+    go [] h = refl
+    go (a ∷ []) h = refl
+    go (a ∷ b ∷ []) h = refl
+    go (a ∷ b ∷ c ∷ []) h = refl
+    go (a ∷ b ∷ c ∷ d ∷ l) h = ap (λ es. record { source = a; address = b; psr = c; c0 = d } ∷ es) h
+
+-- one more entry is the last
+entries-more : (n : ℕ) (l : List ℕ) → entriesOf (suc n) l ≡ entriesOf n l ++ (entryOf (drop (4 * n) l) ∷ [])
+unfolding entriesOf
+entries-more zero l = refl
+entries-more (suc n) l =
+    let e : 4 * suc n ≡ 4 + 4 * n = omega arith in
+    rw (e, ← drop-drop (4 * n) 4 l) (ap (λ es. entryOf l ∷ es) (entries-more n (drop 4 l)))
+
+entry-front : (l : List ℕ) → entryOf (take 4 l) ≡ entryOf l
+entry-front [] = refl
+entry-front (a ∷ []) = refl
+entry-front (a ∷ b ∷ []) = refl
+entry-front (a ∷ b ∷ c ∷ []) = refl
+entry-front (a ∷ b ∷ c ∷ d ∷ l) = refl
+
+-- ---- the stack: its count, and a section of entries
+
+-- the stack of n entries
+abbrev pub stackOf : (n : ℕ) (words : List ℕ) → List Entry
+stackOf n w = reverse (entriesOf n (drop ENTRIES w))
+
+-- its top is the last four words
+pub stack-top : (n : ℕ) (w : List ℕ) → stackOf (suc n) w ≡ entryOf (section (ENTRIES + 4 * n) 4 w) ∷ stackOf n w
+stack-top n w =
+    ap reverse (entries-more n (drop ENTRIES w))
+    ∙ reverse-append (entriesOf n (drop ENTRIES w)) (entryOf (drop (4 * n) (drop ENTRIES w)) ∷ [])
+    ∙ rw (drop-drop (4 * n) ENTRIES w) (ap (λ e. e ∷ stackOf n w) (sym (entry-front (drop (ENTRIES + 4 * n) w))))
+
+-- it depends on its entries' words alone
+stack-by : (n : ℕ) (w k : List ℕ) → section ENTRIES (4 * n) k ≡ section ENTRIES (4 * n) w → stackOf n k ≡ stackOf n w
+stack-by n w k e = ap reverse (sym (entries-front n (drop ENTRIES k)) ∙ ap (entriesOf n) e ∙ entries-front n (drop ENTRIES w))
+
+pub depth-is : (w : List ℕ) → length (machineOf w .stack) ≡ getD w DEPTH 0
+unfolding machineOf
+depth-is w = length-reverse (entriesOf (getD w DEPTH 0) (drop ENTRIES w)) ∙ length-entries (getD w DEPTH 0) (drop ENTRIES w)
