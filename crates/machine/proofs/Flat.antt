@@ -258,7 +258,12 @@ shown-stored w flags top =
     let c = set b (CONTROL + RETI-PSR) (top .psr) in
     rw (control-stored c (top .c0) RETI-CR0 (lit< tt), control-stored b (top .psr) RETI-PSR (lit< tt), control-stored a (top .address) RETI-ADDR (lit< tt), control-stored w flags INT-SERV (lit< tt))
 
--- a stack and what shows it
-pub shown-stack : (es : List Entry) (m : Machine) → withControl (showTop (serviceFlags es) (shownTop es) (m .control)) (withEntries es m) ≡ withStack es m
+pub service-flags : (w : List ℕ) → getD w (CONTROL + INT-SERV) 0 ≡ controlAt (machineOf w) INT-SERV
+unfolding machineOf
+service-flags w = sym (section-at w CONTROL 45 INT-SERV (lit< tt))
+
+-- a stack stored, and then shown
+pub stored-shown : (m k last : Machine) (es : List Entry) (flags : ℕ) (top : Entry) → k ≡ withEntries es m → flags ≡ serviceFlags es → top ≡ shownTop es
+    → last ≡ withControl (showTop flags top (k .control)) k → last ≡ withStack es m
 unfolding withControl withStack showStack
-shown-stack es m = refl
+stored-shown m k last es flags top a b c d = rw (d, a, b, c)
