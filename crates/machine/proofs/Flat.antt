@@ -6,6 +6,7 @@ use mathlib.Core.List.{List, [], _∷_, _++_, reverse, reverse-append, append-as
 use Prim.Native.Nat.{ℕ, zero, suc, _+_, _-_, _*_, _≤_, _<_}
 use native.Mathlib.Omega.{arith}
 use native.Mathlib.Nat.{add-zero}
+use native.Mathlib.Numerals.{add-one}
 use lib.Dec.{leb, lit<}
 use lib.ListN.{length, getD, set, take, drop, length-drop, length-set, length-reverse, List·getD-eq-default}
 use lib.Seq.{drop-set-add, drop-set-lt, take-set-lt, take-set-le, getD-set-same, getD-set-other, getD-take, getD-drop, drop-drop, length-take-le, sets, sets-eq, length-sets, take-at, drop-at}
@@ -225,21 +226,28 @@ fill-entries : (w : List ℕ) (i : ℕ) (vs : List ℕ) (es : List Entry) → EN
 unfolding machineOf
 fill-entries w i vs es h = simp (fill-high w i vs h)
 
--- the four words of an entry
-abbrev pub entryWords : Entry → List ℕ
-entryWords e = e .source ∷ e .address ∷ e .psr ∷ e .c0 ∷ []
+in-row : (w : List ℕ) (i a b c d : ℕ) → set (set (set (set w i a) (i + 1) b) (i + 2) c) (i + 3) d ≡ sets w i (a ∷ b ∷ c ∷ d ∷ [])
+in-row w i a b c d =
+    let p : i + 1 ≡ suc i = omega arith in
+    let q : i + 2 ≡ suc (suc i) = omega arith in
+    let r : i + 3 ≡ suc (suc (suc i)) = omega arith in
+    rw (p, q, r)
 
 -- four words past the last entry, and a count one above, push an entry
-pub pushed : (w : List ℕ) (n : ℕ) (e : Entry) → length w ≡ WORDS → n < 12 → getD w DEPTH 0 ≡ n
-    → machineOf (set (sets w (ENTRIES + 4 * n) (entryWords e)) DEPTH (suc n)) ≡ withEntries (e ∷ machineOf w .stack) (machineOf w)
-pushed w n e h l q =
-    let at = ENTRIES + 4 * n in
-    let k = sets w at (entryWords e) in
+pub pushed-to : (w : List ℕ) (n : ℕ) (e : Entry) → length w ≡ WORDS → n < 12 → getD w DEPTH 0 ≡ n
+    → let i = ENTRIES + 4 * n in
+      machineOf (set (set (set (set (set w i (e .source)) (i + 1) (e .address)) (i + 2) (e .psr)) (i + 3) (e .c0)) DEPTH (n + 1))
+      ≡ withEntries (e ∷ machineOf w .stack) (machineOf w)
+pushed-to w n e h l q =
+    let i = ENTRIES + 4 * n in
+    let vs = e .source ∷ e .address ∷ e .psr ∷ e .c0 ∷ [] in
+    let k = sets w i vs in
     let stack : stackOf (suc n) k ≡ e ∷ machineOf w .stack =
-        rw (stack-top n k, fill-in w at (entryWords e) (omega arith), stack-by n w k (fill-past w ENTRIES (4 * n) at (entryWords e) (omega arith)), stack-as w n q) in
-    depth-stored k (suc n) (length-sets w at (entryWords e) ∙ h)
+        rw (stack-top n k, fill-in w i vs (omega arith), stack-by n w k (fill-past w ENTRIES (4 * n) i vs (omega arith)), stack-as w n q) in
+    rw (in-row w i (e .source) (e .address) (e .psr) (e .c0), add-one n)
+    (depth-stored k (suc n) (length-sets w i vs ∙ h)
     ∙ ap (λ es. withEntries es (machineOf k)) stack
-    ∙ fill-entries w at (entryWords e) (e ∷ machineOf w .stack) (omega arith)
+    ∙ fill-entries w i vs (e ∷ machineOf w .stack) (omega arith))
 
 -- a count one below pops an entry
 pub popped-to : (w : List ℕ) (n : ℕ) → length w ≡ WORDS → getD w DEPTH 0 ≡ suc n → machineOf (set w DEPTH n) ≡ withEntries (popped (machineOf w .stack)) (machineOf w)

@@ -1,99 +1,107 @@
+-- `machine::push` meets its contract: the entry past the last, the count, and what shows them. Assumes nothing.
+use mathlib.Core.Path.{_≡_, refl, sym, ap, _∙_}
+use mathlib.Core.List.{_∷_}
+use Prim.Native.Nat.{_<_}
+use native.Mathlib.Omega.{arith}
+use lib.ListN.{length, getD, length-set}
+use Rattle.word.specs.Flags.{withFlag}
+use Rattle.machine.specs.Stack.{shownTop}
+use Rattle.machine.specs.Words.{machineOf}
+use Rattle.machine.proofs.Flat.{depth-is, service-flags, pushed-to, stored-shown}
+use Rattle.machine.proofs.Service.{depth-most, flags-pushed, top-below}
 use borrow.Author.Needs.{needs}
 use Rattle.machine.proofs.push.Statement.{statement}
 use Rattle.machine.proofs.push.Tie as tie
-use Rattle.machine.proofs.push.Reads as reads
-use Rattle.machine.proofs.push.Lts as lts
-use Rattle.machine.proofs.depth.Reads as depth-reads
-use Rattle.machine.proofs.show.Reads as show-reads
-use Rattle.word.proofs.with_flag.Reads as with-flag-reads
 
--- src/lib.rt:342:9
+-- the stack has room for one more
+room : (c : tie.After-with-flag) → c .before .before .depth .result < 12
+room c =
+    let s = c .before .before .before .before .before in
+    omega (arith, c .before .before .depth .ensures, depth-most (s .args .e ∷ machineOf (s .args .w .now) .stack) (s .pre .2))
+
 depth-requires : tie.Need-depth-requires
 depth-requires c κs = search needs
 
--- src/lib.rt:343:27
 slice-read-with-flag : tie.Need-slice-read-with-flag
 slice-read-with-flag c = search needs
 
--- src/lib.rt:343:9
 with-flag-requires : tie.Need-with-flag-requires
-with-flag-requires c κs = ?
+unfolding shownTop
+with-flag-requires c κs = let s = c .before .before .before .before in omega (arith, top-below (s .args .e ∷ machineOf (s .args .w .now) .stack) (s .pre .2) (omega arith))
 
--- src/lib.rt:344:28
 cast-at : tie.Need-cast-at
 cast-at c = search needs
 
--- src/lib.rt:344:24
 mul-at : tie.Need-mul-at
 mul-at c = search needs
 
--- src/lib.rt:344:14
 add-at : tie.Need-add-at
 add-at c = search needs
 
--- src/lib.rt:345:5
 mul-w : tie.Need-mul-w
 mul-w c = search needs
 
--- src/lib.rt:345:5
 slice-write-w : tie.Need-slice-write-w
-slice-write-w c = ?
+slice-write-w c = omega (arith, room c)
 
--- src/lib.rt:346:7
 add-w : tie.Need-add-w
 add-w c = search needs
 
--- src/lib.rt:346:5
 mul-w-2 : tie.Need-mul-w-2
 mul-w-2 c = search needs
 
--- src/lib.rt:346:5
 slice-write-w-2 : tie.Need-slice-write-w-2
-slice-write-w-2 c = ?
+slice-write-w-2 c = simp length-set (omega (arith, room c))
 
--- src/lib.rt:347:7
 add-w-2 : tie.Need-add-w-2
 add-w-2 c = search needs
 
--- src/lib.rt:347:5
 mul-w-3 : tie.Need-mul-w-3
 mul-w-3 c = search needs
 
--- src/lib.rt:347:5
 slice-write-w-3 : tie.Need-slice-write-w-3
-slice-write-w-3 c = ?
+slice-write-w-3 c = simp length-set (omega (arith, room c))
 
--- src/lib.rt:348:7
 add-w-3 : tie.Need-add-w-3
 add-w-3 c = search needs
 
--- src/lib.rt:348:5
 mul-w-4 : tie.Need-mul-w-4
 mul-w-4 c = search needs
 
--- src/lib.rt:348:5
 slice-write-w-4 : tie.Need-slice-write-w-4
-slice-write-w-4 c = ?
+slice-write-w-4 c = simp length-set (omega (arith, room c))
 
--- src/lib.rt:349:16
 add-w-4 : tie.Need-add-w-4
-add-w-4 c = ?
+add-w-4 c = omega (arith, room c)
 
--- src/lib.rt:349:5
 slice-write-w-5 : tie.Need-slice-write-w-5
-slice-write-w-5 c = ?
+slice-write-w-5 c = simp length-set (omega arith)
 
--- src/lib.rt:350:5
 show-requires : tie.Need-show-requires
 show-requires c κs = search needs
 
--- src/lib.rt:338:1
 same-length : tie.Need-same-length
-same-length c = ?
+same-length c = c .before .before .show .kept .0 ∙ simp length-set
 
--- src/lib.rt:338:1
 returns : tie.Need-returns
-returns c = ?
+unfolding shownTop
+returns c =
+    let s = c .before .before .before .before .before .before .before .before .before in
+    let w = s .args .w .now in
+    let n = c .before .before .before .before .before .before .depth in
+    let flags = c .before .before .before .before .with-flag in
+    let e = s .args .e in
+    stored-shown
+    (machineOf w)
+    _
+    _
+    (e ∷ machineOf w .stack)
+    (flags .result)
+    e
+    (pushed-to w (n .result) e (s .pre .0) (room (c .before .before .before .before)) (sym (depth-is w) ∙ sym (n .ensures)))
+    (flags .ensures ∙ ap (withFlag (e .source)) (service-flags w ∙ s .pre .1) ∙ flags-pushed e (machineOf w .stack))
+    refl
+    (c .before .before .show .ensures)
 
 pub push-spec : {M : Type 1} → statement M
 push-spec =
