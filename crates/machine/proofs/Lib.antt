@@ -1,3 +1,4 @@
 -- Laws of the machine.
 pub mod Flat
 pub mod Widths
+pub mod Service
