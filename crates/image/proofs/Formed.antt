@@ -1,25 +1,25 @@
 -- A well-formed machine, as facts. Assumes nothing.
-use mathlib.Core.Path.{_≡_, refl, sym, ap, _∙_}
-use mathlib.Core.Bool.{Bool, true, false, not, _&&_}
+use mathlib.Core.Path.{_≡_, refl, ap, _∙_}
+use mathlib.Core.Bool.{true, false, not, _&&_}
 use mathlib.Core.List.{List, [], _∷_}
 use Prim.Native.Nat.{ℕ, zero, suc, _+_, _%_, _^_, _≤_, _<_}
 use native.Mathlib.Omega.{arith}
-use native.Mathlib.Nat.{add-zero, add-suc}
+use native.Mathlib.Nat.{add-zero}
 use lib.ListN.{length, getD, set, length-set}
 use lib.Dec.{ltb, eqb, lit<}
 use borrow.Author.Tests.{ltb-true, lt-ltb, eqb-true, eq-eqb, not-true}
 use Rattle.word.specs.Flags.{isAmong, distinctBelow}
+use Rattle.word.proofs.Tests.{and-parts, and-both}
 use Rattle.codec.proofs.Laws.{Below}
 use Rattle.machine.specs.Machine.{Machine, psr, userMode}
 use Rattle.machine.specs.Control.{controlAt, registerAt, canHold, INT-SERV, RETI-ADDR, RETI-PSR, RETI-CR0}
 use Rattle.machine.specs.Stack.{sourcesOf, serviceFlags, shownTop}
 use Rattle.machine.specs.declared.Position.{Position}
 use Rattle.machine.specs.declared.Entry.{Entry}
-use Rattle.word.proofs.Tests.{and-parts, and-both}
 use Rattle.machine.proofs.Lists.{each-set}
 use Rattle.machine.proofs.Registers.{beyond-holds, holds-word}
 use Rattle.machine.proofs.Stack.{depth-most, flags-below}
-use Rattle.image.specs.Questions.{allHeld, entriesFit, positionTests, numberTests, question3, setsFit, modesFit, question4, stackTests, question5, formTests, wellFormed, all}
+use Rattle.image.specs.Questions.{allHeld, entriesFit, positionTests, numberTests, question3, setsFit, modesFit, question4, stackTests, question5, formTests, wellFormed}
 use Rattle.image.proofs.Tests.{implies-true, true-implies, Passed, no-more, _also_, all-passed, passed-all, below-true, true-below}
 
 -- ---- lists of numbers
@@ -205,34 +205,6 @@ pub record WellFormed (m : Machine) : Type 0 where
   pub position : Placed (m .position)
   pub stack : Stacked (m .stack)
 
-pub formed-3 : {m : Machine} → WellFormed m → question3 m ≡ true
-unfolding question3 numberTests
-formed-3 {m} w =
-    passed-all (
-    below-true _ _ (w .set1 .range) also
-    below-true _ _ (w .set2 .range) also
-    lt-ltb _ _ (w .status .small) also
-    below-true _ _ (w .conditions .range) also
-    registers-held (w .control) also
-    passed-all (placed-passed (w .position)) also
-    stacked-fit (w .stack) also
-    no-more)
-
-pub formed-4 : {m : Machine} → WellFormed m → question4 m ≡ true
-unfolding question4
-formed-4 w = and-both _ _ (status-sets (w .status)) (stacked-modes (w .stack))
-
-pub formed-5 : {m : Machine} → WellFormed m → question5 m ≡ true
-unfolding question5 stackTests
-formed-5 w =
-    passed-all (
-    stacked-distinct (w .stack) also
-    eq-eqb _ _ (w .served) also
-    eq-eqb _ _ (w .return-address) also
-    eq-eqb _ _ (w .return-status) also
-    eq-eqb _ _ (w .return-flags) also
-    no-more)
-
 -- the lists have their counts
 pub record Counts (m : Machine) : Type 0 where
   pub set1 : length (m .set1) ≡ 32
@@ -262,9 +234,38 @@ passed-formed m c (words1 also words2 also small also flags also hold also place
       stack = stacked (m .stack) fit (n .1) distinct;
     }
 
+-- the counts, and a yes to 3, 4 and 5
 pub questions-formed : (m : Machine) → Counts m → question3 m ≡ true → question4 m ≡ true → question5 m ≡ true → WellFormed m
 unfolding question3 question5
 questions-formed m c e₃ e₄ e₅ = passed-formed m c (all-passed (numberTests m) e₃) e₄ (all-passed (stackTests m) e₅)
+
+pub formed-3 : {m : Machine} → WellFormed m → question3 m ≡ true
+unfolding question3 numberTests
+formed-3 {m} w =
+    passed-all (
+    below-true _ _ (w .set1 .range) also
+    below-true _ _ (w .set2 .range) also
+    lt-ltb _ _ (w .status .small) also
+    below-true _ _ (w .conditions .range) also
+    registers-held (w .control) also
+    passed-all (placed-passed (w .position)) also
+    stacked-fit (w .stack) also
+    no-more)
+
+pub formed-4 : {m : Machine} → WellFormed m → question4 m ≡ true
+unfolding question4
+formed-4 w = and-both _ _ (status-sets (w .status)) (stacked-modes (w .stack))
+
+pub formed-5 : {m : Machine} → WellFormed m → question5 m ≡ true
+unfolding question5 stackTests
+formed-5 w =
+    passed-all (
+    stacked-distinct (w .stack) also
+    eq-eqb _ _ (w .served) also
+    eq-eqb _ _ (w .return-address) also
+    eq-eqb _ _ (w .return-status) also
+    eq-eqb _ _ (w .return-flags) also
+    no-more)
 
 -- ---- the definition says just these facts
 

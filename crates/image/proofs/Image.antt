@@ -1,14 +1,14 @@
 -- An image is read back as the machine that it was written from; an accepted one is written again as it was. Assumes nothing.
 use mathlib.Core.Path.{_≡_, refl, sym, ap, _∙_}
 use mathlib.Core.Bool.{Bool, true, false, not}
-use mathlib.Core.List.{List, [], _∷_, _++_, reverse, reverseAux}
-use Prim.Native.Nat.{ℕ, zero, suc, _+_, _*_, _%_, _^_, _≤_, _<_}
+use mathlib.Core.List.{List, [], _∷_, _++_, reverseAux}
+use Prim.Native.Nat.{ℕ, zero, suc, _+_, _*_, _^_, _≤_, _<_}
 use native.Mathlib.Omega.{arith}
-use lib.ListN.{length, getD, take}
+use lib.ListN.{length, getD}
 use lib.Seq.{take-all}
 use native.Mathlib.Nat.{lt-of-lt-of-le, lt-of-le-of-lt}
 use lib.Dec.{lit<, lit≤}
-use borrow.Author.Tests.{eqb-true, eq-eqb, leb-true, le-leb}
+use borrow.Author.Tests.{eqb-true, eq-eqb, le-leb}
 use Rattle.word.specs.Choice.{if_then_else_}
 use Rattle.codec.specs.Number.{numbersOf, bytesOf}
 use Rattle.codec.proofs.Laws.{Below, numbersOf-bytesOf, bytesOf-numbersOf, length-bytesOf, length-numbersOf, bytesOf-lt}
@@ -22,10 +22,11 @@ use Rattle.image.specs.Image.{positionNumbers, entryNumbers, imageNumber
 use Rattle.image.specs.Computed.{images}
 use Rattle.image.proofs.Tests.{Passed, no-more, _also_, all-passed, passed-all}
 use Rattle.image.proofs.Formed.{Placed, Stacked, empty, pushed, stacked-depth, Counts, WellFormed, registers-below, formed-counts, formed-3, formed-4, formed-5, questions-formed, true-formed}
-use Rattle.image.proofs.Sections.{Counted, counted-imageNumbers, depth-imageNumbers, machineOf-imageNumbers, length-imageNumbers, counts-machineOf, depth-machineOf, imageNumbers-machineOf}
+use Rattle.image.proofs.Sections.{Counted, counted-imageNumbers, depth-imageNumbers, machineOf-imageNumbers, length-imageNumbers, counts-machineOf, imageNumbers-machineOf}
 
 -- ---- the numbers of a well-formed machine have 32 bits
 
+-- each of a list is below 2 ^ 32
 infixr 40 _onto_
 data Words : List ℕ → Type 0 where
   none : Words []
@@ -59,12 +60,14 @@ imageNumbers-below {m} w =
     (lit< tt onto words-append (m .conditions) (λ i. lt-of-lt-of-le (w .conditions .range i) (lit≤ tt)) (lit< tt onto words-append (m .control) (registers-below (w .control))
     (lit< tt onto position-words (w .position) (lt-of-le-of-lt (stacked-depth (w .stack)) (lit< tt) onto entry-words [] (w .stack) none))))))
 
--- ---- its length
+-- ---- its length and its bytes
 
+-- 516 bytes, and 16 for each entry
 pub length-writeImage : {m : Machine} → Counts m → length (writeImage m) ≡ 516 + 16 * length (m .stack)
 unfolding writeImage
 length-writeImage {m} c = omega (arith, length-bytesOf (imageNumbers m), length-imageNumbers m c)
 
+-- at most 12 entries
 pub writeImage-longest : {m : Machine} → WellFormed m → length (writeImage m) ≤ 708
 writeImage-longest w = omega (arith, length-writeImage (formed-counts w), stacked-depth (w .stack))
 
@@ -97,13 +100,14 @@ askMachine-formed : {m : Machine} → WellFormed m → askMachine m ≡ Accepted
 unfolding askMachine if_then_else_
 askMachine-formed w = rw (formed-3 w, formed-4 w, formed-5 w)
 
+-- decode after encode
 pub readImage-writeImage : {m : Machine} → WellFormed m → readImage (writeImage m) ≡ Accepted m
 unfolding readImage if_then_else_
 readImage-writeImage {m} w = rw (writeImage-2 w, numbersOf-writeImage w, machineOf-imageNumbers m (formed-counts w)) (askMachine-formed w)
 
 -- ---- an accepted image is well formed, and is what its machine writes
 
--- questions that were not answered by a refusal
+-- what is accepted was not refused
 sections-yes : (b : Bool) (r : Read) (m : Machine) → if_then_else_ b r (Refused 2) ≡ Accepted m → (b ≡ true) × (r ≡ Accepted m)
 unfolding if_then_else_
 sections-yes true r m e = (refl, e)
@@ -139,6 +143,7 @@ sectioned image (exact also depth also set1 also set2 also conditions also contr
       words = omega (arith, length-numbersOf image, e);
     }
 
+-- an image read as a machine
 record Read-as (image : List ℕ) (m : Machine) : Type 0 where
   sections : Sectioned image
   machine : machineOf (numbersOf image) ≡ m
@@ -150,12 +155,13 @@ accepted image m e =
     let x = machineOf (numbersOf image) in
     let q = sections-yes (question2 image) (askMachine x) m e in
     let s = sectioned image (all-passed (sectionTests (length image) (numbersOf image)) (q .0)) in
-    let a = machine-asked x m (counts-machineOf (numbersOf image) (s .counted) (omega (arith, s .words))) (q .1) in
+    let a = machine-asked x m (counts-machineOf (numbersOf image) (omega (arith, s .words))) (q .1) in
     record { sections = s; machine = a .0; formed = rw (a .0) at (a .1) }
 
 pub accepted-formed : (image : List ℕ) (m : Machine) → readImage image ≡ Accepted m → WellFormed m
 accepted-formed image m e = accepted image m e .formed
 
+-- encode after decode
 pub writeImage-readImage : (image : List ℕ) (m : Machine) → Below 256 image → readImage image ≡ Accepted m → writeImage m ≡ image
 unfolding writeImage
 writeImage-readImage image m b e =

@@ -9,7 +9,6 @@ use lib.ListN.{length, getD, take, drop, length-append, length-reverse, length-d
 use lib.Seq.{take-at, drop-at, take-add, take-take, drop-drop, drop-cons, getD-drop, length-take-le}
 use Rattle.machine.specs.Machine.{Machine}
 use Rattle.machine.specs.Words.{SET1, SET2, CONDITIONS, CONTROL, POSITION, DEPTH, ENTRIES, section, positionOf, entriesOf, machineOf}
-use Rattle.machine.specs.declared.Position.{Position}
 use Rattle.machine.specs.declared.Entry.{Entry}
 use Rattle.image.specs.Image.{positionNumbers, entryNumbers, imageNumbers, countOf}
 use Rattle.image.proofs.Formed.{Counts}
@@ -129,6 +128,7 @@ module _ (m : Machine) (c : Counts m) where
   unfolding rest₆
   section₆ = next section₅
 
+  -- the counts stand at their places
   pub counted-imageNumbers : Counted (imageNumbers m)
   counted-imageNumbers =
       record {
@@ -142,6 +142,7 @@ module _ (m : Machine) (c : Counts m) where
   pub depth-imageNumbers : getD (imageNumbers m) DEPTH 0 ≡ length (m .stack)
   depth-imageNumbers = count-read (imageNumbers m) 128 section₆
 
+  -- the machine is read back
   pub machineOf-imageNumbers : machineOf (imageNumbers m) ≡ m
   unfolding machineOf positionOf positionNumbers
   machineOf-imageNumbers = λ i. record {
@@ -159,60 +160,59 @@ module _ (m : Machine) (c : Counts m) where
 
 -- ---- what was read is written back
 
+-- the stack has as many entries as its count says
+pub depth-machineOf : (ws : List ℕ) → length (machineOf ws .stack) ≡ getD ws DEPTH 0
+unfolding machineOf
+depth-machineOf ws =
+    length-reverse (entriesOf (getD ws DEPTH 0) (drop ENTRIES ws)) ∙ length-entriesOf (getD ws DEPTH 0) (drop ENTRIES ws)
+
+-- the lists have their counts where the words are enough
+pub counts-machineOf : (ws : List ℕ) → ENTRIES ≤ length ws → Counts (machineOf ws)
+unfolding machineOf
+counts-machineOf ws h =
+    record { set1 = count SET1 32 (omega arith); set2 = count SET2 32 (omega arith); conditions = count CONDITIONS 8 (omega arith); control = count CONTROL 45 (omega arith) }
+  where
+    count : (at n : ℕ) → at + n ≤ length ws → length (section at n ws) ≡ n
+    count at n k = length-take-le n (drop at ws) (rw length-drop (omega arith))
+
 append-imageNumbers : (m : Machine) (t : List ℕ)
     → imageNumbers m ++ t ≡ 32 ∷ m .set1 ++ (32 ∷ m .set2 ++ (8 ∷ m .conditions ++ (45 ∷ m .control ++ (6 ∷ positionNumbers (m .position) ++ (length (m .stack) ∷ entryNumbers (reverse (m .stack)) ++ t)))))
 unfolding imageNumbers
 append-imageNumbers m t = simp append-assoc
 
 -- from a place on: a count, a section, and what follows
-join : (ws : List ℕ) (at n : ℕ) (c : ℕ) {p t : List ℕ} → at < length ws → c ≡ getD ws at 0 → p ≡ section (suc at) n ws → t ≡ drop (suc at + n) ws → c ∷ p ++ t ≡ drop at ws
+join : (ws : List ℕ) (at n c : ℕ) {p t : List ℕ} → at < length ws → c ≡ getD ws at 0 → p ≡ section (suc at) n ws → t ≡ drop (suc at + n) ws
+    → c ∷ p ++ t ≡ drop at ws
 join ws at n c h e f g =
     rw (e, f, g, ← drop-drop n (suc at) ws, take-append-drop n (drop (suc at) ws)) (sym (drop-cons ws at 0 h))
 
 module _ (ws : List ℕ) (c : Counted ws) (long : 129 + 4 * getD ws DEPTH 0 ≤ length ws) where
-  position-back : positionNumbers (positionOf (section POSITION 6 ws)) ≡ section POSITION 6 ws
+  position-back : positionNumbers (machineOf ws .position) ≡ section POSITION 6 ws
+  unfolding machineOf
   position-back =
-      positionNumbers-positionOf (section POSITION 6 ws) (rw (length-take-le 6 (drop POSITION ws) (rw length-drop (omega arith))) (omega arith))
-      ∙ take-take 6 6 (drop POSITION ws) (omega arith)
+      let n : length (section POSITION 6 ws) ≡ 6 = length-take-le 6 (drop POSITION ws) (rw length-drop (omega arith)) in
+      positionNumbers-positionOf (section POSITION 6 ws) (omega arith) ∙ take-take 6 6 (drop POSITION ws) (omega arith)
 
-  entries-back : entryNumbers (reverse (reverse (entriesOf (getD ws DEPTH 0) (drop ENTRIES ws)))) ≡ section ENTRIES (4 * getD ws DEPTH 0) ws
+  entries-back : entryNumbers (reverse (machineOf ws .stack)) ≡ section ENTRIES (4 * getD ws DEPTH 0) ws
+  unfolding machineOf
   entries-back =
-      rw (reverse-reverse (entriesOf (getD ws DEPTH 0) (drop ENTRIES ws)))
-      (entryNumbers-entriesOf (getD ws DEPTH 0) (drop ENTRIES ws) (rw length-drop (omega arith)))
-
-  depth-back : length (reverse (entriesOf (getD ws DEPTH 0) (drop ENTRIES ws))) ≡ getD ws DEPTH 0
-  depth-back = length-reverse (entriesOf (getD ws DEPTH 0) (drop ENTRIES ws)) ∙ length-entriesOf (getD ws DEPTH 0) (drop ENTRIES ws)
+      ap entryNumbers (reverse-reverse (entriesOf (getD ws DEPTH 0) (drop ENTRIES ws)))
+      ∙ entryNumbers-entriesOf (getD ws DEPTH 0) (drop ENTRIES ws) (rw length-drop (omega arith))
 
   -- with the words past the last entry
-  whole : imageNumbers (machineOf ws) ++ drop (129 + 4 * getD ws DEPTH 0) ws ≡ ws
+  all-words : imageNumbers (machineOf ws) ++ drop (129 + 4 * getD ws DEPTH 0) ws ≡ ws
   unfolding machineOf
-  whole =
+  all-words =
       append-imageNumbers (machineOf ws) (drop (129 + 4 * getD ws DEPTH 0) ws)
       ∙ join ws 0 32 32 (omega arith) (sym (c .set1)) refl
       (join ws 33 32 32 (omega arith) (sym (c .set2)) refl
       (join ws 66 8 8 (omega arith) (sym (c .conditions)) refl
       (join ws 75 45 45 (omega arith) (sym (c .control)) refl
       (join ws 121 6 6 (omega arith) (sym (c .position)) position-back
-      (join ws 128 (4 * getD ws DEPTH 0) _ (omega arith) depth-back entries-back refl)))))
+      (join ws 128 (4 * getD ws DEPTH 0) _ (omega arith) (depth-machineOf ws) entries-back refl)))))
 
-  pub depth-machineOf : length (machineOf ws .stack) ≡ getD ws DEPTH 0
-  unfolding machineOf
-  depth-machineOf = depth-back
-
-  pub counts-machineOf : Counts (machineOf ws)
-  unfolding machineOf
-  counts-machineOf =
-      record {
-        set1 = counts 1 32 (omega arith);
-        set2 = counts 34 32 (omega arith);
-        conditions = counts 67 8 (omega arith);
-        control = counts 76 45 (omega arith);
-      }
-    where
-      counts : (at n : ℕ) → at + n ≤ length ws → length (section at n ws) ≡ n
-      counts at n h = length-take-le n (drop at ws) (rw length-drop (omega arith))
-
+  -- the words up to the last entry
   pub imageNumbers-machineOf : imageNumbers (machineOf ws) ≡ take (129 + 4 * getD ws DEPTH 0) ws
   imageNumbers-machineOf =
-      let n : length (imageNumbers (machineOf ws)) ≡ 129 + 4 * getD ws DEPTH 0 = length-imageNumbers (machineOf ws) counts-machineOf ∙ rw depth-machineOf in
-      sym (ap (take (129 + 4 * getD ws DEPTH 0)) (sym whole) ∙ take-at (imageNumbers (machineOf ws)) (drop (129 + 4 * getD ws DEPTH 0) ws) (129 + 4 * getD ws DEPTH 0) n)
+      let n : length (imageNumbers (machineOf ws)) ≡ 129 + 4 * getD ws DEPTH 0 = length-imageNumbers (machineOf ws) (counts-machineOf ws (omega arith)) ∙ rw (depth-machineOf ws) in
+      sym (take-at (imageNumbers (machineOf ws)) (drop (129 + 4 * getD ws DEPTH 0) ws) (129 + 4 * getD ws DEPTH 0) n) ∙ ap (take (129 + 4 * getD ws DEPTH 0)) all-words

@@ -2,12 +2,12 @@
 use mathlib.Core.Path.{_≡_, refl, sym, ap, _∙_}
 use mathlib.Core.Bool.{Bool, true, false, true≢false, _&&_}
 use mathlib.Core.List.{List, [], _∷_}
-use Prim.Native.Nat.{ℕ, zero, suc, _/_, _*_, _%_, _^_, _≤_, _<_}
+use Prim.Native.Nat.{ℕ, zero, suc, _/_, _%_, _^_, _≤_, _<_}
 use native.Mathlib.Omega.{arith}
 use native.Mathlib.Nat.{mod-lt, div-mul-le-self, mul-mod-left, mod-one, lt-of-le-of-lt}
 use lib.ListN.{length, getD, List·getD-eq-default}
 use lib.Pow.{pow-pos, pow-mono}
-use lib.Dec.{leb, ltb, eqb}
+use lib.Dec.{leb, ltb}
 use borrow.Author.Tests.{leb-true, ltb-true, lt-ltb, eq-eqb}
 use Rattle.machine.specs.Control.{Access, writable, readOnly, constant, Register, registers, registerAt, holdsAs, canHold, keptBy, isWritable}
 use Rattle.word.proofs.Tests.{and-parts, and-both}
@@ -31,6 +31,11 @@ writable-holds writable reset x w = refl
 writable-holds readOnly reset x w = refl
 writable-holds constant reset x w = absurd (true≢false (sym w))
 
+-- a store leaves the bits 0 that are stored 0
+pub kept-zeros : (r : Register) (x : ℕ) → keptBy r x % 2 ^ r .zeros ≡ 0
+unfolding keptBy
+kept-zeros r x = mul-mod-left (x % 2 ^ r .width / 2 ^ r .zeros) (2 ^ r .zeros)
+
 -- a store leaves what has the register's width
 pub kept-small : (r : Register) (x : ℕ) → keptBy r x < 2 ^ r .width
 unfolding keptBy
@@ -38,10 +43,9 @@ kept-small r x = lt-of-le-of-lt (div-mul-le-self (x % 2 ^ r .width) (2 ^ r .zero
 
 -- a store leaves what the register can hold
 pub kept-holds : (r : Register) (x : ℕ) → isWritable (r .access) ≡ true → canHold r (keptBy r x) ≡ true
-unfolding canHold keptBy
+unfolding canHold
 kept-holds r x w =
-    and-both _ _ (lt-ltb _ (2 ^ r .width) (kept-small r x))
-    (and-both _ _ (eq-eqb _ 0 (mul-mod-left (x % 2 ^ r .width / 2 ^ r .zeros) (2 ^ r .zeros))) (writable-holds (r .access) (r .reset) _ w))
+    and-both _ _ (lt-ltb _ (2 ^ r .width) (kept-small r x)) (and-both _ _ (eq-eqb _ 0 (kept-zeros r x)) (writable-holds (r .access) (r .reset) _ w))
 
 -- ---- the table
 
