@@ -6,10 +6,11 @@ use native.Mathlib.Omega.{arith}
 use native.Mathlib.Nat.{add-zero}
 use native.Mathlib.Numerals.{add-one}
 use lib.ListN.{length, getD, take, drop, length-append, length-reverse, length-drop, take-append-drop}
-use lib.Seq.{take-at, drop-at, take-add, take-take, drop-drop, drop-cons, getD-drop, length-take-le}
+use lib.Seq.{take-at, drop-at, take-add, take-take, drop-drop, drop-cons, getD-drop}
 use Rattle.machine.specs.Machine.{Machine}
 use Rattle.machine.specs.Words.{SET1, SET2, CONDITIONS, CONTROL, POSITION, DEPTH, ENTRIES, section, positionOf, entriesOf, machineOf}
 use Rattle.machine.specs.declared.Entry.{Entry}
+use Rattle.machine.proofs.Flat.{section-length}
 use Rattle.image.specs.Image.{positionNumbers, entryNumbers, imageNumbers, countOf}
 use Rattle.image.proofs.Formed.{Counts}
 
@@ -170,10 +171,12 @@ depth-machineOf ws =
 pub counts-machineOf : (ws : List ℕ) → ENTRIES ≤ length ws → Counts (machineOf ws)
 unfolding machineOf
 counts-machineOf ws h =
-    record { set1 = count SET1 32 (omega arith); set2 = count SET2 32 (omega arith); conditions = count CONDITIONS 8 (omega arith); control = count CONTROL 45 (omega arith) }
-  where
-    count : (at n : ℕ) → at + n ≤ length ws → length (section at n ws) ≡ n
-    count at n k = length-take-le n (drop at ws) (rw length-drop (omega arith))
+    record {
+      set1 = section-length ws SET1 32 (omega arith);
+      set2 = section-length ws SET2 32 (omega arith);
+      conditions = section-length ws CONDITIONS 8 (omega arith);
+      control = section-length ws CONTROL 45 (omega arith);
+    }
 
 append-imageNumbers : (m : Machine) (t : List ℕ)
     → imageNumbers m ++ t ≡ 32 ∷ m .set1 ++ (32 ∷ m .set2 ++ (8 ∷ m .conditions ++ (45 ∷ m .control ++ (6 ∷ positionNumbers (m .position) ++ (length (m .stack) ∷ entryNumbers (reverse (m .stack)) ++ t)))))
@@ -190,7 +193,7 @@ module _ (ws : List ℕ) (c : Counted ws) (long : 129 + 4 * getD ws DEPTH 0 ≤ 
   position-back : positionNumbers (machineOf ws .position) ≡ section POSITION 6 ws
   unfolding machineOf
   position-back =
-      let n : length (section POSITION 6 ws) ≡ 6 = length-take-le 6 (drop POSITION ws) (rw length-drop (omega arith)) in
+      let n : length (section POSITION 6 ws) ≡ 6 = section-length ws POSITION 6 (omega arith) in
       positionNumbers-positionOf (section POSITION 6 ws) (omega arith) ∙ take-take 6 6 (drop POSITION ws) (omega arith)
 
   entries-back : entryNumbers (reverse (machineOf ws .stack)) ≡ section ENTRIES (4 * getD ws DEPTH 0) ws
