@@ -1,1 +1,4 @@
+-- Laws of one step.
 pub mod Worked
+pub mod Safe
+pub mod Addresses
