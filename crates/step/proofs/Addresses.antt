@@ -1,34 +1,26 @@
 -- What a data address names: a cell that is there, or a register of the control block; in user mode neither is protected. Assumes nothing.
-use mathlib.Core.Path.{_≡_, refl, sym, ap, _∙_}
-use mathlib.Core.Bool.{Bool, true, false, not, _&&_}
+use mathlib.Core.Path.{_≡_, sym, ap, _∙_}
+use mathlib.Core.Bool.{Bool, true, false, true≢false, not, _&&_}
 use mathlib.Core.List.{List}
 use Prim.Native.Nat.{ℕ, _+_, _-_, _^_, _≤_, _<_}
 use native.Mathlib.Omega.{arith}
-use native.Mathlib.Nat.{mod-lt}
-use lib.Dec.{leb, ltb, lit<}
-use lib.IntN.{ℤ, pos, negsuc}
+use lib.Dec.{leb, ltb}
+use lib.IntN.{ℤ}
 use lib.ListN.{length}
 use borrow.Author.Tests.{leb-true, ltb-true}
-use Rattle.word.specs.Word.{modZ, wordOf, isAddress}
+use Rattle.word.specs.Word.{wordOf, isAddress}
+use Rattle.word.proofs.Tests.{and-parts}
+use Rattle.word.proofs.Bounds.{word-below}
 use Rattle.machine.specs.Machine.{State, psr, userMode}
 use Rattle.machine.specs.Control.{controlAt, within, CCB-BASE, DMEM-BOUND-LO, DMEM-BOUND-HI}
-use Rattle.step.specs.View.{inBlock, placeAt, View, view}
+use Rattle.step.specs.View.{inBlock, placeAt, view}
 use Rattle.step.specs.declared.Place.{Place}
 use Rattle.step.specs.declared.Place.the-variants.{Block, Cell, Refused, Missing}
 use Rattle.step.proofs.Safe.{Reached, if-holds}
 
-word-small : (z : ℤ) → wordOf 32 z < 2 ^ 32
-unfolding modZ
-word-small (pos n) = mod-lt n (lit< tt)
-word-small (negsuc n) = omega arith
-
-and-parts : (a b : Bool) → a && b ≡ true → (a ≡ true) × (b ≡ true)
-and-parts true b e = (refl, e)
-and-parts false b e = absurd (let z : _≡_ {A = ℕ} 0 1 = cc in omega arith)
-
 open-in : (user b : Bool) → user && b ≡ false → user ≡ true → b ≡ false
 open-in true b e u = e
-open-in false b e u = absurd (let z : _≡_ {A = ℕ} 0 1 = cc in omega arith)
+open-in false b e u = absurd (true≢false (sym u))
 
 pub record IsCell (user : Bool) (low high base count a : ℕ) : Type 0 where
   pub there : a < count
@@ -64,9 +56,9 @@ module _ (user : Bool) (low high base count : ℕ) where
       let a = wordOf 32 z in
       if-holds Meant (not (isAddress z)) (λ _. tt) (λ _.
       if-holds Meant (user && within low high a) (λ _. tt) (λ p.
-      if-holds Meant (inBlock base a) (block-meant a (word-small z) (open-in user (within low high a) p)) (λ o.
+      if-holds Meant (inBlock base a) (block-meant a (word-below 32 z) (open-in user (within low high a) p)) (λ o.
       if-holds Meant (ltb a count)
-      (λ t. record { there = ltb-true a count t; address = word-small z; outside = o; unprotected = open-in user (within low high a) p })
+      (λ t. record { there = ltb-true a count t; address = word-below 32 z; outside = o; unprotected = open-in user (within low high a) p })
       (λ _. tt))))
 
   pub place-cell : (z : ℤ) (a : ℕ) → placeAt user low high base count z ≡ Cell a → IsCell user low high base count a
