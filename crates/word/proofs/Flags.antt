@@ -195,13 +195,13 @@ flags-at n (m ∷ ms) = go (eqb m n) refl (flags-at n ms)
     go false e h = with-other m (flagsAt ms) n (λ q. eqb-false m n e (sym q)) ∙ h
 
 -- a list's first, put on and taken off
-pub flags-at-push : (n : ℕ) (ns : List ℕ) → flagsAt (n ∷ ns) ≡ withFlag n (flagsAt ns)
+pub flags-push : (n : ℕ) (ns : List ℕ) → flagsAt (n ∷ ns) ≡ withFlag n (flagsAt ns)
 unfolding flagsAt
-flags-at-push n ns = refl
+flags-push n ns = refl
 
-pub flags-at-pop : (n : ℕ) (ns : List ℕ) → isAmong n ns ≡ false → withoutFlag n (flagsAt (n ∷ ns)) ≡ flagsAt ns
+pub flags-pop : (n : ℕ) (ns : List ℕ) → isAmong n ns ≡ false → withoutFlag n (flagsAt (n ∷ ns)) ≡ flagsAt ns
 unfolding flagsAt
-flags-at-pop n ns e = without-with n (flagsAt ns) (flags-at n ns ∙ e)
+flags-pop n ns e = without-with n (flagsAt ns) (flags-at n ns ∙ e)
 
 -- ---- distinct places
 
@@ -228,34 +228,34 @@ module _ (k n : ℕ) (ns : List ℕ) where
 
 module _ (k : ℕ) where
   -- as many ones as places
-  pub flags-at-ones : (ns : List ℕ) → distinctBelow k ns ≡ true → onesOf k (flagsAt ns) ≡ length ns
+  pub ones-flags : (ns : List ℕ) → distinctBelow k ns ≡ true → onesOf k (flagsAt ns) ≡ length ns
   unfolding flagsAt
-  flags-at-ones [] e = ones-zero k
-  flags-at-ones (n ∷ ns) e =
+  ones-flags [] e = ones-zero k
+  ones-flags (n ∷ ns) e =
       let d = distinct-first k n ns e in
-      ones-with n (flagsAt ns) k (d .below) (flags-at n ns ∙ d .new) ∙ ap suc (flags-at-ones ns (d .rest))
+      ones-with n (flagsAt ns) k (d .below) (flags-at n ns ∙ d .new) ∙ ap suc (ones-flags ns (d .rest))
 
-  pub flags-at-below : (ns : List ℕ) → distinctBelow k ns ≡ true → flagsAt ns < 2 ^ k
+  pub flags-below-all : (ns : List ℕ) → distinctBelow k ns ≡ true → flagsAt ns < 2 ^ k
   unfolding flagsAt
-  flags-at-below [] e = pow-pos k
-  flags-at-below (n ∷ ns) e =
+  flags-below-all [] e = pow-pos k
+  flags-below-all (n ∷ ns) e =
       let d = distinct-first k n ns e in
-      with-below n (flagsAt ns) k (d .below) (flags-at-below ns (d .rest))
+      with-below n (flagsAt ns) k (d .below) (flags-below-all ns (d .rest))
 
-  pub distinct-length : (ns : List ℕ) → distinctBelow k ns ≡ true → length ns ≤ k
-  distinct-length ns e = omega (arith, flags-at-ones ns e, ones-most k (flagsAt ns))
+  pub length-most : (ns : List ℕ) → distinctBelow k ns ≡ true → length ns ≤ k
+  length-most ns e = omega (arith, ones-flags ns e, ones-most k (flagsAt ns))
 
   -- distinct places, each of them a flag of x, and as many as x has ones: they are x's flags
-  pub flags-at-counted : (ns : List ℕ) (x : ℕ) → x < 2 ^ k → distinctBelow k ns ≡ true → ((n : ℕ) → isAmong n ns ≡ true → bitAt n x ≡ true)
+  pub flags-counted : (ns : List ℕ) (x : ℕ) → x < 2 ^ k → distinctBelow k ns ≡ true → ((n : ℕ) → isAmong n ns ≡ true → bitAt n x ≡ true)
       → onesOf k x ≡ length ns → flagsAt ns ≡ x
   unfolding flagsAt isAmong
-  flags-at-counted [] x b e f q = sym (ones-none k x b q)
-  flags-at-counted (n ∷ ns) x b e f q =
+  flags-counted [] x b e f q = sym (ones-none k x b q)
+  flags-counted (n ∷ ns) x b e f q =
       let d = distinct-first k n ns e in
       let h : bitAt n x ≡ true = f n (rw (eq-eqb n n refl)) in
       let o : onesOf k x ≡ suc (onesOf k (withoutFlag n x)) = ones-without n x k (d .below) h in
       let r : onesOf k (withoutFlag n x) ≡ length ns = omega arith in
-      ap (withFlag n) (flags-at-counted ns (withoutFlag n x) (without-below n x k b) (d .rest) (kept (d .new)) r) ∙ with-without n x h
+      ap (withFlag n) (flags-counted ns (withoutFlag n x) (without-below n x k b) (d .rest) (kept (d .new)) r) ∙ with-without n x h
     where
       kept : isAmong n ns ≡ false → (j : ℕ) → isAmong j ns ≡ true → bitAt j (withoutFlag n x) ≡ true
       kept w j a = without-other n x j (λ s. apart (ap (λ (m : ℕ). isAmong m ns) (sym s) ∙ a) w) ∙ f j (rw a (or-true (eqb n j)))
