@@ -34,7 +34,9 @@ slice-read-without-flag : tie.Need-slice-read-without-flag
 slice-read-without-flag c = search needs
 
 without-flag-requires : tie.Need-without-flag-requires
-without-flag-requires c κs = let s = c .before .before .before .before .before .before in rw (c .before .top .ensures) (omega (arith, top-below (machineOf (s .args .w .now) .stack) (s .pre .1 .1 .0) (s .pre .1 .1 .1)))
+without-flag-requires c κs =
+    let s = c .before .before .before .before .before .before in
+    rw (c .before .top .ensures) (omega (arith, top-below (machineOf (s .args .w .now) .stack) (s .pre .1 .1 .0) (s .pre .1 .1 .1)))
 
 sub-w : tie.Need-sub-w
 sub-w c = search needs

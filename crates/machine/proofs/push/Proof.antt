@@ -27,7 +27,9 @@ slice-read-with-flag c = search needs
 
 with-flag-requires : tie.Need-with-flag-requires
 unfolding shownTop
-with-flag-requires c κs = let s = c .before .before .before .before in omega (arith, top-below (s .args .e ∷ machineOf (s .args .w .now) .stack) (s .pre .1 .1) (omega arith))
+with-flag-requires c κs =
+    let s = c .before .before .before .before in
+    omega (arith, top-below (s .args .e ∷ machineOf (s .args .w .now) .stack) (s .pre .1 .1) (omega arith))
 
 cast-at : tie.Need-cast-at
 cast-at c = search needs
