@@ -8,7 +8,7 @@ use native.Mathlib.Omega.{arith}
 use native.Mathlib.Nat.{add-zero}
 use native.Mathlib.Numerals.{add-one}
 use lib.Dec.{leb, lit<}
-use lib.ListN.{length, getD, set, take, drop, length-drop, length-set, length-reverse, List·getD-eq-default}
+use lib.ListN.{length, getD, set, take, drop, length-drop, length-reverse, List·getD-eq-default}
 use lib.Seq.{drop-set-add, drop-set-lt, take-set-lt, take-set-le, getD-set-same, getD-set-other, getD-take, getD-drop, drop-drop, length-take-le, sets, sets-eq, length-sets, take-at, drop-at}
 use borrow.Author.Tests.{leb-true}
 use Rattle.machine.specs.Machine.{Machine, withSet1, withSet2, withConditions, withControl, withPosition, setBy, withRegister}

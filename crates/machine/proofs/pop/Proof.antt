@@ -1,8 +1,8 @@
 -- `machine::pop` meets its contract: the count, and what shows the rest. Assumes nothing.
-use mathlib.Core.Path.{_≡_, sym, ap, _∙_}
+use mathlib.Core.Path.{_≡_, ap, _∙_}
 use Prim.Native.Nat.{suc, _-_}
 use native.Mathlib.Omega.{arith}
-use lib.ListN.{length, getD, set, length-set}
+use lib.ListN.{getD, set, length-set}
 use Rattle.word.specs.Flags.{withoutFlag}
 use Rattle.machine.specs.Machine.{Machine}
 use Rattle.machine.specs.Stack.{popped, serviceFlags, shownTop}

@@ -1,9 +1,9 @@
 -- `machine::push` meets its contract: the entry past the last, the count, and what shows them. Assumes nothing.
-use mathlib.Core.Path.{_≡_, refl, sym, ap, _∙_}
+use mathlib.Core.Path.{refl, sym, ap, _∙_}
 use mathlib.Core.List.{_∷_}
 use Prim.Native.Nat.{_<_}
 use native.Mathlib.Omega.{arith}
-use lib.ListN.{length, getD, length-set}
+use lib.ListN.{length-set}
 use Rattle.word.specs.Flags.{withFlag}
 use Rattle.machine.specs.Stack.{shownTop}
 use Rattle.machine.specs.Words.{machineOf}
