@@ -3,3 +3,6 @@ pub mod User
 pub mod States
 pub mod Views
 pub mod Unwinding
+pub mod Loop
+pub mod Closed
+pub mod Isolation
