@@ -2,37 +2,75 @@
 use mathlib.Core.Path.{_≡_, refl, sym, ap, _∙_}
 use mathlib.Core.Bool.{Bool, true, false, not, _&&_}
 use mathlib.Core.List.{List, [], _∷_, _++_}
-use Prim.Native.Nat.{ℕ, zero, suc}
+use Prim.Native.Nat.{ℕ, zero, suc, _≤_, suc-le-suc}
 use native.Mathlib.Omega.{arith}
+use native.Mathlib.Nat.{le-of-suc-le-suc}
+use lib.Dec.{leb, lit<}
+use borrow.Author.Tests.{leb-true, le-leb}
 use lib.ListN.{length, getD}
 use Rattle.word.specs.Choice.{if_then_else_}
+use Rattle.word.proofs.Tests.{and-parts}
 use Rattle.machine.specs.Machine.{Machine, State}
 use Rattle.image.specs.Image.{Read, Refused, Accepted, readImage, writeImage}
+use Rattle.image.proofs.Tests.{below-true, true-below}
 use Rattle.image.proofs.Formed.{WellFormed}
 use Rattle.image.proofs.Image.{readImage-writeImage, accepted-formed}
 use Rattle.apply.specs.Apply.{Transition}
 use Rattle.step.specs.Step.{isStop, step}
 use Rattle.step.proofs.Formed.{step-formed}
 use Rattle.emulator.specs.Run.{Call, run, End, endOf, endFrom, Asked, No, Start, askCall, ask, stateOf, Outcome, Called, calledBy, called, transitions}
-use Rattle.emulator.specs.Closure.{final, Steps, Left, Closure, Continuity}
+use Rattle.emulator.specs.Closure.{final, Steps, Left, Closure, Continuity, AllYes, Questions}
 use Rattle.emulator.proofs.Loop.{Runs, limit-reached, stopped, went-on, runs-by}
 
--- ---- a call that starts, starts at the machine that its image says
+-- ---- the questions
 
-not-refused : (b : Bool) (n : ℕ) (x : Asked) (m : Machine) → if_then_else_ b (No n) x ≡ Start m → (b ≡ false) × (x ≡ Start m)
+not-refused : (b : Bool) (n : ℕ) (x : Asked) (m : Machine) → if_then_else_ (not b) (No n) x ≡ Start m → (b ≡ true) × (x ≡ Start m)
 unfolding if_then_else_
-not-refused true n x m e = absurd (let z : _≡_ {A = ℕ} 0 1 = cc in omega arith)
-not-refused false n x m e = (refl, e)
+not-refused true n x m e = (refl, e)
+not-refused false n x m e = absurd (let z : _≡_ {A = ℕ} 0 1 = cc in omega arith)
 
-started : (c : Call) (r : Read) (m : Machine) → askCall c r ≡ Start m → r ≡ Accepted m
+-- 6 to 8, of an image that is accepted
+call-yes : (p image cells : List ℕ) (c : Call) (m : Machine) → length p ≤ 65536 → length cells ≤ 65536
+    → (r : Read) → readImage image ≡ r → askCall c r ≡ Start m → AllYes p image cells c m
 unfolding askCall
-started c (Refused n) m e = absurd (let z : _≡_ {A = ℕ} 0 1 = cc in omega arith)
-started c (Accepted x) m e =
-    let z : Start x ≡ Start m = not-refused _ 8 _ m (not-refused _ 7 _ m (not-refused _ 6 _ m e .1) .1) .1 in cc
+call-yes p image cells c m a b (Refused n) r e = absurd (let z : _≡_ {A = ℕ} 0 1 = cc in omega arith)
+call-yes p image cells c m a b (Accepted x) r e =
+    let q₆ = not-refused _ 6 _ m e in
+    let q₇ = not-refused _ 7 _ m (q₆ .1) in
+    let q₈ = not-refused _ 8 _ m (q₇ .1) in
+    let z : Start x ≡ Start m = q₈ .1 in
+    let same : x ≡ m = cc in
+    record {
+      programSize = a;
+      dataSize = b;
+      read = r ∙ ap Accepted same;
+      requests = λ i. le-of-suc-le-suc (true-below 0x1000 (c .requests) (lit< tt) (q₆ .0) i);
+      limit = leb-true (c .limit) 1000000 (q₇ .0);
+      room = leb-true 708 (length (c .buffer)) (q₈ .0);
+    }
 
-pub asked-start : (p image cells : List ℕ) (c : Call) (m : Machine) → ask p image cells c ≡ Start m → readImage image ≡ Accepted m
+pub asked-yes : (p image cells : List ℕ) (c : Call) (m : Machine) → ask p image cells c ≡ Start m → AllYes p image cells c m
 unfolding ask
-asked-start p image cells c m e = started c (readImage image) m (not-refused _ 1 _ m e .1)
+asked-yes p image cells c m e =
+    let q₁ = not-refused (leb (length p) 65536 && leb (length cells) 65536) 1 _ m e in
+    let h = and-parts (leb (length p) 65536) (leb (length cells) 65536) (q₁ .0) in
+    call-yes p image cells c m (leb-true (length p) 65536 (h .0)) (leb-true (length cells) 65536 (h .1)) (readImage image) refl (q₁ .1)
+
+yes-asked : (p image cells : List ℕ) (c : Call) (m : Machine) → AllYes p image cells c m → ask p image cells c ≡ Start m
+unfolding ask askCall if_then_else_
+yes-asked p image cells c m y =
+    rw (
+      le-leb (length p) 65536 (y .programSize),
+      le-leb (length cells) 65536 (y .dataSize),
+      y .read,
+      below-true 0x1000 (c .requests) (λ i. suc-le-suc (y .requests i)),
+      le-leb (c .limit) 1000000 (y .limit),
+      le-leb 708 (length (c .buffer)) (y .room),
+    )
+
+pub questions : Questions
+unfolding Questions
+questions p image cells c m = (asked-yes p image cells c m, yes-asked p image cells c m)
 
 -- ---- transitions that are steps
 
@@ -62,7 +100,7 @@ module _ (p requests : List ℕ) where
   runs-final (went-on h r) = runs-final r
 
 -- what a call that runs leaves is well formed
-end-formed : (p requests : List ℕ) (n : ℕ) (s : State) → WellFormed (s .machine) → WellFormed (endFrom p requests n 0 s .after .machine)
+pub end-formed : (p requests : List ℕ) (n : ℕ) (s : State) → WellFormed (s .machine) → WellFormed (endFrom p requests n 0 s .after .machine)
 end-formed p requests n s f =
     let r = runs-by p requests n 0 s in
     rw (runs-final p requests r) (steps-formed p s (run p requests n 0 s) (runs-steps p requests r) f)
@@ -76,12 +114,12 @@ left-by : (p image cells : List ℕ) (c : Call) (m : Machine) → readImage imag
 unfolding calledBy final Steps
 left-by p image cells c m e (No n) q = (e, refl, tt)
 left-by p image cells c m e (Start x) q =
-    let g : m ≡ x = cc (asked-start p image cells c x q, e) in
+    let g : m ≡ x = cc (asked-yes p image cells c x q .read, e) in
     let s = stateOf x cells in
     let r = runs-by p (c .requests) (c .limit) 0 s in
     let h = runs-final p (c .requests) r in
     rw g (
-      readImage-writeImage (end-formed p (c .requests) (c .limit) s (accepted-formed image x (asked-start p image cells c x q))) ∙ ap (λ (t : State). Accepted (t .machine)) h,
+      readImage-writeImage (end-formed p (c .requests) (c .limit) s (accepted-formed image x (asked-yes p image cells c x q .read))) ∙ ap (λ (t : State). Accepted (t .machine)) h,
       ap (λ (t : State). t .cells) h,
       runs-steps p (c .requests) r,
     )

@@ -1,8 +1,9 @@
 -- What a call leaves: for lists of calls (01 "The packer's stretch"), and of its answer and buffer (01 "Machine image"). Assumes nothing.
 use mathlib.Core.Path.{_≡_}
+use mathlib.Core.Logic.{_↔_}
 use mathlib.Core.List.{List, [], _∷_}
 use Prim.Native.Nat.{ℕ, suc, _≤_, _<_}
-use lib.ListN.{length, getElem?}
+use lib.ListN.{length, getD, getElem?}
 use Rattle.machine.specs.Machine.{Machine, State}
 use Rattle.image.specs.Image.{Read, Accepted, readImage}
 use Rattle.apply.specs.Apply.{Transition}
@@ -38,6 +39,19 @@ Continuity =
     → Steps program (stateOf m cells) (transitions program image cells calls)
 
 -- ---- the answer and the lent memory
+
+-- the eight questions are all answered yes
+pub record AllYes (program image cells : List ℕ) (c : Call) (m : Machine) : Type 0 where
+  pub programSize : length program ≤ 65536
+  pub dataSize : length cells ≤ 65536
+  pub read : readImage image ≡ Accepted m  -- 2 to 5
+  pub requests : (i : ℕ) → getD (c .requests) i 0 ≤ 0xFFF
+  pub limit : c .limit ≤ 1000000
+  pub room : 708 ≤ length (c .buffer)
+
+-- just such a call is not refused
+unfoldable pub Questions : Type 0
+Questions = (program image cells : List ℕ) (c : Call) (m : Machine) → (ask program image cells c ≡ Start m) ↔ AllYes program image cells c m
 
 -- "a no gives the number and does no step"; "Every refusal .. changes no lent memory"
 pub record Unchanged (image cells : List ℕ) (c : Call) (n : ℕ) (d : Called) : Type 0 where
