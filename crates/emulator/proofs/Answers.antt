@@ -15,7 +15,7 @@ use Rattle.machine.specs.Machine.{Machine, State}
 use Rattle.image.specs.Questions.{allBelow}
 use Rattle.image.specs.Image.{Read, Refused, Accepted, askMachine, readImage, writeImage}
 use Rattle.image.proofs.Image.{accepted-formed, writeImage-longest, writeImage-readImage}
-use Rattle.decide.proofs.Safe.{if-holds}
+use Rattle.step.proofs.Safe.{if-holds}
 use Rattle.apply.specs.Apply.{Transition}
 use Rattle.step.specs.Step.{isStop, step}
 use Rattle.emulator.specs.Run.{Call, run, End, endOf, endFrom, Asked, No, Start, askCall, ask, stateOf, outcome, Called, calledBy, called, runCall}

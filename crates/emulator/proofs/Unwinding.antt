@@ -16,8 +16,8 @@ use Rattle.decide.specs.View.{View, view}
 use Rattle.decide.specs.Decide.{decide}
 use Rattle.decide.specs.declared.Effect.{Effect}
 use Rattle.decide.specs.declared.Effect.the-variants.{Stopped, Raised, Next, Result, ResultFlags, ResultProduct, Compare, Conditions, StoreControl, StoreCell, Jump, JumpLink, EnableInterrupts, SwitchWidth, SystemCall, InterruptReturn, UserReturn, SelectSets}
-use Rattle.decide.proofs.Safe.{Safe, decide-safe}
-use Rattle.decide.proofs.Addresses.{reached-cell, reached-block}
+use Rattle.step.proofs.Safe.{Safe, decide-safe}
+use Rattle.step.proofs.Addresses.{reached-cell, reached-block}
 use Rattle.apply.specs.Apply.{wordsOn, advance, Transition, machineOnly, storeCell, apply, unpacked}
 use Rattle.apply.specs.declared.Kind.{Kind}
 use Rattle.apply.specs.declared.Kind.the-variants as kind
