@@ -1,0 +1,2 @@
+-- Laws of the machine image.
+pub mod Read
