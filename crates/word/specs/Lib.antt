@@ -4,3 +4,4 @@ pub mod Word
 pub mod Arithmetic
 pub mod Flags
 pub mod Computed
+pub mod Worked

@@ -1,0 +1,49 @@
+-- `word::condition_flags` meets its contract: a bool is 0 or 1. Assumes nothing.
+use mathlib.Core.Bool.{Bool, true, false}
+use Prim.Native.Nat.{_≤_}
+use native.Mathlib.Omega.{arith}
+use mir.Val.{boolByte}
+use borrow.Author.Needs.{needs}
+use Rattle.word.proofs.condition_flags.Statement.{statement}
+use Rattle.word.proofs.condition_flags.Tie as tie
+
+small : (b : Bool) → boolByte b ≤ 1
+small true = omega arith
+small false = omega arith
+
+cast-result : tie.Need-cast-result
+cast-result c = search needs
+
+mul-result : tie.Need-mul-result
+mul-result c = omega (arith, small (c .args .z))
+
+cast-result-2 : tie.Need-cast-result-2
+cast-result-2 c = search needs
+
+mul-result-2 : tie.Need-mul-result-2
+mul-result-2 c = omega (arith, small (c .args .n))
+
+add-result : tie.Need-add-result
+add-result c = omega (arith, small (c .args .z), small (c .args .n))
+
+cast-result-3 : tie.Need-cast-result-3
+cast-result-3 c = search needs
+
+add-result-2 : tie.Need-add-result-2
+add-result-2 c = omega (arith, small (c .args .z), small (c .args .n), small (c .args .c))
+
+returns : tie.Need-returns
+returns c = search needs
+
+pub condition-flags-spec : {M : Type 1} → statement M
+condition-flags-spec =
+    tie.close
+    (tie.spec
+    cast-result
+    mul-result
+    cast-result-2
+    mul-result-2
+    add-result
+    cast-result-3
+    add-result-2
+    returns)

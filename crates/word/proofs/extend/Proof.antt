@@ -1,0 +1,42 @@
+-- `word::extend` meets its contract: the k lowest bits, read as signed. Assumes nothing.
+use Prim.Native.Nat.{_^_}
+use native.Mathlib.Omega.{arith}
+use native.Mathlib.Nat.{mod-lt, mod-le}
+use lib.Pow.{pow-pos}
+use mir.Syntax.{w32}
+use borrow.Author.Needs.{needs}
+use Rattle.word.specs.Word.{extendOf}
+use Rattle.word.proofs.Integers.{power-shifted, back}
+use Rattle.word.proofs.extend.Statement.{statement}
+use Rattle.word.proofs.extend.Tie as tie
+
+shl-low : tie.Need-shl-low
+shl-low c = search needs
+
+rem-low : tie.Need-rem-low
+rem-low c = rw (power-shifted (c .args .k) (c .pre .1)) (pow-pos (c .args .k))
+
+cast-low : tie.Need-cast-low
+cast-low c = rw (power-shifted (c .args .k) (c .pre .1)) (omega (arith, mod-le (c .args .a) (2 ^ c .args .k)))
+
+signed-field-requires : tie.Need-signed-field-requires
+signed-field-requires c κs =
+    rw (power-shifted (c .args .k) (c .pre .1))
+    (c .pre .0, c .pre .1, mod-lt (c .args .a) (pow-pos (c .args .k)))
+
+word-requires : tie.Need-word-requires
+word-requires c κs = search needs
+
+returns : tie.Need-returns
+unfolding extendOf
+returns c =
+    rw (
+      c .word .ensures,
+      back w32 (c .before .signed-field .result) (c .before .signed-field .ok),
+      c .before .signed-field .ensures,
+      power-shifted (c .before .before .args .k) (c .before .before .pre .1),
+    )
+
+pub extend-spec : {M : Type 1} → statement M
+extend-spec =
+    tie.close (tie.spec shl-low rem-low cast-low signed-field-requires word-requires returns)

@@ -1,0 +1,28 @@
+-- `word::shifted` meets its contract: the machine's signed shift rounds down, and makes no number larger. Assumes nothing.
+use Prim.Native.Nat.{_^_}
+use lib.Signed.{mag-shr}
+use mir.Facts.{toZ-ofZ, sfits-widen}
+use mir.ValLaws.{sfits-le}
+use borrow.Author.Needs.{needs}
+use Rattle.word.specs.Word.{divZ}
+use Rattle.word.proofs.Integers.{wide-fits, wide-is}
+use Rattle.word.proofs.shifted.Statement.{statement}
+use Rattle.word.proofs.shifted.Tie as tie
+
+cast-result : tie.Need-cast-result
+cast-result c = wide-fits (c .fits .x)
+
+cast-result-2 : tie.Need-cast-result-2
+cast-result-2 c = search needs
+
+shr-result : tie.Need-shr-result
+shr-result c = search needs
+
+returns : tie.Need-returns
+unfolding divZ
+returns c =
+    rw (wide-is (c .fits .x))
+    (toZ-ofZ (sfits-le (mag-shr (c .args .x) (2 ^ c .args .s)) (sfits-widen tt (c .fits .x))))
+
+pub shifted-spec : {M : Type 1} → statement M
+shifted-spec = tie.close (tie.spec cast-result cast-result-2 shr-result returns)
