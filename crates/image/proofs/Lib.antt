@@ -1,2 +1,3 @@
 -- Laws of the machine image.
-pub mod Read
+pub mod Distinct
+pub mod Reading

@@ -1,13 +1,17 @@
 // The machine image: read, written, and at reset. An image becomes the machine's words once, and questions 3 to 5 are asked of those.
 ghost use mathlib.Core.Path.{_≡_};
+ghost use mathlib.Core.Bool.{true};
 ghost use mathlib.Core.List.{reverse};
 ghost use Prim.Native.Nat.{_+_, _*_, _≤_, _<_};
 ghost use lib.Dec.{eqb};
-ghost use lib.ListN.{length, getD, replicate};
+ghost use lib.ListN.{length, getD};
+ghost use Rattle.codec.specs.Number.{over};
+ghost use Rattle.machine.specs.Control.{registerAt, canHold, reset as resetOf};
+ghost use Rattle.machine.specs.Stack.{serviceFlags, shownTop};
 ghost use Rattle.machine.specs.Words.{WORDS, DEPTH, entriesOf, machineOf};
-ghost use Rattle.image.specs.Questions.{all, implies, allBelow, positionTests, setsFit, question3, question4, question5};
+ghost use Rattle.image.specs.Questions.{all, implies, allBelow, allHeld, positionTests, setsFit, question3, question4, question5};
 ghost use Rattle.image.specs.Entries.{passes as passesOf, allPass, entryAt};
-ghost use Rattle.image.specs.Image.{question2};
+ghost use Rattle.image.specs.Image.{question2, askMachine, readImage, readBy, writeImage};
 
 // What questions 3, 4 and 5 ask of a stack entry.
 pub enum Test {
@@ -116,6 +120,49 @@ fn position_fits(p: machine::Position) -> bool
     slot & product
 }
 
+// Whether the control register at an offset can hold a number.
+fn can_hold(offset: u32, x: u32) -> bool
+    requires { ⌜ offset < 45 ⌝ }
+    ensures { λ r. ⌜ r ≡ canHold (registerAt offset) x ⌝ }
+{
+    match offset {
+        0x00 => x % 256 == 0,
+        0x2B => x == 0,
+        0x2C => x == 1,
+        _ => x <= machine::limit(offset),
+    }
+}
+
+// Whether every control register can hold its number.
+fn all_held(registers: &[u32]) -> bool
+    requires { ⌜ length (now registers) ≤ 45 ⌝ }
+    ensures { λ r. ⌜ r ≡ allHeld 0 (now (registers .entry)) ⌝ }
+{
+    let mut i = 0;
+    while i < registers.len() {
+        if can_hold(i as u32, registers[i]) {
+            i += 1;
+        } else {
+            return false;
+        }
+    }
+    true
+}
+
+// Whether every number is one that its register can hold.
+fn numbers_fit(w: &[u32]) -> bool
+    requires { ⌜ (length (now w) ≡ WORDS) × (getD (now w) DEPTH 0 ≤ 12) ⌝ }
+    ensures { λ r. ⌜ r ≡ question3 (machineOf (now (w .entry))) ⌝ }
+{
+    let depth = w[128] as usize;
+    let status = machine::psr(w) < 32;
+    let conditions = all_below(&w[67..75], 8);
+    let control = all_held(&w[76..121]);
+    let position = position_fits(machine::position_of(w));
+    let entries = entries_pass(Test::Range, &w[129..], depth);
+    status & conditions & control & position & entries
+}
+
 // ---- question 4
 
 // Whether every current or stacked status with UM 1 has both set bits 0.
@@ -124,16 +171,141 @@ fn modes_fit(w: &[u32]) -> bool
     ensures { λ r. ⌜ r ≡ question4 (machineOf (now (w .entry))) ⌝ }
 {
     let depth = w[128] as usize;
-    sets_fit(w[63]) & entries_pass(Test::Mode, &w[129..], depth)
+    sets_fit(machine::psr(w)) & entries_pass(Test::Mode, &w[129..], depth)
+}
+
+// ---- question 5
+
+// The flags of the sources of the n lowest entries.
+fn service_flags(entries: &[u32], n: usize) -> u32
+    requires { ⌜ (4 * n ≤ length (now entries)) × (allPass Test.Source (reverse (entriesOf n (now entries))) ≡ true) ⌝ }
+    ensures { λ r. ⌜ r ≡ serviceFlags (reverse (entriesOf n (now (entries .entry)))) ⌝ }
+{
+    let mut flags = 0;
+    for i in 0..n {
+        flags = word::with_flag(flags, entries[4 * i]);
+    }
+    flags
+}
+
+// The top of n entries, or what the RETI_ registers show when there is none.
+fn shown_top(entries: &[u32], n: usize) -> machine::Entry
+    requires { ⌜ 4 * n ≤ length (now entries) ⌝ }
+    ensures { λ r. ⌜ r ≡ shownTop (reverse (entriesOf n (now (entries .entry)))) ⌝ }
+{
+    if n == 0 {
+        machine::Entry {
+            source: 0,
+            address: 1,
+            psr: 9,
+            c0: 0,
+        }
+    } else {
+        entry(entries, n - 1)
+    }
+}
+
+// Whether the stack's sources are below 12, all different and those of INT_SERV, and RETI_ is its top.
+fn stack_fits(w: &[u32]) -> bool
+    requires { ⌜ (length (now w) ≡ WORDS) × (getD (now w) DEPTH 0 ≤ 12) ⌝ }
+    ensures { λ r. ⌜ r ≡ question5 (machineOf (now (w .entry))) ⌝ }
+{
+    let depth = w[128];
+    let n = depth as usize;
+    if entries_pass(Test::Source, &w[129..], n) {
+        let flags = service_flags(&w[129..], n);
+        let different = word::ones(flags) == depth;
+        let served = machine::control(w, 0x13) == flags;
+        let top = shown_top(&w[129..], n);
+        let address = machine::control(w, 0x28) == top.address;
+        let psr = machine::control(w, 0x29) == top.psr;
+        let c0 = machine::control(w, 0x2A) == top.c0;
+        different & served & address & psr & c0
+    } else {
+        false
+    }
+}
+
+// ---- reading
+
+// The number of the first of questions 3 to 5 that says no, or 0.
+fn refusal(w: &[u32]) -> u32
+    requires { ⌜ (length (now w) ≡ WORDS) × (getD (now w) DEPTH 0 ≤ 12) ⌝ }
+    ensures { λ r. ⌜ readBy r (machineOf (now (w .entry))) ≡ askMachine (machineOf (now (w .entry))) ⌝ }
+{
+    if numbers_fit(w) {
+        if modes_fit(w) {
+            if stack_fits(w) { 0 } else { 5 }
+        } else {
+            4
+        }
+    } else {
+        3
+    }
+}
+
+// Reads an image: the number of the first question that says no, or 0 and the machine's words.
+pub fn read(image: &[u8], w: &mut [u32]) -> u32
+    requires { ⌜ length (now w) ≡ WORDS ⌝ }
+    ensures { λ r. ⌜ readBy r (machineOf (now (w .exit))) ≡ readImage (now (image .entry)) ⌝ }
+{
+    if sections_fit(image) {
+        codec::read_numbers(image, w);
+        refusal(w)
+    } else {
+        2
+    }
+}
+
+// ---- writing
+
+// Writes the machine's image to the front of a longer buffer, whose further bytes stay.
+pub fn write(w: &mut [u32], buffer: &mut [u8])
+    requires { ⌜ (length (now w) ≡ WORDS) × (getD (now w) DEPTH 0 ≤ 12) × (708 ≤ length (now buffer)) ⌝ }
+    ensures { λ _. ⌜ now (buffer .exit) ≡ over (writeImage (machineOf (now (w .entry)))) (now (buffer .entry)) ⌝ }
+{
+    let n = 129 + 4 * (w[128] as usize);
+    w[0] = 32;
+    w[33] = 32;
+    w[66] = 8;
+    w[75] = 45;
+    w[121] = 6;
+    codec::write_numbers(&w[..n], buffer);
 }
 
 // ---- reset
 
-// Puts one number at every place of a slice.
-fn fill(numbers: &mut [u32], x: u32)
-    ensures { λ _. ⌜ now (numbers .exit) ≡ replicate (length (now (numbers .entry))) x ⌝ }
+// The control registers at reset (002 section 2.9), by offset.
+const CONTROL: [u32; 45] = [
+    0x0001_0000, 0x0001_0100, 0x0001_01FF, 0x0000_00FF, // CCB_BASE, PCB_BASE, PCB_END, PCB_AMASK
+    1, 1, 1, 1, 1, 1, 1, 1, 1, 1, 1, 1, // interrupt vectors
+    0xFFF, 0xFFF, 0, 0, 0, 0, 0, // INT_MODE_IL, INT_MODE_UM, INT_MASK, INT_SERV, INT_PEND, EXT_INT_PRI, COP_INT_PRI
+    0, 0, 0, // EXCEPTION_CS, EXCEPTION_PC, EXCEPTION_PSR
+    0, 0xFFFF_FFFF, 0, 0xFFFF_FFFF, 3, // DMEM_BOUND_LO, DMEM_BOUND_HI, IMEM_BOUND_LO, IMEM_BOUND_HI, MEM_CONF
+    0, 0, 0xFFF, 0, // SYSTEM_ADDR, EXCEP_ADDR, BUS_CONF, COP_CONF
+    0, 0, 0, 0, 0, // timers
+    1, 9, 0, 0, 1, // RETI_ADDR, RETI_PSR, RETI_CR0, FPU_STATUS, CORE_VER_ID
+];
+
+// Copies numbers to a slice of the same length.
+fn copy(from: &[u32], to: &mut [u32])
+    requires { ⌜ length (now from) ≡ length (now to) ⌝ }
+    ensures { λ _. ⌜ now (to .exit) ≡ now (from .entry) ⌝ }
 {
-    for i in 0..numbers.len() {
-        numbers[i] = x;
+    for i in 0..from.len() {
+        to[i] = from[i];
     }
+}
+
+// Puts the machine at reset into its words.
+pub fn reset(w: &mut [u32])
+    requires { ⌜ length (now w) ≡ WORDS ⌝ }
+    ensures { λ _. ⌜ machineOf (now (w .exit)) ≡ resetOf ⌝ }
+{
+    let zeros = [0u32; 129];
+    copy(&zeros, &mut w[..129]);
+    w[63] = 0x0E; // PSR
+    w[64] = 9; // SPSR
+    let control = CONTROL;
+    copy(&control, &mut w[76..121]);
 }

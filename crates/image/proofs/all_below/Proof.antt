@@ -1,15 +1,17 @@
--- `all_below` meets its contract: what is left of the numbers decides as long as those before are below the bound. Assumes nothing.
+-- `all_below` meets its contract: what is left of the numbers decides while those before pass. Assumes nothing.
 use mathlib.Core.Path.{_≡_, _∙_}
 use Prim.Native.Nat.{_≤_, _-_}
 use lib.ListN.{length, drop}
 use borrow.Author.Needs.{needs}
+use borrow.Author.Tests.{lt-ltb, le-ltb}
 use Rattle.image.specs.Questions.{allBelow}
-use Rattle.image.proofs.Read.{below-next, below-stop, below-end}
+use Rattle.image.proofs.Reading.{below-next, below-stop, below-end}
+use Rattle.image.proofs.Reading.{every, every-next, every-stop, every-end, below, below-every}
 use Rattle.image.proofs.all_below.Statement.{statement}
 use Rattle.image.proofs.all_below.Tie as tie
 
 abbrev Inv-loop : tie.InvT-loop
-Inv-loop numbers top i₀ i = (i ≤ length numbers) × (allBelow top (drop i numbers) ≡ allBelow top numbers)
+Inv-loop numbers top i₀ i = (i ≤ length numbers) × (every (below top) i (drop i numbers) ≡ every (below top) 0 numbers)
 
 abbrev μ-loop : tie.MeasureT-loop
 μ-loop numbers top i₀ i = length numbers - i
@@ -30,13 +32,19 @@ loop-less : tie.Need-loop-less Inv-loop μ-loop
 loop-less c = search needs
 
 loop-again : tie.Need-loop-again Inv-loop μ-loop
-loop-again c = (search needs, below-next _ _ _ (c .before .before .loop-test .taken) (c .if1 .taken) ∙ c .before .before .before .loop .inv .1)
+loop-again c = let args = c .before .before .before .before .args in
+    let next = every-next (below (args .top)) (args .numbers .now) _ (c .before .before .loop-test .taken) (lt-ltb _ _ (c .if1 .taken)) in
+    (search needs, next ∙ c .before .before .before .loop .inv .1)
 
 returns : tie.Need-returns Inv-loop μ-loop
-returns c = below-stop _ _ _ (c .before .before .loop-test .taken) (c .if1 .left) ∙ c .before .before .before .loop .inv .1
+returns c = let args = c .before .before .before .before .args in
+    every-stop (below (args .top)) (args .numbers .now) _ (c .before .before .loop-test .taken) (le-ltb _ _ (c .if1 .left))
+    ∙ c .before .before .before .loop .inv .1
+    ∙ below-every (args .top) 0 (args .numbers .now)
 
 returns-2 : tie.Need-returns-2 Inv-loop μ-loop
-returns-2 c = below-end _ _ _ (c .loop-test .left) ∙ c .before .loop .inv .1
+returns-2 c = let args = c .before .before .args in
+    every-end (below (args .top)) (args .numbers .now) _ (c .loop-test .left) ∙ c .before .loop .inv .1 ∙ below-every (args .top) 0 (args .numbers .now)
 
 pub all-below-spec : {M : Type 1} → statement M
 all-below-spec =
@@ -52,4 +60,3 @@ all-below-spec =
     loop-again
     returns
     returns-2)
-

@@ -6,7 +6,7 @@ use native.Mathlib.Omega.{arith}
 use borrow.Author.Needs.{needs}
 use Rattle.machine.specs.Words.{entriesOf}
 use Rattle.image.specs.Entries.{allPass}
-use Rattle.image.proofs.Read.{pass-more}
+use Rattle.image.proofs.Reading.{pass-more}
 use Rattle.image.proofs.entries_pass.Statement.{statement}
 use Rattle.image.proofs.entries_pass.Tie as tie
 

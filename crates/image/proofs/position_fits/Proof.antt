@@ -1,7 +1,7 @@
 -- `position_fits` meets its contract: its numbers are words. Assumes nothing.
 use native.Mathlib.Omega.{arith}
 use borrow.Author.Needs.{needs}
-use Rattle.image.proofs.Read.{position-words}
+use Rattle.image.proofs.Reading.{position-words}
 use Rattle.image.proofs.position_fits.Statement.{statement}
 use Rattle.image.proofs.position_fits.Tie as tie
 

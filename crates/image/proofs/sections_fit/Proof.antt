@@ -1,7 +1,7 @@
 -- `sections_fit` meets its contract: the counts are numbers of the image, at four bytes each. Assumes nothing.
 use native.Mathlib.Omega.{arith}
 use borrow.Author.Needs.{needs}
-use Rattle.image.proofs.Read.{sections-short, sections-deep, sections-counted}
+use Rattle.image.proofs.Reading.{sections-short, sections-deep, sections-counted}
 use Rattle.image.proofs.sections_fit.Statement.{statement}
 use Rattle.image.proofs.sections_fit.Tie as tie
 
