@@ -1,2 +1,8 @@
+-- The instruction set: operations, instruction words, conditions.
+pub mod Text
 pub mod Operation
+pub mod Condition
+pub mod Format
+pub mod Decode
+pub mod Worked
 pub mod Computed

@@ -1,8 +1,159 @@
+-- The operations, one row for each (01 "Operations", "Never conditional", "Super user only", stop 13; mnemonics: 002 section 6.2). Assumes nothing.
 use mathlib.Core.Bool.{Bool, true, false}
+use mathlib.Core.List.{List, [], _∷_}
+use mathlib.Core.Option.{Option, none, some}
+use Prim.Native.Nat.{ℕ}
+use Prim.Native.String.{String}
+use lib.ListN.{getD}
+use Rattle.isa.specs.Text.{bytes}
 
+-- muls16, mulu16 and mulus16 are 002's muls_16, mulu_16 and mulus_16; bc to bnc branch on conditions 0 to 7
+pub data Operation : Type 0 where
+  nop add addu sub subu and or xor : Operation
+  muls mulu mulus muls16 mulu16 mulus16 sll srl sra sext : Operation
+  addi addiu andi ori muli slli srli srai sexti : Operation
+  ld st mov not mulhi cmp cmpi lli lui : Operation
+  jmp jal jmpr jalr bc begt belt beq bgt blt bne bnc : Operation
+  scall retu reti chrs di ei swm trap scon rcon unknown : Operation
+
+-- by number, 0 to 63
+unfoldable pub operations : List Operation
+operations =
+    nop ∷ add ∷ addu ∷ sub ∷ subu ∷ and ∷ or ∷ xor ∷  -- 0 to 7
+    muls ∷ mulu ∷ mulus ∷ muls16 ∷ mulu16 ∷ mulus16 ∷ sll ∷ srl ∷  -- 8 to 15
+    sra ∷ sext ∷ addi ∷ addiu ∷ andi ∷ ori ∷ muli ∷ slli ∷  -- 16 to 23
+    srli ∷ srai ∷ sexti ∷ ld ∷ st ∷ mov ∷ not ∷ mulhi ∷  -- 24 to 31
+    cmp ∷ cmpi ∷ lli ∷ lui ∷ jmp ∷ jal ∷ jmpr ∷ jalr ∷  -- 32 to 39
+    bc ∷ begt ∷ belt ∷ beq ∷ bgt ∷ blt ∷ bne ∷ bnc ∷  -- 40 to 47
+    scall ∷ retu ∷ reti ∷ chrs ∷ di ∷ ei ∷ swm ∷ trap ∷  -- 48 to 55
+    scon ∷ rcon ∷ unknown ∷ unknown ∷ unknown ∷ unknown ∷ unknown ∷ unknown ∷  -- 56 to 63
+    []
+
+-- the operation of a number
+unfoldable pub operationOf : ℕ → Operation
+operationOf n = getD operations n unknown
+
+-- ---- properties
+
+-- the length of an instruction word
 pub data Width : Type 0 where
   w16 w32 : Width
 
-unfoldable pub widthBy : Bool → Width
+-- by PSR's bit IL, 1 for 32-bit words
+unfoldable pub widthBy : (wide : Bool) → Width
 widthBy true = w32
 widthBy false = w16
+
+-- which operands an operation has; Format says where they stand
+pub data Form : Type 0 where
+  NoOperands : Form
+  ThreeRegisters : Form  -- dreg, sreg1, sreg2
+  TwoRegisters : Form  -- dreg, sreg1
+  Destination : Form  -- dreg
+  Source : Form  -- sreg1
+  CompareRegisters : Form  -- creg, sreg1, sreg2
+  CompareImmediate : Form  -- creg, sreg1, signed immediate
+  SignedImmediate : Form  -- dreg, sreg1, signed immediate
+  UnsignedImmediate : Form  -- dreg, sreg1, immediate filled with zeros
+  Shift : Form  -- dreg, sreg1, five bits
+  Memory : Form  -- dreg, sreg1, signed immediate
+  Halfword : Form  -- dreg, sixteen bits
+  Jump : Form  -- signed immediate
+  Branch : Form  -- creg, signed immediate
+  Low : ℕ → Form  -- so many of the word's lowest bits
+
+-- where an operation may be used
+pub data Availability : Type 0 where
+  anywhere wideOnly superOnly nowhere : Availability
+
+-- the code of the exception where it may not: 01h unknown, 02h not in this width or not in user mode
+unfoldable pub unavailable : Availability → Width → (user : Bool) → Option ℕ
+unavailable anywhere w user = none
+unavailable wideOnly w16 user = some 0x02
+unavailable wideOnly w32 user = none
+unavailable superOnly w true = some 0x02
+unavailable superOnly w false = none
+unavailable nowhere w user = some 0x01
+
+pub record Properties : Type 0 where
+  pub number : ℕ
+  pub mnemonic : List ℕ  -- its bytes
+  pub form : Form
+  pub conditional : Bool  -- bit 25 of a 32-bit word makes it conditional; otherwise that bit is ignored
+  pub availability : Availability
+  pub transfer : Bool  -- a control transfer, which stops with 13 in a branch slot
+
+-- rows of the table: of operations that may be conditional, that never are, and of control transfers of both kinds
+abbrev optional : ℕ → String → Form → Properties
+optional n m f = record { number = n; mnemonic = bytes m; form = f; conditional = true; availability = anywhere; transfer = false }
+
+abbrev always : ℕ → String → Form → Availability → Properties
+always n m f a = record { number = n; mnemonic = bytes m; form = f; conditional = false; availability = a; transfer = false }
+
+abbrev optionalTransfer : ℕ → String → Form → Properties
+optionalTransfer n m f = record { number = n; mnemonic = bytes m; form = f; conditional = true; availability = anywhere; transfer = true }
+
+abbrev alwaysTransfer : ℕ → String → Form → Availability → Properties
+alwaysTransfer n m f a = record { number = n; mnemonic = bytes m; form = f; conditional = false; availability = a; transfer = true }
+
+-- the table: each operation's number, mnemonic, operands, whether it may be conditional, where it is available, whether it is a control transfer
+unfoldable pub properties : Operation → Properties
+properties nop = always 0 "nop" NoOperands anywhere
+properties add = optional 1 "add" ThreeRegisters
+properties addu = optional 2 "addu" ThreeRegisters
+properties sub = optional 3 "sub" ThreeRegisters
+properties subu = optional 4 "subu" ThreeRegisters
+properties and = optional 5 "and" ThreeRegisters
+properties or = optional 6 "or" ThreeRegisters
+properties xor = optional 7 "xor" ThreeRegisters
+properties muls = optional 8 "muls" ThreeRegisters
+properties mulu = optional 9 "mulu" ThreeRegisters
+properties mulus = optional 10 "mulus" ThreeRegisters
+properties muls16 = optional 11 "muls_16" ThreeRegisters
+properties mulu16 = optional 12 "mulu_16" ThreeRegisters
+properties mulus16 = optional 13 "mulus_16" ThreeRegisters
+properties sll = optional 14 "sll" ThreeRegisters
+properties srl = optional 15 "srl" ThreeRegisters
+properties sra = optional 16 "sra" ThreeRegisters
+properties sext = optional 17 "sext" ThreeRegisters
+properties addi = optional 18 "addi" SignedImmediate
+properties addiu = optional 19 "addiu" UnsignedImmediate
+properties andi = optional 20 "andi" UnsignedImmediate
+properties ori = optional 21 "ori" UnsignedImmediate
+properties muli = optional 22 "muli" SignedImmediate
+properties slli = optional 23 "slli" Shift
+properties srli = optional 24 "srli" Shift
+properties srai = optional 25 "srai" Shift
+properties sexti = optional 26 "sexti" Shift
+properties ld = optional 27 "ld" Memory
+properties st = optional 28 "st" Memory
+properties mov = optional 29 "mov" TwoRegisters
+properties not = optional 30 "not" TwoRegisters
+properties mulhi = optional 31 "mulhi" Destination
+properties cmp = always 32 "cmp" CompareRegisters anywhere
+properties cmpi = always 33 "cmpi" CompareImmediate anywhere
+properties lli = always 34 "lli" Halfword wideOnly
+properties lui = always 35 "lui" Halfword wideOnly
+properties jmp = alwaysTransfer 36 "jmp" Jump anywhere
+properties jal = alwaysTransfer 37 "jal" Jump anywhere
+properties jmpr = optionalTransfer 38 "jmpr" Source
+properties jalr = optionalTransfer 39 "jalr" Source
+properties bc = alwaysTransfer 40 "bc" Branch anywhere
+properties begt = alwaysTransfer 41 "begt" Branch anywhere
+properties belt = alwaysTransfer 42 "belt" Branch anywhere
+properties beq = alwaysTransfer 43 "beq" Branch anywhere
+properties bgt = alwaysTransfer 44 "bgt" Branch anywhere
+properties blt = alwaysTransfer 45 "blt" Branch anywhere
+properties bne = alwaysTransfer 46 "bne" Branch anywhere
+properties bnc = alwaysTransfer 47 "bnc" Branch anywhere
+properties scall = optionalTransfer 48 "scall" NoOperands
+properties retu = alwaysTransfer 49 "retu" NoOperands superOnly
+properties reti = alwaysTransfer 50 "reti" NoOperands anywhere
+properties chrs = always 51 "chrs" (Low 2) superOnly
+properties di = always 52 "di" NoOperands anywhere
+properties ei = always 53 "ei" NoOperands anywhere
+properties swm = alwaysTransfer 54 "swm" (Low 1) anywhere
+properties trap = always 55 "trap" (Low 5) anywhere
+properties scon = always 56 "scon" Destination anywhere
+properties rcon = always 57 "rcon" Source anywhere
+properties unknown = always 58 "?" NoOperands nowhere

@@ -44,6 +44,18 @@ withControl l m = record { set1 = m .set1; set2 = m .set2; conditions = m .condi
 unfoldable pub withPosition : Position → Machine → Machine
 withPosition p m = record { set1 = m .set1; set2 = m .set2; conditions = m .conditions; control = m .control; position = p; stack = m .stack }
 
+-- ---- the register sets
+
+-- set 2 where a bit of PSR is 1, else set 1
+unfoldable pub setBy : Bool → Machine → List ℕ
+setBy true m = m .set2
+setBy false m = m .set1
+
+-- register n of that set replaced
+unfoldable pub withRegister : (second : Bool) (n x : ℕ) → Machine → Machine
+withRegister true n x m = withSet2 (set (m .set2) n x) m
+withRegister false n x m = withSet1 (set (m .set1) n x) m
+
 -- ---- special registers of set 2 (002 section 2.4), and the link register of both sets
 
 abbrev pub PSR : ℕ

@@ -8,6 +8,11 @@ use Rattle.machine.specs.Control.{INT-SERV, RETI-ADDR, RETI-PSR, RETI-CR
 use Rattle.machine.specs.declared.Position.{Position}
 use Rattle.machine.specs.declared.Entry.{Entry}
 
+-- the stack without its top
+unfoldable pub popped : List Entry → List Entry
+popped [] = []
+popped (e ∷ es) = es
+
 -- the sources in service
 unfoldable pub sourcesOf : List Entry → List ℕ
 sourcesOf es = map (λ (e : Entry). e .source) es
@@ -21,11 +26,13 @@ unfoldable pub shownTop : List Entry → Entry
 shownTop [] = record { source = 0; address = 1; psr = 9; c0 = 0 }
 shownTop (e ∷ es) = e
 
+-- the control block with INT_SERV and the RETI_ registers set
+abbrev pub showTop : (flags : ℕ) (top : Entry) (control : List ℕ) → List ℕ
+showTop flags top l = set (set (set (set l INT-SERV flags) RETI-ADDR (top .address)) RETI-PSR (top .psr)) RETI-CR0 (top .c0)
+
 -- the control block that shows a stack
 unfoldable pub showStack : List Entry → (control : List ℕ) → List ℕ
-showStack es l =
-    let top = shownTop es in
-    set (set (set (set l INT-SERV (serviceFlags es)) RETI-ADDR (top .address)) RETI-PSR (top .psr)) RETI-CR0 (top .c0)
+showStack es l = showTop (serviceFlags es) (shownTop es) l
 
 -- the machine with this stack, and its control block showing it
 unfoldable pub withStack : List Entry → Machine → Machine

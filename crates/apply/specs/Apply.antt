@@ -1,0 +1,134 @@
+-- What an effect changes: the only place where a machine or the data memory changes, but for interrupts. Assumes nothing.
+use mathlib.Core.Bool.{Bool, true, false}
+use mathlib.Core.List.{List, [], _∷_}
+use Prim.Native.Nat.{ℕ, zero, suc, _+_, _*_, _/_, _%_, _^_}
+use lib.ListN.{getD, set}
+use lib.Dec.{eqb}
+use Rattle.word.specs.Choice.{if_then_else_}
+use Rattle.isa.specs.Decode.{bytesOf}
+use Rattle.machine.specs.Machine.{Machine, State, PSR, SPSR, LINK, SUPER, psr, writesSet2, wideWords, interruptsEnabled, widthOf, withModes, positionAt, withSet1, withSet2, withConditions, withControl, withPosition, withPsr}
+use Rattle.machine.specs.Control.{controlAt, storedControl, EXCEPTION-CS, EXCEPTION-PC, EXCEPTION-PSR, SYSTEM-ADDR, EXCEP-ADDR}
+use Rattle.machine.specs.Stack.{popped, shownTop, withStack}
+use Rattle.machine.specs.declared.Position.{Position}
+use Rattle.machine.specs.declared.Entry.{Entry}
+use Rattle.apply.specs.declared.Kind.{Kind}
+use Rattle.apply.specs.declared.Kind.the-variants as kind
+use Rattle.decide.specs.declared.Effect.{Effect}
+use Rattle.decide.specs.declared.Effect.the-variants.{Stopped, Raised, Next, Result, ResultFlags, ResultProduct, Compare, Conditions, StoreControl, StoreCell, Jump, JumpLink, EnableInterrupts, SwitchWidth, SystemCall, InterruptReturn, UserReturn, SelectSets}
+
+-- ---- registers; numbers of registers have five bits, of condition registers three, and each keeps its low bits
+
+-- register d of the set that RSWR names takes x; a write to PSR is ignored (002 section 2.4)
+unfoldable pub writeRegister : (d x : ℕ) → Machine → Machine
+writeRegister d x m =
+    if writesSet2 (psr m) then (if eqb (d % 32) PSR then m else withSet2 (set (m .set2) (d % 32) (x % 2 ^ 32)) m)
+    else withSet1 (set (m .set1) (d % 32) (x % 2 ^ 32)) m
+
+-- condition register c takes flags
+unfoldable pub writeFlags : (c flags : ℕ) → Machine → Machine
+writeFlags c flags m = withConditions (set (m .conditions) (c % 8) (flags % 8)) m
+
+-- n condition registers from their places in a word: Cn at bits 3n+2..3n
+unfoldable pub unpacked : (n word : ℕ) → List ℕ
+unpacked zero x = []
+unpacked (suc n) x = x % 8 ∷ unpacked n (x / 8)
+
+-- ---- position
+
+-- so many words after this one
+unfoldable pub wordsOn : (count : ℕ) → Machine → ℕ
+wordsOn count m = (m .position .pc + count * bytesOf (widthOf (psr m))) % 2 ^ 32
+
+-- where control goes on: to the target in a slot, else to the word after this one
+unfoldable pub nextPc : Machine → ℕ
+nextPc m = if eqb (m .position .slot) 1 then m .position .target else wordsOn 1 m
+
+-- PC goes on; the slot is used up and a product dropped
+unfoldable pub advance : Machine → Machine
+advance m = withPosition (positionAt (nextPc m)) m
+
+-- the same with a product held
+unfoldable pub advanceHolding : (high low : ℕ) → Machine → Machine
+advanceHolding high low m =
+    withPosition (record { pc = nextPc m; slot = 0; target = 0; held = 1; high = high % 2 ^ 32; low = low % 2 ^ 32 }) m
+
+-- a taken jump: the next word is its slot
+unfoldable pub jumpTo : (target : ℕ) → Machine → Machine
+jumpTo target m = withPosition (record { pc = nextPc m; slot = 1; target = target % 2 ^ 32; held = 0; high = 0; low = 0 }) m
+
+-- ---- changes of mode
+
+-- an exception (01 "Exception"): code, address and PSR are shown; PC is EXCEP_ADDR
+unfoldable pub raise : (code : ℕ) → Machine → Machine
+raise code m =
+    withPosition (positionAt (controlAt m EXCEP-ADDR))
+    (withPsr SUPER
+    (withControl (set (set (set (m .control) EXCEPTION-CS (code % 256)) EXCEPTION-PC (m .position .pc)) EXCEPTION-PSR (psr m)) m))
+
+-- scall: the link PR31 is two words on, SPSR takes PSR; PC is SYSTEM_ADDR
+unfoldable pub systemCall : Machine → Machine
+systemCall m =
+    withPosition (positionAt (controlAt m SYSTEM-ADDR))
+    (withPsr SUPER
+    (withSet2 (set (set (m .set2) SPSR (psr m)) LINK (wordsOn 2 m)) m))
+
+-- retu: PC from PR31; IE and IL from SPSR; user mode, set 1
+unfoldable pub userReturn : Machine → Machine
+userReturn m =
+    withPosition (positionAt (getD (m .set2) LINK 0))
+    (withPsr (getD (m .set2) SPSR 0 / 8 % 4 * 8 + 1) m)
+
+-- reti pops: PC, PSR and C0 come back, and the source's flag is cleared
+unfoldable pub interruptReturn : Machine → Machine
+interruptReturn m =
+    let e = shownTop (m .stack) in
+    withPosition (positionAt (e .address))
+    (withPsr (e .psr)
+    (withConditions (set (m .conditions) 0 (e .c0))
+    (withStack (popped (m .stack)) m)))
+
+-- di and ei
+unfoldable pub enableInterrupts : Bool → Machine → Machine
+enableInterrupts enabled m = withPsr (withModes (psr m) (wideWords (psr m)) enabled) (advance m)
+
+-- swm goes on three old-width words later
+unfoldable pub switchWidth : (wide : Bool) → Machine → Machine
+switchWidth wide m = withPsr (withModes (psr m) wide (interruptsEnabled (psr m))) (withPosition (positionAt (wordsOn 3 m)) m)
+
+-- chrs: RSRD and RSWR
+unfoldable pub selectSets : (sets : ℕ) → Machine → Machine
+selectSets sets m = withPsr (psr m % 2 + sets % 4 * 2 + psr m / 8 * 8) (advance m)
+
+-- ---- effects
+
+-- a step or a stop (01: turn), and the state after it
+pub record Transition : Type 0 where
+  pub kind : Kind
+  pub after : State
+
+-- a transition that changes the machine only
+unfoldable pub machineOnly : Kind → (Machine → Machine) → State → Transition
+machineOnly k f s = record { kind = k; after = record { machine = f (s .machine); cells = s .cells } }
+
+unfoldable pub storeCell : (address x : ℕ) → State → Transition
+storeCell a x s = record { kind = kind.Ordinary; after = record { machine = advance (s .machine); cells = set (s .cells) a (x % 2 ^ 32) } }
+
+unfoldable pub apply : Effect → State → Transition
+apply (Stopped n) s = record { kind = kind.Stop n; after = s }
+apply (Raised c) s = machineOnly (kind.Exception c) (raise c) s
+apply Next s = machineOnly kind.Ordinary advance s
+apply (Result d x) s = machineOnly kind.Ordinary (λ m. advance (writeRegister d x m)) s
+apply (ResultFlags d x f) s = machineOnly kind.Ordinary (λ m. advance (writeFlags 0 f (writeRegister d x m))) s
+apply (ResultProduct d h l) s = machineOnly kind.Ordinary (λ m. advanceHolding h l (writeRegister d l m)) s
+apply (Compare c f) s = machineOnly kind.Ordinary (λ m. advance (writeFlags c f m)) s
+apply (Conditions x) s = machineOnly kind.Ordinary (λ m. advance (withConditions (unpacked 8 x) m)) s
+apply (StoreControl n x) s = machineOnly kind.Ordinary (λ m. advance (withControl (storedControl n x (m .control)) m)) s
+apply (StoreCell a x) s = storeCell a x s
+apply (Jump t) s = machineOnly kind.Ordinary (jumpTo t) s
+apply (JumpLink t) s = machineOnly kind.Ordinary (λ m. jumpTo t (writeRegister LINK (wordsOn 2 m) m)) s
+apply (EnableInterrupts e) s = machineOnly kind.Ordinary (enableInterrupts e) s
+apply (SwitchWidth w) s = machineOnly kind.Ordinary (switchWidth w) s
+apply SystemCall s = machineOnly kind.SystemCall systemCall s
+apply InterruptReturn s = machineOnly kind.InterruptReturn interruptReturn s
+apply UserReturn s = machineOnly kind.Ordinary userReturn s
+apply (SelectSets n) s = machineOnly kind.Ordinary (selectSets n) s

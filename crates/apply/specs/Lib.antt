@@ -1,0 +1,3 @@
+-- What an effect changes.
+pub mod Apply
+pub mod Computed

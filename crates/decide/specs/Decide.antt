@@ -1,0 +1,49 @@
+-- What the next instruction does: the order of its tests (01 "Instruction order"). Assumes nothing.
+use mathlib.Core.Bool.{Bool, true, false, not, _&&_}
+use mathlib.Core.Option.{Option, none, some}
+use Prim.Native.Nat.{ℕ}
+use lib.ListN.{getD}
+use lib.Dec.{eqb}
+use Rattle.word.specs.Choice.{if_then_else_}
+use Rattle.isa.specs.Operation.{Operation, operationOf, Properties, properties, unavailable}
+use Rattle.isa.specs.Condition.{conditionOf, holds}
+use Rattle.isa.specs.Decode.{decode}
+use Rattle.isa.specs.declared.Instruction.{Instruction}
+use Rattle.machine.specs.Machine.{userMode, widthOf}
+use Rattle.machine.specs.declared.Position.{Position}
+use Rattle.decide.specs.View.{View}
+use Rattle.decide.specs.Execute.{execute}
+use Rattle.decide.specs.declared.Fetched.{Fetched}
+use Rattle.decide.specs.declared.Fetched.the-variants.{Word, Fault, Absent}
+use Rattle.decide.specs.declared.Effect.{Effect}
+use Rattle.decide.specs.declared.Effect.the-variants.{Stopped, Raised, Next}
+
+-- its own effect
+unfoldable pub perform : View → Instruction → Operation → Effect
+perform v i op = execute op v i (v .source (i .sreg1)) (v .source (i .sreg2))
+
+unfoldable pub conditionFalse : View → Instruction → Bool
+conditionFalse v i = i .conditional && not (holds (conditionOf (i .condition)) (getD (v .conditions) (i .creg) 0))
+
+-- stop 13 for a control transfer in a slot; condition false: nothing but PC moves; its own effect
+unfoldable pub ifAvailable : View → Instruction → Operation → Option ℕ → Effect
+ifAvailable v i op (some code) = Raised code
+ifAvailable v i op none =
+    if properties op .transfer && eqb (v .position .slot) 1 then Stopped 13
+    else if conditionFalse v i then Next
+    else perform v i op
+
+-- 01h, 02h; then the rest
+unfoldable pub instruction : View → Instruction → Effect
+instruction v i =
+    let op = operationOf (i .opcode) in
+    ifAvailable v i op (unavailable (properties op .availability) (widthOf (v .status)) (userMode (v .status)))
+
+-- 05h, 00h, stop 11; then the instruction
+unfoldable pub fetchedThen : View → Fetched → Effect
+fetchedThen v (Word w) = instruction v (decode (widthOf (v .status)) w)
+fetchedThen v (Fault c) = Raised c
+fetchedThen v Absent = Stopped 11
+
+unfoldable pub decide : View → Effect
+decide v = fetchedThen v (v .fetched)

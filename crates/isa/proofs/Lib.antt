@@ -1,0 +1,7 @@
+-- Laws of the instruction set.
+pub mod Fields
+pub mod Table
+pub mod Rules
+pub mod Rows
+pub mod Decoded
+pub mod Worked

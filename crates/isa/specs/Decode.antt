@@ -1,0 +1,67 @@
+-- An instruction word taken apart. Assumes nothing.
+use mathlib.Core.Bool.{Bool, _&&_}
+use mathlib.Core.List.{List, [], _∷_}
+use mathlib.Core.Option.{Option, none, some}
+use Prim.Native.Nat.{ℕ, _+_}
+use lib.Dec.{eqb}
+use lib.IntN.{ℤ, pos}
+use Rattle.word.specs.Choice.{if_then_else_}
+use Rattle.word.specs.Word.{Field, signedOf}
+use Rattle.isa.specs.Operation.{operationOf, Properties, properties, Width, w16, w32, Form}
+use Rattle.isa.specs.Format.{fieldsWidth, fieldsOf, operationField, conditionalField, cregField, conditionField, Immediate, Layout, layoutOf}
+use Rattle.isa.specs.declared.Operands.{Operands}
+use Rattle.isa.specs.declared.Instruction.{Instruction}
+
+unfoldable pub bytesOf : Width → ℕ
+bytesOf w16 = 2
+bytesOf w32 = 4
+
+-- a register's number: registers n of 16-bit words mean n + 24; one that is absent reads 0
+unfoldable pub registerOf : Width → List Field → (word : ℕ) → ℕ
+registerOf w32 fs word = fieldsOf fs word
+registerOf w16 [] word = 0
+registerOf w16 (f ∷ fs) word = fieldsOf (f ∷ fs) word + 24
+
+-- an immediate, its sign extended or filled with zeros
+unfoldable pub immediateOf : Immediate → (word : ℕ) → ℤ
+immediateOf i word =
+    let n = fieldsOf (i .fields) word in
+    if i .signed then signedOf (fieldsWidth (i .fields)) n else pos n
+
+-- the operands of a word whose operation has this form
+unfoldable pub operandsOf : Width → Form → (word : ℕ) → Operands
+operandsOf width form word =
+    let l = layoutOf width form in
+    record {
+      dreg = registerOf width (l .dreg) word;
+      sreg1 = registerOf width (l .sreg1) word;
+      sreg2 = registerOf width (l .sreg2) word;
+      immediate = immediateOf (l .immediate) word;
+    }
+
+-- the number of a word's operation
+unfoldable pub opcodeOf : Width → (word : ℕ) → ℕ
+opcodeOf width word = fieldsOf (operationField width) word
+
+unfoldable pub decode : Width → (word : ℕ) → Instruction
+decode width word =
+    let opcode = opcodeOf width word in
+    let p = properties (operationOf opcode) in
+    let o = operandsOf width (p .form) word in
+    record {
+      opcode = opcode;
+      conditional = eqb (fieldsOf (conditionalField width) word) 1 && p .conditional;
+      creg = fieldsOf (cregField width) word;
+      condition = fieldsOf (conditionField width) word;
+      dreg = o .dreg;
+      sreg1 = o .sreg1;
+      sreg2 = o .sreg2;
+      immediate = o .immediate;
+    }
+
+-- ---- answers
+
+-- an exception's code as the answer of a function, 0 where there is none; code 00h is not among those asked
+unfoldable pub codeOf : Option ℕ → ℕ
+codeOf none = 0
+codeOf (some code) = code

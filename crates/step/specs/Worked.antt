@@ -1,0 +1,107 @@
+-- The worked examples of 01 that are marked *, as a table: one step from a start, what is shown of it, and what that must be. Assumes nothing.
+use mathlib.Core.Bool.{Bool, true, false}
+use mathlib.Core.List.{List, [], _∷_}
+use Prim.Native.Nat.{ℕ, _+_, _*_, _/_, _%_, _^_}
+use lib.ListN.{getD, set, replicate}
+use Rattle.isa.specs.Operation.{Operation, add, sub, subu, muls, mulu, mulus, ld, jmp, Properties, properties}
+use Rattle.machine.specs.Machine.{Machine, State, PSR, positionAt}
+use Rattle.machine.specs.declared.Position.{Position}
+use Rattle.machine.specs.Control.{reset, DMEM-BOUND-LO, DMEM-BOUND-HI, IMEM-BOUND-LO, IMEM-BOUND-HI}
+use Rattle.codec.specs.Number.{bytesOf}
+use Rattle.apply.specs.Apply.{Transition}
+use Rattle.step.specs.Step.{step}
+use Rattle.apply.specs.declared.Kind.{Kind}
+use Rattle.apply.specs.declared.Kind.the-variants.{Ordinary, Exception}
+
+pub record Case : Type 0 where
+  pub psr : ℕ
+  pub program : List ℕ
+  pub r1 : ℕ
+  pub r2 : ℕ
+  pub r25 : ℕ
+  pub r26 : ℕ
+  pub shown : State → List ℕ
+  pub kind : Kind
+  pub expected : List ℕ
+
+-- reset but for these: C0 is 5, data addresses 10h to 13h are protected and no program byte is; 32 cells that hold 77
+unfoldable pub start : Case → State
+start c =
+    record {
+      machine = record {
+        set1 = set (set (set (set (replicate 32 0) 1 (c .r1)) 2 (c .r2)) 25 (c .r25)) 26 (c .r26);
+        set2 = set (replicate 32 0) PSR (c .psr);
+        conditions = set (replicate 8 0) 0 5;
+        control = set (set (set (set (reset .control) DMEM-BOUND-LO 0x10) DMEM-BOUND-HI 0x13) IMEM-BOUND-LO 1) IMEM-BOUND-HI 0;
+        position = positionAt 0;
+        stack = [];
+      };
+      cells = replicate 32 77;
+    }
+
+abbrev word : ℕ → List ℕ
+word w = bytesOf (w ∷ [])
+
+-- ---- rows: in user mode with 32-bit words, where nothing else is said
+
+abbrev wide : List ℕ → ℕ → ℕ → (State → List ℕ) → Kind → List ℕ → Case
+wide program x y shown kind expected =
+    record { psr = 0x09; program = program; r1 = x; r2 = y; r25 = 0; r26 = 0; shown = shown; kind = kind; expected = expected }
+
+-- op R3, R1, R2: R3 and C0 after it
+abbrev sum : Operation → ℕ → ℕ → Kind → List ℕ → Case
+sum op x y kind expected =
+    wide (word (properties op .number * 2 ^ 26 + 3 * 2 ^ 10 + 1 * 2 ^ 5 + 2)) x y
+    (λ s. getD (s .machine .set1) 3 0 ∷ getD (s .machine .conditions) 0 0 ∷ []) kind expected
+
+-- op R3, R1, R2: the product's low and high half
+abbrev product : Operation → ℕ → ℕ → List ℕ → Case
+product op x y expected =
+    wide (word (properties op .number * 2 ^ 26 + 3 * 2 ^ 10 + 1 * 2 ^ 5 + 2)) x y
+    (λ s. getD (s .machine .set1) 3 0 ∷ s .machine .position .high ∷ []) Ordinary expected
+
+-- jmp n at 0: the slot's flag and the target
+abbrev jump : ℕ → Kind → List ℕ → Case
+jump n kind expected =
+    wide (word (properties jmp .number * 2 ^ 26 + n)) 0 0 (λ s. s .machine .position .slot ∷ s .machine .position .target ∷ []) kind expected
+
+-- ld R3, R1, 0: R3
+abbrev load : ℕ → Kind → List ℕ → Case
+load a kind expected =
+    wide (word (properties ld .number * 2 ^ 26 + 3 * 2 ^ 10 + 1 * 2 ^ 5)) a 0 (λ s. getD (s .machine .set1) 3 0 ∷ []) kind expected
+
+unfoldable pub cases : List Case
+cases =
+    sum add 0x7FFF_FFFF 0 Ordinary (0x7FFF_FFFF ∷ 0 ∷ []) ∷
+    sum add 0x7FFF_FFFF 1 (Exception 0x06) (0 ∷ 5 ∷ []) ∷
+    sum sub 0x8000_0000 1 (Exception 0x06) (0 ∷ 5 ∷ []) ∷
+    sum subu 0x8000_0000 1 Ordinary (0x7FFF_FFFF ∷ 1 ∷ []) ∷
+    product mulu 0xFFFF_FFFF 0xFFFF_FFFF (1 ∷ 0xFFFF_FFFE ∷ []) ∷
+    product mulus 0xFFFF_FFFF 0xFFFF_FFFF (1 ∷ 0xFFFF_FFFF ∷ []) ∷
+    product muls 0xFFFF_FFFF 0xFFFF_FFFF (1 ∷ 0 ∷ []) ∷
+    -- 0C11h, 16-bit words: R25 becomes R26 - R25
+    record { psr = 0x01; program = 0x0C ∷ 0x11 ∷ []; r1 = 0; r2 = 0; r25 = 3; r26 = 10; shown = λ s. getD (s .machine .set1) 25 0 ∷ []; kind = Ordinary; expected = 7 ∷ [] } ∷
+    jump 1 (Exception 0x03) (0 ∷ 0 ∷ []) ∷
+    jump 2 Ordinary (1 ∷ 8 ∷ []) ∷
+    -- swm 0 at 0
+    wide (word 0xD800_0000) 0 0 (λ s. s .machine .position .pc ∷ []) Ordinary (12 ∷ []) ∷
+    -- LO - 1, HI + 1, LO, HI
+    load 0x0F Ordinary (77 ∷ []) ∷
+    load 0x14 Ordinary (77 ∷ []) ∷
+    load 0x10 (Exception 0x07) (0 ∷ []) ∷
+    load 0x13 (Exception 0x07) (0 ∷ []) ∷
+    []
+
+-- ---- what the definitions give at a case, and what they must
+
+pub record Seen : Type 0 where
+  pub kind : Kind
+  pub shown : List ℕ
+
+unfoldable pub given : Case → Seen
+given c =
+    let t = step (c .program) (start c) 0 in
+    record { kind = t .kind; shown = c .shown (t .after) }
+
+unfoldable pub wanted : Case → Seen
+wanted c = record { kind = c .kind; shown = c .expected }
