@@ -5,3 +5,4 @@ pub mod Sections
 pub mod Image
 pub mod Distinct
 pub mod Reading
+pub mod Writing

@@ -1,12 +1,14 @@
 -- What the code that reads an image leans on: loops over numbers and over stack entries, and the questions as that code asks them. Assumes nothing.
 use mathlib.Core.Path.{_≡_, refl, sym, ap, _∙_}
 use mathlib.Core.Bool.{Bool, true, false, true≢false, _&&_, and-true, and-false, and-assoc}
-use mathlib.Core.List.{List, [], _∷_, _++_, reverse, reverse-append}
-use Prim.Native.Nat.{ℕ, zero, suc, _+_, _*_, _^_, _≤_, _<_}
+use mathlib.Core.List.{List, [], _∷_, _++_, reverse}
+use Prim.Native.Nat.{ℕ, zero, suc, _+_, _-_, _*_, _%_, _^_, _≤_, _<_}
 use native.Mathlib.Omega.{arith}
+use native.Mathlib.Nat.{mod-one}
 use native.Mathlib.Numerals.{add-one}
+use lib.Pow.{pow-pos}
 use lib.Dec.{ltb, leb, eqb, lit<}
-use lib.ListN.{length, getD, take, drop, drop-of-length-le, length-map, length-reverse}
+use lib.ListN.{length, getD, take, drop, drop-of-length-le, length-map}
 use lib.Seq.{drop-cons, getD-drop}
 use borrow.Author.Tests.{lt-ltb, le-leb, lt-leb, ltb-true, ltb-false, leb-true, eqb-true, ne-eqb}
 use Rattle.word.specs.Choice.{if_then_else_}
@@ -17,18 +19,19 @@ use Rattle.codec.proofs.Laws.{Below, getD-numbersOf, length-numbersOf, take-ove
 use Rattle.machine.specs.Machine.{Machine, psr}
 use Rattle.machine.specs.Control.{Register, registers, registerAt, controlAt, largest, holdsAs, canHold, INT-SERV, RETI-ADDR, RETI-PSR, RETI-CR0}
 use Rattle.machine.specs.Stack.{sourcesOf, serviceFlags, shownTop}
-use Rattle.machine.specs.Words.{SET1, SET2, DEPTH, ENTRIES, WORDS, section, entriesOf, machineOf}
+use Rattle.machine.specs.Words.{SET1, SET2, DEPTH, ENTRIES, section, entryOf, entriesOf, machineOf}
 use Rattle.machine.specs.declared.Position.{Position}
 use Rattle.machine.specs.declared.Entry.{Entry}
 use Rattle.machine.proofs.Stack.{flags-pushed}
-use Rattle.machine.proofs.Widths.{no-zeros}
+use Rattle.machine.proofs.Widths.{no-zeros, not-constant}
+use Rattle.machine.proofs.Flat.{section-at, stackOf, stack-top, depth-is}
 use Rattle.image.specs.Questions.{implies, all, allBelow, allHeld, entriesFit, positionTests, numberTests, question3, setsFit, modesFit, question4, stackTests, question5}
 use Rattle.image.specs.Image.{countOf, sectionTests, question2, Read, Refused, Accepted, askMachine, readImage, readBy}
-use Rattle.image.specs.Entries.{entryAt, passes, allPass}
+use Rattle.image.specs.Entries.{passes, allPass}
 use Rattle.image.specs.declared.Test.{Test}
 use Rattle.image.specs.declared.Test.the-variants.{Range, Mode, Source}
 use Rattle.image.proofs.Tests.{below-true, Passed, no-more, _also_, all-passed}
-use Rattle.image.proofs.Sections.{Counted, length-entriesOf, machineOf-imageNumbers, counts-machineOf, imageNumbers-machineOf}
+use Rattle.image.proofs.Sections.{Counted, machineOf-imageNumbers, counts-machineOf, imageNumbers-machineOf}
 use Rattle.image.proofs.Distinct.{flags-small, distinct-counted}
 
 -- ---- numbers, one after the other
@@ -71,41 +74,35 @@ held-every i (x ∷ l) = ap (λ (b : Bool). held i x && b) (held-every (suc i) l
 
 -- ---- entries, from the bottom up
 
--- an entry past the first is one of the words past four
-later-entry : (l : List ℕ) (n : ℕ) → entryAt (drop 4 l) n ≡ entryAt l (suc n)
-later-entry l n =
-    let e0 : 4 + 4 * n ≡ 4 * suc n = omega arith in
-    let e1 : 4 + (4 * n + 1) ≡ 4 * suc n + 1 = omega arith in
-    let e2 : 4 + (4 * n + 2) ≡ 4 * suc n + 2 = omega arith in
-    let e3 : 4 + (4 * n + 3) ≡ 4 * suc n + 3 = omega arith in
-    simp (getD-drop, e0, e1, e2, e3)
+-- the words of entry n
+abbrev pub entryWords : (n : ℕ) (words : List ℕ) → List ℕ
+entryWords n w = section (ENTRIES + 4 * n) 4 w
 
--- one entry more is last
-entries-more : (l : List ℕ) (n : ℕ) → entriesOf (suc n) l ≡ entriesOf n l ++ entryAt l n ∷ []
-unfolding entriesOf
-entries-more l zero = refl
-entries-more l (suc n) =
-    ap (λ (es : List Entry). entryAt l 0 ∷ es)
-    (entries-more (drop 4 l) n ∙ ap (λ (e : Entry). entriesOf n (drop 4 l) ++ e ∷ []) (later-entry l n))
+-- the stack is that of as many entries as its depth
+pub stack-of : (w : List ℕ) (n : ℕ) → n ≡ length (machineOf w .stack) → stackOf n w ≡ machineOf w .stack
+unfolding machineOf
+stack-of w n e = rw (e ∙ depth-is w)
 
--- and first on the stack
-pub stack-more : (l : List ℕ) (n : ℕ) → reverse (entriesOf (suc n) l) ≡ entryAt l n ∷ reverse (entriesOf n l)
-stack-more l n = rw (entries-more l n) (reverse-append (entriesOf n l) (entryAt l n ∷ []))
+-- an entry more is first on the stack
+module _ (t : Test) (w : List ℕ) where
+  pub pass-none : true ≡ allPass t (stackOf 0 w)
+  unfolding entriesOf allPass
+  pass-none = refl
 
-module _ (t : Test) (l : List ℕ) where
-  pub pass-more : (n : ℕ) → passes t (entryAt l n) && allPass t (reverse (entriesOf n l)) ≡ allPass t (reverse (entriesOf (n + 1) l))
+  pub pass-more : (n : ℕ) → passes t (entryOf (entryWords n w)) && allPass t (stackOf n w) ≡ allPass t (stackOf (n + 1) w)
   unfolding allPass
-  pass-more n = rw (add-one n, stack-more l n)
+  pass-more n = rw (add-one n, stack-top n w)
 
   -- where all pass, each does
-  pub pass-at : (n i : ℕ) → allPass t (reverse (entriesOf n l)) ≡ true → i < n → passes t (entryAt l i) ≡ true
+  pub pass-at : (n i : ℕ) → allPass t (stackOf n w) ≡ true → i < n → passes t (entryOf (entryWords i w)) ≡ true
   unfolding allPass
   pass-at zero i e h = absurd (omega arith)
   pass-at (suc n) i e h =
-      let p = and-parts (passes t (entryAt l n)) (allPass t (reverse (entriesOf n l))) (rw (stack-more l n) at e) in
+      let p = and-parts (passes t (entryOf (entryWords n w))) (allPass t (stackOf n w)) (rw (stack-top n w) at e) in
       go (ltb i n) refl (p .0) (pass-at n i (p .1))
     where
-      go : (b : Bool) → ltb i n ≡ b → passes t (entryAt l n) ≡ true → (i < n → passes t (entryAt l i) ≡ true) → passes t (entryAt l i) ≡ true
+      go : (b : Bool) → ltb i n ≡ b → passes t (entryOf (entryWords n w)) ≡ true → (i < n → passes t (entryOf (entryWords i w)) ≡ true)
+          → passes t (entryOf (entryWords i w)) ≡ true
       go true q first rest = rest (ltb-true i n q)
       go false q first rest = let s : i ≡ n = omega (arith, ltb-false i n q) in rw s first
 
@@ -113,20 +110,12 @@ pub source-small : (e : Entry) → passes Source e ≡ true → e .source < 12
 unfolding passes
 source-small e h = ltb-true (e .source) 12 h
 
-pub flags-more : (l : List ℕ) (n : ℕ) → serviceFlags (reverse (entriesOf (n + 1) l)) ≡ withFlag (getD l (4 * n) 0) (serviceFlags (reverse (entriesOf n l)))
-flags-more l n = rw (add-one n, stack-more l n) (flags-pushed (entryAt l n) (reverse (entriesOf n l)))
-
-pub flags-none : (l : List ℕ) → serviceFlags (reverse (entriesOf 0 l)) ≡ 0
+pub flags-none : (w : List ℕ) → 0 ≡ serviceFlags (stackOf 0 w)
 unfolding entriesOf serviceFlags sourcesOf flagsAt
-flags-none l = refl
+flags-none w = refl
 
-pub top-none : (l : List ℕ) → shownTop (reverse (entriesOf 0 l)) ≡ record { source = 0; address = 1; psr = 9; c0 = 0 }
-unfolding entriesOf shownTop
-top-none l = refl
-
-pub top-some : (l : List ℕ) (n : ℕ) → shownTop (reverse (entriesOf (suc n) l)) ≡ entryAt l n
-unfolding shownTop
-top-some l n = rw (stack-more l n)
+pub flags-more : (w : List ℕ) (n : ℕ) → withFlag (entryOf (entryWords n w) .source) (serviceFlags (stackOf n w)) ≡ serviceFlags (stackOf (n + 1) w)
+flags-more w n = sym (rw (add-one n, stack-top n w) (flags-pushed (entryOf (entryWords n w)) (stackOf n w)))
 
 -- ---- question 2
 
@@ -168,19 +157,48 @@ below-section m n l h =
     below-true (2 ^ 32) (section m n l) (below-take (2 ^ 32) n (drop m l) (lit< tt) (λ i. rw (getD-drop m l i 0) (h (m + i))))
 
 -- and so are the entries'
-range-entries : (l : List ℕ) (n : ℕ) → Below (2 ^ 32) l → entriesFit (reverse (entriesOf n l)) ≡ allPass Range (reverse (entriesOf n l))
+range-entries : (w : List ℕ) (n : ℕ) → Below (2 ^ 32) w → entriesFit (stackOf n w) ≡ allPass Range (stackOf n w)
 unfolding entriesFit allPass passes entriesOf
-range-entries l zero h = refl
-range-entries l (suc n) h =
-    rw (stack-more l n, range-entries l n h, lt-ltb (getD l (4 * n + 1) 0) (2 ^ 32) (h (4 * n + 1)))
+range-entries w zero h = refl
+range-entries w (suc n) h =
+    let at = ENTRIES + 4 * n in
+    rw (stack-top n w, range-entries w n h, section-at w at 4 1 (lit< tt), lt-ltb (getD w (at + 1) 0) (2 ^ 32) (h (at + 1)))
 
 pub numbers-words : (w : List ℕ) → Below (2 ^ 32) w
     → ltb (psr (machineOf w)) 32 && allBelow 8 (machineOf w .conditions) && allHeld 0 (machineOf w .control)
     && all (positionTests (machineOf w .position)) && allPass Range (machineOf w .stack) ≡ question3 (machineOf w)
 unfolding question3 numberTests all machineOf
 numbers-words w h =
-    simp (below-section SET1 32 w h, below-section SET2 32 w h,
-      range-entries (drop ENTRIES w) (getD w DEPTH 0) (λ i. rw (getD-drop ENTRIES w i 0) (h (ENTRIES + i))), and-assoc, and-true)
+    simp (below-section SET1 32 w h, below-section SET2 32 w h, range-entries w (getD w DEPTH 0) h, and-assoc, and-true)
+
+-- the largest number of a register's bits
+leb-largest : (x m : ℕ) → 0 < m → leb x (m - 1) ≡ ltb x m
+leb-largest x m p = go (ltb x m) refl
+  where
+    go : (b : Bool) → ltb x m ≡ b → leb x (m - 1) ≡ b
+    go true e = le-leb x (m - 1) (omega (arith, ltb-true x m e))
+    go false e = lt-leb x (m - 1) (omega (arith, ltb-false x m e))
+
+-- CCB_BASE's low byte is 0, FPU_STATUS is 0, CORE_VER_ID 1, and the others hold what has their bits
+module _ (x : ℕ) (h : x < 2 ^ 32) where
+  pub held-base : eqb (x % 256) 0 ≡ held 0x00 x
+  unfolding canHold registerAt registers holdsAs
+  held-base = simp (lt-ltb x (2 ^ 32) h, and-true)
+
+  pub held-status : eqb x 0 ≡ held 0x2B x
+  unfolding canHold registerAt registers holdsAs
+  held-status = simp (lt-ltb x (2 ^ 32) h, mod-one x)
+
+  pub held-version : eqb x 1 ≡ held 0x2C x
+  unfolding canHold registerAt registers holdsAs
+  held-version = simp (lt-ltb x (2 ^ 32) h, mod-one x)
+
+pub held-others : (n x : ℕ) → n < 45 → (n ≡ 0x00 → ⊥) → (n ≡ 0x2B → ⊥) → (n ≡ 0x2C → ⊥) → leb x (largest (registerAt n)) ≡ held n x
+unfolding canHold largest
+held-others n x l z s v =
+    let h : n < 0x2B = omega arith in
+    leb-largest x (2 ^ registerAt n .width) (pow-pos (registerAt n .width))
+    ∙ sym (rw (no-zeros n z, not-constant n x h, mod-one x) (and-true (ltb x (2 ^ registerAt n .width))))
 
 -- ---- question 4
 
@@ -222,11 +240,6 @@ module _ (m : Machine) where
   unfolding question5 stackTests all
   sources-counted e = simp (different-entries (m .stack), e, and-assoc, and-true)
 
-pub stack-depth : (w : List ℕ) → length (machineOf w .stack) ≡ getD w DEPTH 0
-unfolding machineOf
-stack-depth w =
-    length-reverse (entriesOf (getD w DEPTH 0) (drop ENTRIES w)) ∙ length-entriesOf (getD w DEPTH 0) (drop ENTRIES w)
-
 -- ---- the number of the first no
 
 module _ (m : Machine) where
@@ -254,7 +267,7 @@ refused-2 s m e = rw e
 
 -- the words before its last entry say the machine
 machine-front : (ws : List ℕ) → Counted ws → 129 + 4 * getD ws DEPTH 0 ≤ length ws → machineOf (take (129 + 4 * getD ws DEPTH 0) ws) ≡ machineOf ws
-machine-front ws c h = ap machineOf (sym (imageNumbers-machineOf ws c h)) ∙ machineOf-imageNumbers (machineOf ws) (counts-machineOf ws c h)
+machine-front ws c h = ap machineOf (sym (imageNumbers-machineOf ws c h)) ∙ machineOf-imageNumbers (machineOf ws) (counts-machineOf ws (omega arith))
 
 module _ (s : List ℕ) (e : question2 s ≡ true) where
   -- its numbers, counted
@@ -271,7 +284,7 @@ module _ (s : List ℕ) (e : question2 s ≡ true) where
       go (bytes also deep also set1 also set2 also conditions also control also position also no-more) =
           record {
             deep = leb-true _ 12 deep;
-            long = omega (arith, eqb-true _ _ bytes, length-numbersOf s);
+            long = omega (arith, eqb-true (length s) (516 + 16 * getD (numbersOf s) DEPTH 0) bytes, length-numbersOf s);
             counted = record {
                 set1 = eqb-true _ 32 set1;
                 set2 = eqb-true _ 32 set2;

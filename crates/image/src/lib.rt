@@ -1,16 +1,15 @@
 // The machine image: read, written, and at reset. An image becomes the machine's words once, and questions 3 to 5 are asked of those.
 ghost use mathlib.Core.Path.{_≡_};
 ghost use mathlib.Core.Bool.{true};
-ghost use mathlib.Core.List.{reverse};
 ghost use Prim.Native.Nat.{_+_, _*_, _≤_, _<_};
 ghost use lib.Dec.{eqb};
-ghost use lib.ListN.{length, getD};
+ghost use lib.ListN.{length};
 ghost use Rattle.codec.specs.Number.{over};
 ghost use Rattle.machine.specs.Control.{registerAt, canHold, reset as resetOf};
-ghost use Rattle.machine.specs.Stack.{serviceFlags, shownTop};
-ghost use Rattle.machine.specs.Words.{WORDS, DEPTH, entriesOf, machineOf};
+ghost use Rattle.machine.specs.Stack.{serviceFlags};
+ghost use Rattle.machine.specs.Words.{WORDS, ENTRIES, section, entryOf, machineOf};
 ghost use Rattle.image.specs.Questions.{all, implies, allBelow, allHeld, positionTests, setsFit, question3, question4, question5};
-ghost use Rattle.image.specs.Entries.{passes as passesOf, allPass, entryAt};
+ghost use Rattle.image.specs.Entries.{passes as passesOf, allPass};
 ghost use Rattle.image.specs.Image.{question2, askMachine, readImage, readBy, writeImage};
 
 // What questions 3, 4 and 5 ask of a stack entry.
@@ -44,16 +43,17 @@ fn sections_fit(image: &[u8]) -> bool
 
 // ---- stack entries
 
-// Entry i, counted from the bottom.
-fn entry(entries: &[u32], i: usize) -> machine::Entry
-    requires { ⌜ 4 * i + 4 ≤ length (now entries) ⌝ }
-    ensures { λ r. ⌜ r ≡ entryAt (now (entries .entry)) i ⌝ }
+// Entry i of the stack, counted from the bottom.
+fn entry(w: &[u32], i: usize) -> machine::Entry
+    requires { ⌜ (length (now w) ≡ WORDS) × (i < 12) ⌝ }
+    ensures { λ r. ⌜ r ≡ entryOf (section (ENTRIES + 4 * i) 4 (now (w .entry))) ⌝ }
 {
+    let at = 129 + 4 * i;
     machine::Entry {
-        source: entries[4 * i],
-        address: entries[4 * i + 1],
-        psr: entries[4 * i + 2],
-        c0: entries[4 * i + 3],
+        source: w[at],
+        address: w[at + 1],
+        psr: w[at + 2],
+        c0: w[at + 3],
     }
 }
 
@@ -75,14 +75,15 @@ fn passes(t: Test, e: machine::Entry) -> bool
     }
 }
 
-// Whether the n lowest entries pass a test.
-fn entries_pass(t: Test, entries: &[u32], n: usize) -> bool
-    requires { ⌜ 4 * n ≤ length (now entries) ⌝ }
-    ensures { λ r. ⌜ r ≡ allPass t (reverse (entriesOf n (now (entries .entry)))) ⌝ }
+// Whether every entry of the stack passes a test.
+fn entries_pass(t: Test, w: &[u32]) -> bool
+    requires { ⌜ (length (now w) ≡ WORDS) × (length (machineOf (now w) .stack) ≤ 12) ⌝ }
+    ensures { λ r. ⌜ r ≡ allPass t (machineOf (now (w .entry)) .stack) ⌝ }
 {
+    let n = machine::depth(w) as usize;
     let mut all = true;
     for i in 0..n {
-        all = passes(t, entry(entries, i)) & all;
+        all = passes(t, entry(w, i)) & all;
     }
     all
 }
@@ -151,15 +152,14 @@ fn all_held(registers: &[u32]) -> bool
 
 // Whether every number is one that its register can hold.
 fn numbers_fit(w: &[u32]) -> bool
-    requires { ⌜ (length (now w) ≡ WORDS) × (getD (now w) DEPTH 0 ≤ 12) ⌝ }
+    requires { ⌜ (length (now w) ≡ WORDS) × (length (machineOf (now w) .stack) ≤ 12) ⌝ }
     ensures { λ r. ⌜ r ≡ question3 (machineOf (now (w .entry))) ⌝ }
 {
-    let depth = w[128] as usize;
     let status = machine::psr(w) < 32;
     let conditions = all_below(&w[67..75], 8);
     let control = all_held(&w[76..121]);
     let position = position_fits(machine::position_of(w));
-    let entries = entries_pass(Test::Range, &w[129..], depth);
+    let entries = entries_pass(Test::Range, w);
     status & conditions & control & position & entries
 }
 
@@ -167,56 +167,39 @@ fn numbers_fit(w: &[u32]) -> bool
 
 // Whether every current or stacked status with UM 1 has both set bits 0.
 fn modes_fit(w: &[u32]) -> bool
-    requires { ⌜ (length (now w) ≡ WORDS) × (getD (now w) DEPTH 0 ≤ 12) ⌝ }
+    requires { ⌜ (length (now w) ≡ WORDS) × (length (machineOf (now w) .stack) ≤ 12) ⌝ }
     ensures { λ r. ⌜ r ≡ question4 (machineOf (now (w .entry))) ⌝ }
 {
-    let depth = w[128] as usize;
-    sets_fit(machine::psr(w)) & entries_pass(Test::Mode, &w[129..], depth)
+    sets_fit(machine::psr(w)) & entries_pass(Test::Mode, w)
 }
 
 // ---- question 5
 
-// The flags of the sources of the n lowest entries.
-fn service_flags(entries: &[u32], n: usize) -> u32
-    requires { ⌜ (4 * n ≤ length (now entries)) × (allPass Test.Source (reverse (entriesOf n (now entries))) ≡ true) ⌝ }
-    ensures { λ r. ⌜ r ≡ serviceFlags (reverse (entriesOf n (now (entries .entry)))) ⌝ }
+// The flags of the sources on the stack.
+fn service_flags(w: &[u32]) -> u32
+    requires { ⌜ (length (now w) ≡ WORDS) × (length (machineOf (now w) .stack) ≤ 12) ⌝ }
+    requires sources { ⌜ allPass Test.Source (machineOf (now w) .stack) ≡ true ⌝ }
+    ensures { λ r. ⌜ r ≡ serviceFlags (machineOf (now (w .entry)) .stack) ⌝ }
 {
+    let n = machine::depth(w) as usize;
     let mut flags = 0;
     for i in 0..n {
-        flags = word::with_flag(flags, entries[4 * i]);
+        let e = entry(w, i);
+        flags = word::with_flag(flags, e.source);
     }
     flags
 }
 
-// The top of n entries, or what the RETI_ registers show when there is none.
-fn shown_top(entries: &[u32], n: usize) -> machine::Entry
-    requires { ⌜ 4 * n ≤ length (now entries) ⌝ }
-    ensures { λ r. ⌜ r ≡ shownTop (reverse (entriesOf n (now (entries .entry)))) ⌝ }
-{
-    if n == 0 {
-        machine::Entry {
-            source: 0,
-            address: 1,
-            psr: 9,
-            c0: 0,
-        }
-    } else {
-        entry(entries, n - 1)
-    }
-}
-
 // Whether the stack's sources are below 12, all different and those of INT_SERV, and RETI_ is its top.
 fn stack_fits(w: &[u32]) -> bool
-    requires { ⌜ (length (now w) ≡ WORDS) × (getD (now w) DEPTH 0 ≤ 12) ⌝ }
+    requires { ⌜ (length (now w) ≡ WORDS) × (length (machineOf (now w) .stack) ≤ 12) ⌝ }
     ensures { λ r. ⌜ r ≡ question5 (machineOf (now (w .entry))) ⌝ }
 {
-    let depth = w[128];
-    let n = depth as usize;
-    if entries_pass(Test::Source, &w[129..], n) {
-        let flags = service_flags(&w[129..], n);
-        let different = word::ones(flags) == depth;
+    if entries_pass(Test::Source, w) {
+        let flags = service_flags(w);
+        let different = word::ones(flags) == machine::depth(w);
         let served = machine::control(w, 0x13) == flags;
-        let top = shown_top(&w[129..], n);
+        let top = machine::top(w);
         let address = machine::control(w, 0x28) == top.address;
         let psr = machine::control(w, 0x29) == top.psr;
         let c0 = machine::control(w, 0x2A) == top.c0;
@@ -230,7 +213,7 @@ fn stack_fits(w: &[u32]) -> bool
 
 // The number of the first of questions 3 to 5 that says no, or 0.
 fn refusal(w: &[u32]) -> u32
-    requires { ⌜ (length (now w) ≡ WORDS) × (getD (now w) DEPTH 0 ≤ 12) ⌝ }
+    requires { ⌜ (length (now w) ≡ WORDS) × (length (machineOf (now w) .stack) ≤ 12) ⌝ }
     ensures { λ r. ⌜ readBy r (machineOf (now (w .entry))) ≡ askMachine (machineOf (now (w .entry))) ⌝ }
 {
     if numbers_fit(w) {
@@ -261,10 +244,10 @@ pub fn read(image: &[u8], w: &mut [u32]) -> u32
 
 // Writes the machine's image to the front of a longer buffer, whose further bytes stay.
 pub fn write(w: &mut [u32], buffer: &mut [u8])
-    requires { ⌜ (length (now w) ≡ WORDS) × (getD (now w) DEPTH 0 ≤ 12) × (708 ≤ length (now buffer)) ⌝ }
+    requires { ⌜ (length (now w) ≡ WORDS) × (length (machineOf (now w) .stack) ≤ 12) × (708 ≤ length (now buffer)) ⌝ }
     ensures { λ _. ⌜ now (buffer .exit) ≡ over (writeImage (machineOf (now (w .entry)))) (now (buffer .entry)) ⌝ }
 {
-    let n = 129 + 4 * (w[128] as usize);
+    let n = 129 + 4 * (machine::depth(w) as usize);
     w[0] = 32;
     w[33] = 32;
     w[66] = 8;

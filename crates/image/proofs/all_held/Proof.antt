@@ -65,4 +65,3 @@ all-held-spec =
     loop-again
     returns
     returns-2)
-

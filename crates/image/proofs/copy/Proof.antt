@@ -1,53 +1,53 @@
+-- `copy` meets its contract: the numbers before place `i` are copied. Assumes nothing.
+use mathlib.Core.Path.{_≡_, sym, _∙_}
+use Prim.Native.Nat.{_≤_, _-_}
+use native.Mathlib.Omega.{arith}
+use lib.ListN.{length, take}
+use lib.Seq.{take-all}
+use borrow.Author.Needs.{needs}
+use Rattle.image.proofs.Writing.{copy-more}
 use Rattle.image.proofs.copy.Statement.{statement}
 use Rattle.image.proofs.copy.Tie as tie
-use Rattle.image.proofs.copy.Reads as reads
-use Rattle.image.proofs.copy.Lts as lts
 
 abbrev Inv-loop : tie.InvT-loop
-Inv-loop from to₀ i₀ i-end to i = ?
+Inv-loop from to₀ i₀ i-end to i = (i ≤ length from) × ((length to ≡ length to₀) × (take i to ≡ take i from))
 
 abbrev μ-loop : tie.MeasureT-loop
-μ-loop from to₀ i₀ i-end to i = ?
+μ-loop from to₀ i₀ i-end to i = i-end - i
 
--- src/lib.rt:295:5
 loop-holds : tie.Need-loop-holds Inv-loop μ-loop
-loop-holds c = ?
+loop-holds c = search needs
 
--- src/lib.rt:296:17
 mul-to : tie.Need-mul-to Inv-loop μ-loop
-mul-to c = ?
+mul-to c = search needs
 
--- src/lib.rt:296:17
 shared-slice-read-to : tie.Need-shared-slice-read-to Inv-loop μ-loop
-shared-slice-read-to c = ?
+shared-slice-read-to c = search needs
 
--- src/lib.rt:296:9
 mul-to-2 : tie.Need-mul-to-2 Inv-loop μ-loop
-mul-to-2 c = ?
+mul-to-2 c = search needs
 
--- src/lib.rt:296:9
 slice-write-to : tie.Need-slice-write-to Inv-loop μ-loop
-slice-write-to c = ?
+slice-write-to c = search needs
 
--- src/lib.rt:295:9
 add-i : tie.Need-add-i Inv-loop μ-loop
-add-i c = ?
+add-i c = search needs
 
--- src/lib.rt:295:5
 loop-less : tie.Need-loop-less Inv-loop μ-loop
-loop-less c = ?
+loop-less c = search needs
 
--- src/lib.rt:295:5
 loop-again : tie.Need-loop-again Inv-loop μ-loop
-loop-again c = ?
+loop-again c = let l = c .before .before .loop in
+    let args = c .before .before .before .args in
+    (search needs, (search needs, copy-more (l .to) (args .from .now) (l .i) (omega arith) (omega arith) (l .inv .1 .1)))
 
--- src/lib.rt:291:1
 same-length : tie.Need-same-length Inv-loop μ-loop
-same-length c = ?
+same-length c = search needs
 
--- src/lib.rt:291:1
 returns : tie.Need-returns Inv-loop μ-loop
-returns c = ?
+returns c = let l = c .before .loop in
+    let s = c .before .before .args .from .now in
+    sym (take-all (l .i) (l .to) (omega arith)) ∙ l .inv .1 .1 ∙ take-all (l .i) s (omega arith)
 
 pub copy-spec : {M : Type 1} → statement M
 copy-spec =
@@ -65,3 +65,4 @@ copy-spec =
     loop-again
     same-length
     returns)
+

@@ -1,16 +1,9 @@
 -- `numbers_fit` meets its contract: the registers of both sets are words. Assumes nothing.
-use native.Mathlib.Omega.{arith}
 use borrow.Author.Needs.{needs}
 use Rattle.machine.specs.Words.{machineOf}
 use Rattle.image.proofs.Reading.{numbers-words}
 use Rattle.image.proofs.numbers_fit.Statement.{statement}
 use Rattle.image.proofs.numbers_fit.Tie as tie
-
-shared-slice-read-depth : tie.Need-shared-slice-read-depth
-shared-slice-read-depth c = search needs
-
-cast-depth : tie.Need-cast-depth
-cast-depth c = search needs
 
 psr-requires : tie.Need-psr-requires
 psr-requires c κs = search needs
@@ -45,29 +38,16 @@ position-of-requires c κs = search needs
 position-fits-requires : tie.Need-position-fits-requires
 position-fits-requires c κs = search needs
 
-sub-entries-pass : tie.Need-sub-entries-pass
-sub-entries-pass c = search needs
-
-part-entries-pass-start : tie.Need-part-entries-pass-start
-part-entries-pass-start c = search needs
-
-part-entries-pass-end : tie.Need-part-entries-pass-end
-part-entries-pass-end c = search needs
-
 entries-pass-requires : tie.Need-entries-pass-requires
 entries-pass-requires c κs = search needs
 
 returns : tie.Need-returns
-unfolding machineOf
-returns c = let known = c .before .before .before .before .before .before .before .before .before .before in
-    cc (numbers-words (known .before .args .w .now) (λ i. omega (arith, known .shared-slice-known .given i)))
+returns c = ?
 
 pub numbers-fit-spec : {M : Type 1} → statement M
 numbers-fit-spec =
     tie.close
     (tie.spec
-    shared-slice-read-depth
-    cast-depth
     psr-requires
     sub-all-below
     part-all-below-start
@@ -79,9 +59,6 @@ numbers-fit-spec =
     all-held-requires
     position-of-requires
     position-fits-requires
-    sub-entries-pass
-    part-entries-pass-start
-    part-entries-pass-end
     entries-pass-requires
     returns)
 

@@ -1,40 +1,42 @@
 -- `service_flags` meets its contract: one entry more sets the flag of its source. Assumes nothing.
 use mathlib.Core.Path.{_≡_, sym, ap, _∙_}
-use mathlib.Core.List.{reverse}
-use Prim.Native.Nat.{ℕ, _≤_, _-_}
+use mathlib.Core.Bool.{true}
+use Prim.Native.Nat.{_≤_, _-_}
 use native.Mathlib.Omega.{arith}
 use borrow.Author.Needs.{needs}
-use Rattle.machine.specs.Words.{entriesOf}
 use Rattle.machine.specs.Stack.{serviceFlags}
-use Rattle.image.specs.Entries.{entryAt}
+use Rattle.machine.proofs.Flat.{stackOf}
+use Rattle.image.specs.Entries.{allPass}
 use Rattle.image.specs.declared.Test.the-variants.{Source}
-use Rattle.image.proofs.Reading.{pass-at, source-small, flags-none, flags-more}
+use Rattle.image.proofs.Reading.{entryWords, stack-of, pass-at, source-small, flags-none, flags-more}
 use Rattle.image.proofs.service_flags.Statement.{statement}
 use Rattle.image.proofs.service_flags.Tie as tie
 
 abbrev Inv-loop : tie.InvT-loop
-Inv-loop entries n flags₀ i₀ flags i = (i ≤ n) × (flags ≡ serviceFlags (reverse (entriesOf i entries)))
+Inv-loop w n flags₀ i₀ flags i = (i ≤ n) × (flags ≡ serviceFlags (stackOf i w))
 
 abbrev μ-loop : tie.MeasureT-loop
-μ-loop entries n flags₀ i₀ flags i = n - i
+μ-loop w n flags₀ i₀ flags i = n - i
+
+depth-requires : tie.Need-depth-requires Inv-loop μ-loop
+depth-requires c κs = search needs
+
+cast-n : tie.Need-cast-n Inv-loop μ-loop
+cast-n c = search needs
 
 loop-holds : tie.Need-loop-holds Inv-loop μ-loop
-loop-holds c = (search needs, sym (flags-none _))
+loop-holds c = (search needs, flags-none (c .before .before .args .w .now))
 
-mul-with-flag : tie.Need-mul-with-flag Inv-loop μ-loop
-mul-with-flag c = search needs
-
-mul-with-flag-2 : tie.Need-mul-with-flag-2 Inv-loop μ-loop
-mul-with-flag-2 c = search needs
-
-shared-slice-read-with-flag : tie.Need-shared-slice-read-with-flag Inv-loop μ-loop
-shared-slice-read-with-flag c = search needs
+entry-requires : tie.Need-entry-requires Inv-loop μ-loop
+entry-requires c κs = omega arith
 
 with-flag-requires : tie.Need-with-flag-requires Inv-loop μ-loop
-with-flag-requires c κs = let start = c .before .before .before .before in
-    let l = start .args .entries .now in
-    let i = c .before .before .loop .i in
-    omega (arith, source-small (entryAt l i) (pass-at Source l (start .args .n) i (start .pre .1) (c .before .loop-test .taken)))
+with-flag-requires c κs = let start = c .before .before .before .before .before in
+    let w = start .args .w .now in
+    let n = c .before .before .before .depth in
+    let all : allPass Source (stackOf (n .result) w) ≡ true = ap (allPass Source) (stack-of w (n .result) (n .ensures)) ∙ start .pre .1 in
+    let e = source-small _ (pass-at Source w (n .result) (c .before .before .loop .i) all (c .before .loop-test .taken)) in
+    rw (c .entry .ensures) (omega arith)
 
 add-i : tie.Need-add-i Inv-loop μ-loop
 add-i c = search needs
@@ -43,12 +45,15 @@ loop-less : tie.Need-loop-less Inv-loop μ-loop
 loop-less c = search needs
 
 loop-again : tie.Need-loop-again Inv-loop μ-loop
-loop-again c = let more = flags-more (c .before .before .before .before .before .args .entries .now) (c .before .before .before .loop .i) in
-    (search needs, cc)
+loop-again c = let w = c .before .before .before .before .before .before .args .w .now in
+    let l = c .before .before .before .loop in
+    (search needs, rw (c .with-flag .ensures, c .before .entry .ensures, l .inv .1) (flags-more w (l .i)))
 
 returns : tie.Need-returns Inv-loop μ-loop
-returns c = let e : c .before .loop .i ≡ c .before .before .before .args .n = omega arith in
-    cc
+returns c = let w = c .before .before .before .before .args .w .now in
+    let i = c .before .loop .i in
+    let e : i ≡ c .before .before .depth .result = omega arith in
+    c .before .loop .inv .1 ∙ ap serviceFlags (stack-of w i (e ∙ c .before .before .depth .ensures))
 
 pub service-flags-spec : {M : Type 1} → statement M
 service-flags-spec =
@@ -56,10 +61,10 @@ service-flags-spec =
     (tie.spec
     Inv-loop
     μ-loop
+    depth-requires
+    cast-n
     loop-holds
-    mul-with-flag
-    mul-with-flag-2
-    shared-slice-read-with-flag
+    entry-requires
     with-flag-requires
     add-i
     loop-less

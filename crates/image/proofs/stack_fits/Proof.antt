@@ -1,57 +1,28 @@
 -- `stack_fits` meets its contract: sources are all different exactly when their flags have as many ones as the stack has entries. Assumes nothing.
+use mathlib.Core.Path.{sym, _∙_}
 use borrow.Author.Needs.{needs}
 use Rattle.machine.specs.Words.{machineOf}
-use Rattle.image.proofs.Reading.{service-small, sources-refused, sources-counted, stack-depth}
+use Rattle.image.proofs.Reading.{service-small, sources-refused, sources-counted}
 use Rattle.image.proofs.stack_fits.Statement.{statement}
 use Rattle.image.proofs.stack_fits.Tie as tie
-
-shared-slice-read-depth : tie.Need-shared-slice-read-depth
-shared-slice-read-depth c = search needs
-
-cast-n : tie.Need-cast-n
-cast-n c = search needs
-
-sub-entries-pass : tie.Need-sub-entries-pass
-sub-entries-pass c = search needs
-
-part-entries-pass-start : tie.Need-part-entries-pass-start
-part-entries-pass-start c = search needs
-
-part-entries-pass-end : tie.Need-part-entries-pass-end
-part-entries-pass-end c = search needs
 
 entries-pass-requires : tie.Need-entries-pass-requires
 entries-pass-requires c κs = search needs
 
-sub-service-flags : tie.Need-sub-service-flags
-sub-service-flags c = search needs
-
-part-service-flags-start : tie.Need-part-service-flags-start
-part-service-flags-start c = search needs
-
-part-service-flags-end : tie.Need-part-service-flags-end
-part-service-flags-end c = search needs
-
 service-flags-requires : tie.Need-service-flags-requires
-service-flags-requires c κs = ?
+service-flags-requires c κs = (search needs, sym (c .before .entries-pass .ensures) ∙ c .if1 .taken)
 
 ones-requires : tie.Need-ones-requires
-ones-requires c κs = ?
+ones-requires c κs = rw (c .service-flags .ensures) (service-small _ (sym (c .before .before .entries-pass .ensures) ∙ c .before .if1 .taken))
+
+depth-requires : tie.Need-depth-requires
+depth-requires c κs = search needs
 
 control-requires : tie.Need-control-requires
 control-requires c κs = search needs
 
-sub-shown-top : tie.Need-sub-shown-top
-sub-shown-top c = search needs
-
-part-shown-top-start : tie.Need-part-shown-top-start
-part-shown-top-start c = search needs
-
-part-shown-top-end : tie.Need-part-shown-top-end
-part-shown-top-end c = search needs
-
-shown-top-requires : tie.Need-shown-top-requires
-shown-top-requires c κs = search needs
+top-requires : tie.Need-top-requires
+top-requires c κs = search needs
 
 control-requires-2 : tie.Need-control-requires-2
 control-requires-2 c κs = search needs
@@ -63,31 +34,33 @@ control-requires-4 : tie.Need-control-requires-4
 control-requires-4 c κs = search needs
 
 returns : tie.Need-returns
-returns c = ?
+returns c = let after-flags = c .before .before .before .before .before .before .before .before .before .before in
+    let m = machineOf (after-flags .before .before .before .before .args .w .now) in
+    rw (
+      c .before .control4 .ensures,
+      c .before .before .before .control3 .ensures,
+      c .before .before .before .before .before .control2 .ensures,
+      c .before .before .before .before .before .before .top .ensures,
+      c .before .before .before .before .before .before .before .control .ensures,
+      c .before .before .before .before .before .before .before .before .depth .ensures,
+      c .before .before .before .before .before .before .before .before .before .ones .ensures,
+      after-flags .service-flags .ensures,
+    )
+    (sources-counted m (sym (after-flags .before .before .entries-pass .ensures) ∙ after-flags .before .if1 .taken))
 
 returns-2 : tie.Need-returns-2
-returns-2 c = ?
+returns-2 c = sources-refused _ (sym (c .before .entries-pass .ensures) ∙ c .if1 .left)
 
 pub stack-fits-spec : {M : Type 1} → statement M
 stack-fits-spec =
     tie.close
     (tie.spec
-    shared-slice-read-depth
-    cast-n
-    sub-entries-pass
-    part-entries-pass-start
-    part-entries-pass-end
     entries-pass-requires
-    sub-service-flags
-    part-service-flags-start
-    part-service-flags-end
     service-flags-requires
     ones-requires
+    depth-requires
     control-requires
-    sub-shown-top
-    part-shown-top-start
-    part-shown-top-end
-    shown-top-requires
+    top-requires
     control-requires-2
     control-requires-3
     control-requires-4
