@@ -2,7 +2,7 @@
 use mathlib.Core.Path.{_≡_, refl, sym, ap, _∙_}
 use mathlib.Core.Bool.{Bool, true, false, true≢false, _&&_, and-true, and-false, and-assoc}
 use mathlib.Core.List.{List, [], _∷_, _++_, reverse}
-use Prim.Native.Nat.{ℕ, zero, suc, _+_, _-_, _*_, _%_, _^_, _≤_, _<_}
+use Prim.Native.Nat.{ℕ, zero, suc, _+_, _-_, _*_, _/_, _%_, _^_, _≤_, _<_}
 use native.Mathlib.Omega.{arith}
 use native.Mathlib.Nat.{mod-one}
 use native.Mathlib.Numerals.{add-one}
@@ -19,7 +19,7 @@ use Rattle.codec.proofs.Laws.{Below, getD-numbersOf, length-numbersOf, take-ove
 use Rattle.machine.specs.Machine.{Machine, psr}
 use Rattle.machine.specs.Control.{Register, registers, registerAt, controlAt, largest, holdsAs, canHold, INT-SERV, RETI-ADDR, RETI-PSR, RETI-CR0}
 use Rattle.machine.specs.Stack.{sourcesOf, serviceFlags, shownTop}
-use Rattle.machine.specs.Words.{SET1, SET2, DEPTH, ENTRIES, section, entryOf, entriesOf, machineOf}
+use Rattle.machine.specs.Words.{SET1, SET2, DEPTH, ENTRIES, WORDS, section, entryOf, entriesOf, machineOf}
 use Rattle.machine.specs.declared.Position.{Position}
 use Rattle.machine.specs.declared.Entry.{Entry}
 use Rattle.machine.proofs.Stack.{flags-pushed}
@@ -133,8 +133,17 @@ module _ (s : List ℕ) where
       && eqb (numberAt s 300) 45 && eqb (numberAt s 484) 6 ≡ question2 s
   unfolding question2 sectionTests all
   sections-counted h d =
-      simp (getD-numbersOf s 128 h, getD-numbersOf s 0 (omega arith), getD-numbersOf s 33 (omega arith), getD-numbersOf s 66 (omega arith),
-        getD-numbersOf s 75 (omega arith), getD-numbersOf s 121 (omega arith), le-leb (numberAt s 512) 12 d, and-assoc, and-true)
+      simp (
+        getD-numbersOf s 128 h,
+        getD-numbersOf s 0 (omega arith),
+        getD-numbersOf s 33 (omega arith),
+        getD-numbersOf s 66 (omega arith),
+        getD-numbersOf s 75 (omega arith),
+        getD-numbersOf s 121 (omega arith),
+        le-leb (numberAt s 512) 12 d,
+        and-assoc,
+        and-true,
+      )
 
 -- ---- question 3
 
@@ -286,10 +295,46 @@ module _ (s : List ℕ) (e : question2 s ≡ true) where
             deep = leb-true _ 12 deep;
             long = omega (arith, eqb-true (length s) (516 + 16 * getD (numbersOf s) DEPTH 0) bytes, length-numbersOf s);
             counted = record {
-                set1 = eqb-true _ 32 set1;
-                set2 = eqb-true _ 32 set2;
-                conditions = eqb-true _ 8 conditions;
-                control = eqb-true _ 45 control;
-                position = eqb-true _ 6 position;
-              };
+              set1 = eqb-true _ 32 set1;
+              set2 = eqb-true _ 32 set2;
+              conditions = eqb-true _ 8 conditions;
+              control = eqb-true _ 45 control;
+              position = eqb-true _ 6 position;
+            };
           }
+
+-- its numbers, laid over the words
+module _ (s w : List ℕ) (e : question2 s ≡ true) (h : length w ≡ WORDS) where
+  pub read-fits : length s / 4 ≤ length w
+  read-fits = let z = sized s e in omega (arith, length-numbersOf s)
+
+  read-depth : getD (over (numbersOf s) w) DEPTH 0 ≡ getD (numbersOf s) DEPTH 0
+  read-depth = let z = sized s e in getD-over-front (numbersOf s) w DEPTH (omega arith)
+
+  read-counted : Counted (over (numbersOf s) w)
+  read-counted =
+      let z = sized s e in
+      record {
+        set1 = getD-over-front (numbersOf s) w 0 (omega arith) ∙ z .counted .set1;
+        set2 = getD-over-front (numbersOf s) w 33 (omega arith) ∙ z .counted .set2;
+        conditions = getD-over-front (numbersOf s) w 66 (omega arith) ∙ z .counted .conditions;
+        control = getD-over-front (numbersOf s) w 75 (omega arith) ∙ z .counted .control;
+        position = getD-over-front (numbersOf s) w 121 (omega arith) ∙ z .counted .position;
+      }
+
+  pub read-length : length (over (numbersOf s) w) ≡ WORDS
+  read-length = let z = sized s e in length-over (numbersOf s) w (omega arith) ∙ h
+
+  pub read-deep : length (machineOf (over (numbersOf s) w) .stack) ≤ 12
+  read-deep = let z = sized s e in omega (arith, depth-is (over (numbersOf s) w), read-depth)
+
+  -- say the machine of the image
+  pub read-machine : askMachine (machineOf (over (numbersOf s) w)) ≡ readImage s
+  unfolding readImage if_then_else_
+  read-machine =
+      let z = sized s e in
+      let l : 129 + 4 * getD (over (numbersOf s) w) DEPTH 0 ≡ length (numbersOf s) = rw read-depth (omega arith) in
+      let front : take (129 + 4 * getD (over (numbersOf s) w) DEPTH 0) (over (numbersOf s) w) ≡ numbersOf s = rw l (take-over (numbersOf s) w) in
+      let all = machine-front (over (numbersOf s) w) read-counted (omega (arith, read-length)) in
+      let asked : readImage s ≡ askMachine (machineOf (numbersOf s)) = rw e in
+      sym (asked ∙ ap askMachine (ap machineOf (sym front) ∙ all))

@@ -260,14 +260,51 @@ pub fn write(w: &mut [u32], buffer: &mut [u8])
 
 // The control registers at reset (002 section 2.9), by offset.
 const CONTROL: [u32; 45] = [
-    0x0001_0000, 0x0001_0100, 0x0001_01FF, 0x0000_00FF, // CCB_BASE, PCB_BASE, PCB_END, PCB_AMASK
-    1, 1, 1, 1, 1, 1, 1, 1, 1, 1, 1, 1, // interrupt vectors
-    0xFFF, 0xFFF, 0, 0, 0, 0, 0, // INT_MODE_IL, INT_MODE_UM, INT_MASK, INT_SERV, INT_PEND, EXT_INT_PRI, COP_INT_PRI
-    0, 0, 0, // EXCEPTION_CS, EXCEPTION_PC, EXCEPTION_PSR
-    0, 0xFFFF_FFFF, 0, 0xFFFF_FFFF, 3, // DMEM_BOUND_LO, DMEM_BOUND_HI, IMEM_BOUND_LO, IMEM_BOUND_HI, MEM_CONF
-    0, 0, 0xFFF, 0, // SYSTEM_ADDR, EXCEP_ADDR, BUS_CONF, COP_CONF
-    0, 0, 0, 0, 0, // timers
-    1, 9, 0, 0, 1, // RETI_ADDR, RETI_PSR, RETI_CR0, FPU_STATUS, CORE_VER_ID
+    0x0001_0000, // CCB_BASE
+    0x0001_0100, // PCB_BASE
+    0x0001_01FF, // PCB_END
+    0x0000_00FF, // PCB_AMASK
+    1, // COP0_INT_VEC
+    1, // COP1_INT_VEC
+    1, // COP2_INT_VEC
+    1, // COP3_INT_VEC
+    1, // EXT_INT0_VEC
+    1, // EXT_INT1_VEC
+    1, // EXT_INT2_VEC
+    1, // EXT_INT3_VEC
+    1, // EXT_INT4_VEC
+    1, // EXT_INT5_VEC
+    1, // EXT_INT6_VEC
+    1, // EXT_INT7_VEC
+    0xFFF, // INT_MODE_IL
+    0xFFF, // INT_MODE_UM
+    0, // INT_MASK
+    0, // INT_SERV
+    0, // INT_PEND
+    0, // EXT_INT_PRI
+    0, // COP_INT_PRI
+    0, // EXCEPTION_CS
+    0, // EXCEPTION_PC
+    0, // EXCEPTION_PSR
+    0, // DMEM_BOUND_LO
+    0xFFFF_FFFF, // DMEM_BOUND_HI
+    0, // IMEM_BOUND_LO
+    0xFFFF_FFFF, // IMEM_BOUND_HI
+    3, // MEM_CONF
+    0, // SYSTEM_ADDR
+    0, // EXCEP_ADDR
+    0xFFF, // BUS_CONF
+    0, // COP_CONF
+    0, // TMR0_CNT
+    0, // TMR0_MAX_CNT
+    0, // TMR1_CNT
+    0, // TMR1_MAX_CNT
+    0, // TMR_CONF
+    1, // RETI_ADDR
+    9, // RETI_PSR
+    0, // RETI_CR0
+    0, // FPU_STATUS
+    1, // CORE_VER_ID
 ];
 
 // Copies numbers to a slice of the same length.
@@ -285,10 +322,10 @@ pub fn reset(w: &mut [u32])
     requires { ⌜ length (now w) ≡ WORDS ⌝ }
     ensures { λ _. ⌜ machineOf (now (w .exit)) ≡ resetOf ⌝ }
 {
-    let zeros = [0u32; 129];
-    copy(&zeros, &mut w[..129]);
-    w[63] = 0x0E; // PSR
-    w[64] = 9; // SPSR
     let control = CONTROL;
-    copy(&control, &mut w[76..121]);
+    let mut numbers = [0u32; 129];
+    numbers[63] = 0x0E; // PSR
+    numbers[64] = 9; // SPSR
+    copy(&control, &mut numbers[76..121]);
+    copy(&numbers, &mut w[..129]);
 }

@@ -65,4 +65,3 @@ copy-spec =
     loop-again
     same-length
     returns)
-

@@ -63,4 +63,3 @@ entries-pass-spec =
     loop-less
     loop-again
     returns)
-

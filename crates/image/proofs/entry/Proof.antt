@@ -67,4 +67,3 @@ entry-spec =
     mul-t16
     shared-slice-read-t18
     returns)
-

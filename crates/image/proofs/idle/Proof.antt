@@ -14,4 +14,3 @@ returns-2 c = simp (ne-eqb _ _ (c .if1 .left))
 
 pub idle-spec : {M : Type 1} → statement M
 idle-spec = tie.close (tie.spec returns returns-2)
-

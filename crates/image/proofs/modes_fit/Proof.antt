@@ -20,4 +20,3 @@ returns c = rw (c .entries-pass .ensures, c .before .sets-fit .ensures, c .befor
 
 pub modes-fit-spec : {M : Type 1} → statement M
 modes-fit-spec = tie.close (tie.spec psr-requires sets-fit-requires entries-pass-requires returns)
-

@@ -1,4 +1,5 @@
 -- `numbers_fit` meets its contract: the registers of both sets are words. Assumes nothing.
+use native.Mathlib.Omega.{arith}
 use borrow.Author.Needs.{needs}
 use Rattle.machine.specs.Words.{machineOf}
 use Rattle.image.proofs.Reading.{numbers-words}
@@ -42,7 +43,17 @@ entries-pass-requires : tie.Need-entries-pass-requires
 entries-pass-requires c κs = search needs
 
 returns : tie.Need-returns
-returns c = ?
+unfolding machineOf
+returns c = let known = c .before .before .before .before .before .before .before .before in
+    rw (
+      c .entries-pass .ensures,
+      c .before .position-fits .ensures,
+      c .before .before .position-of .ensures,
+      c .before .before .before .all-held .ensures,
+      c .before .before .before .before .before .all-below .ensures,
+      c .before .before .before .before .before .before .before .psr .ensures,
+    )
+    (numbers-words (known .before .args .w .now) (λ i. omega (arith, known .shared-slice-known .given i)))
 
 pub numbers-fit-spec : {M : Type 1} → statement M
 numbers-fit-spec =
@@ -61,4 +72,3 @@ numbers-fit-spec =
     position-fits-requires
     entries-pass-requires
     returns)
-

@@ -32,4 +32,3 @@ pub passes-spec : {M : Type 1} → statement M
 passes-spec =
     tie.close
     (tie.spec enum-told enum-told-2 sets-fit-requires enum-told-3 returns returns-2 returns-3)
-

@@ -20,4 +20,3 @@ returns c = let p = c .before .before .before .before .before .args .p in
 
 pub position-fits-spec : {M : Type 1} → statement M
 position-fits-spec = tie.close (tie.spec idle-requires idle-requires-2 idle-requires-3 returns)
-

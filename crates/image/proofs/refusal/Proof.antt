@@ -42,4 +42,3 @@ refusal-spec =
     returns-2
     returns-3
     returns-4)
-

@@ -1,76 +1,66 @@
+-- `reset` meets its contract: the numbers copied are those of the machine at reset, which no word past them changes. Assumes nothing.
+use mathlib.Core.Path.{_≡_, sym}
+use native.Mathlib.Omega.{arith}
+use lib.Seq.{length-take-le}
 use borrow.Author.Needs.{needs}
+use Rattle.machine.specs.Computed.{machines}
 use Rattle.image.proofs.reset.Statement.{statement}
 use Rattle.image.proofs.reset.Tie as tie
-use Rattle.image.proofs.reset.Reads as reads
-use Rattle.image.proofs.reset.Lts as lts
-use Rattle.image.proofs.copy.Reads as copy-reads
 
--- src/lib.rt:289:10
+array-write-numbers : tie.Need-array-write-numbers
+array-write-numbers c = search needs
+
+array-write-numbers-2 : tie.Need-array-write-numbers-2
+array-write-numbers-2 c = search needs
+
 slice-aggregate-copy : tie.Need-slice-aggregate-copy
 slice-aggregate-copy c = search needs
 
--- src/lib.rt:289:18
-slice-relend-prefix-copy : tie.Need-slice-relend-prefix-copy
-slice-relend-prefix-copy c = search needs
-
--- src/lib.rt:289:18
-slice-aggregate-copy-2 : tie.Need-slice-aggregate-copy-2
-slice-aggregate-copy-2 c = ?
-
--- src/lib.rt:289:5
-copy-requires : tie.Need-copy-requires
-copy-requires c κs = ?
-
--- src/lib.rt:290:5
-slice-write-w : tie.Need-slice-write-w
-slice-write-w c = search needs
-
--- src/lib.rt:291:5
-slice-write-w-2 : tie.Need-slice-write-w-2
-slice-write-w-2 c = ?
-
--- src/lib.rt:293:10
-slice-aggregate-copy-3 : tie.Need-slice-aggregate-copy-3
-slice-aggregate-copy-3 c = search needs
-
--- src/lib.rt:293:20
 sub-copy : tie.Need-sub-copy
 sub-copy c = search needs
 
--- src/lib.rt:293:20
-part-copy-start : tie.Need-part-copy-start
-part-copy-start c = search needs
+part-numbers-start : tie.Need-part-numbers-start
+part-numbers-start c = search needs
 
--- src/lib.rt:293:20
-part-copy-end : tie.Need-part-copy-end
-part-copy-end c = ?
+part-numbers-end : tie.Need-part-numbers-end
+part-numbers-end c = search needs
 
--- src/lib.rt:293:5
+copy-requires : tie.Need-copy-requires
+copy-requires c κs = search needs
+
+slice-aggregate-copy-2 : tie.Need-slice-aggregate-copy-2
+slice-aggregate-copy-2 c = rw (c .before .before .copy .ensures)
+
+slice-relend-prefix-copy : tie.Need-slice-relend-prefix-copy
+slice-relend-prefix-copy c = search needs
+
+slice-aggregate-copy-3 : tie.Need-slice-aggregate-copy-3
+slice-aggregate-copy-3 c = sym (length-take-le 129 (c .before .before .before .before .before .before .before .args .w .now) (omega arith))
+
 copy-requires-2 : tie.Need-copy-requires-2
-copy-requires-2 c κs = search needs
+copy-requires-2 c κs = rw (c .before .before .before .copy .ensures) (sym (length-take-le 129 (c .before .before .before .before .before .before .before .args .w .now) (omega arith)))
 
--- src/lib.rt:284:1
 same-length : tie.Need-same-length
-same-length c = ?
+same-length c = search needs
 
--- src/lib.rt:284:1
 returns : tie.Need-returns
-returns c = ?
+unfolding machines
+returns c = rw (c .before .before .copy2 .ensures, c .before .before .before .before .before .before .copy .ensures)
 
 pub reset-spec : {M : Type 1} → statement M
 reset-spec =
     tie.close
     (tie.spec
+    array-write-numbers
+    array-write-numbers-2
     slice-aggregate-copy
-    slice-relend-prefix-copy
-    slice-aggregate-copy-2
-    copy-requires
-    slice-write-w
-    slice-write-w-2
-    slice-aggregate-copy-3
     sub-copy
-    part-copy-start
-    part-copy-end
+    part-numbers-start
+    part-numbers-end
+    copy-requires
+    slice-aggregate-copy-2
+    slice-relend-prefix-copy
+    slice-aggregate-copy-3
     copy-requires-2
     same-length
     returns)

@@ -59,4 +59,3 @@ sections-fit-spec =
     number-at-requires-5
     number-at-requires-6
     returns-3)
-

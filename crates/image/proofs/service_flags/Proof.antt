@@ -70,4 +70,3 @@ service-flags-spec =
     loop-less
     loop-again
     returns)
-

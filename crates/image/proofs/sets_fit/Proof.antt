@@ -17,4 +17,3 @@ returns-2 c = simp (ne-eqb (c .before .args .psr / 1 % 2) 1 (λ e. c .if1 .left 
 
 pub sets-fit-spec : {M : Type 1} → statement M
 sets-fit-spec = tie.close (tie.spec returns returns-2)
-

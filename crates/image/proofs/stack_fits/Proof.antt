@@ -66,4 +66,3 @@ stack-fits-spec =
     control-requires-4
     returns
     returns-2)
-

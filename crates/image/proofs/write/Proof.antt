@@ -1,70 +1,62 @@
+-- `write` meets its contract: with the five counts in their places, the words up to the last entry are the image's numbers. Assumes nothing.
+use mathlib.Core.Path.{_≡_, sym, ap, _∙_}
+use Prim.Native.Nat.{_+_, _*_, _≤_}
+use native.Mathlib.Omega.{arith}
+use lib.ListN.{length, length-set}
+use lib.Seq.{length-take-le}
 use borrow.Author.Needs.{needs}
+use Rattle.image.specs.Image.{writeImage}
+use Rattle.image.proofs.Writing.{withCounts, counted-length, counted-numbers}
 use Rattle.image.proofs.write.Statement.{statement}
 use Rattle.image.proofs.write.Tie as tie
-use Rattle.image.proofs.write.Reads as reads
-use Rattle.image.proofs.write.Lts as lts
-use Rattle.codec.proofs.write_numbers.Reads as write-numbers-reads
-use Rattle.machine.proofs.depth.Reads as depth-reads
 
--- src/lib.rt:250:24
 depth-requires : tie.Need-depth-requires
 depth-requires c κs = search needs
 
--- src/lib.rt:250:24
 cast-n : tie.Need-cast-n
 cast-n c = search needs
 
--- src/lib.rt:250:19
 mul-n : tie.Need-mul-n
 mul-n c = search needs
 
--- src/lib.rt:250:13
 add-n : tie.Need-add-n
 add-n c = search needs
 
--- src/lib.rt:251:5
 slice-write-w : tie.Need-slice-write-w
 slice-write-w c = search needs
 
--- src/lib.rt:252:5
 slice-write-w-2 : tie.Need-slice-write-w-2
 slice-write-w-2 c = search needs
 
--- src/lib.rt:253:5
 slice-write-w-3 : tie.Need-slice-write-w-3
 slice-write-w-3 c = search needs
 
--- src/lib.rt:254:5
 slice-write-w-4 : tie.Need-slice-write-w-4
 slice-write-w-4 c = search needs
 
--- src/lib.rt:255:5
 slice-write-w-5 : tie.Need-slice-write-w-5
-slice-write-w-5 c = ?
+slice-write-w-5 c = simp length-set (omega arith)
 
--- src/lib.rt:256:26
 slice-reshare-prefix-write-numbers : tie.Need-slice-reshare-prefix-write-numbers
-slice-reshare-prefix-write-numbers c = ?
+slice-reshare-prefix-write-numbers c = simp length-set (omega arith)
 
--- src/lib.rt:256:26
 slice-aggregate-write-numbers : tie.Need-slice-aggregate-write-numbers
-slice-aggregate-write-numbers c = ?
+slice-aggregate-write-numbers c = sym (length-take-le _ _ (simp length-set (omega arith)))
 
--- src/lib.rt:256:5
 write-numbers-requires : tie.Need-write-numbers-requires
-write-numbers-requires c κs = ?
+write-numbers-requires c κs = let w = c .before .before .before .before .before .before .args .w .now in
+    rw (length-take-le (129 + 4 * c .before .before .depth .result) (withCounts w) (simp length-set (omega arith))) (omega arith)
 
--- src/lib.rt:246:1
 same-length : tie.Need-same-length
 same-length c = search needs
 
--- src/lib.rt:246:1
 same-length-2 : tie.Need-same-length-2
 same-length-2 c = search needs
 
--- src/lib.rt:246:1
 returns : tie.Need-returns
-returns c = ?
+unfolding writeImage
+returns c = let start = c .before .before .before .before .before .before .before .before .before in
+    rw (c .before .before .write-numbers .ensures, c .before .before .before .before .before .depth .ensures, counted-numbers (start .args .w .now) (start .pre .0) (start .pre .1))
 
 pub write-spec : {M : Type 1} → statement M
 write-spec =
