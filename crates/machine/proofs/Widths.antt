@@ -12,7 +12,7 @@ use lib.Bits.{bitAnd, and-mask}
 use borrow.Author.Tests.{ltb-true, ltb-false, eqb-true, le-leb, lt-leb, le-ltb, ne-eqb}
 use Rattle.word.specs.Choice.{if_then_else_}
 use Rattle.word.specs.Flags.{isAmong}
-use Rattle.machine.specs.Control.{Register, registers, registerAt, largest, keptBy, isWritable, storedControl}
+use Rattle.machine.specs.Control.{Register, registers, registerAt, largest, holdsAs, keptBy, isWritable, storedControl}
 
 -- ---- a test of the numbers below k
 
@@ -90,6 +90,11 @@ writable-below n h = same _ _ (otherwise readOnlys (λ n. Bool·beq (ltb n 0x28)
 pub no-zeros : (n : ℕ) → (n ≡ 0 → ⊥) → registerAt n .zeros ≡ 0
 unfolding holdsBelow isAmong registerAt registers
 no-zeros n h = eqb-true _ _ (otherwise (0 ∷ []) (λ n. eqb (registerAt n .zeros) 0) refl (λ n l. ap (λ r. eqb (r .zeros) 0) (beyond n l)) n (tt, h))
+
+-- no register below FPU_STATUS is a constant
+pub not-constant : (n x : ℕ) → n < 0x2B → holdsAs (registerAt n .access) (registerAt n .reset) x ≡ true
+unfolding holdsBelow registerAt registers holdsAs
+not-constant n x h = holds-at (λ n. holdsAs (registerAt n .access) (registerAt n .reset) x) 0x2B n refl h
 
 -- ---- stores
 
