@@ -1,0 +1,2 @@
+-- Laws of effects.
+pub mod Service
