@@ -236,14 +236,14 @@ in-row w i a b c d =
 -- four words past the last entry, and a count one above, push an entry
 pub pushed-to : (w : List ℕ) (n : ℕ) (e : Entry) → length w ≡ WORDS → n < 12 → getD w DEPTH 0 ≡ n
     → let i = ENTRIES + 4 * n in
-      machineOf (set (set (set (set (set w i (e .source)) (i + 1) (e .address)) (i + 2) (e .psr)) (i + 3) (e .c0)) DEPTH (n + 1))
-      ≡ withEntries (e ∷ machineOf w .stack) (machineOf w)
+    machineOf (set (set (set (set (set w i (e .source)) (i + 1) (e .address)) (i + 2) (e .psr)) (i + 3) (e .c0)) DEPTH (n + 1))
+    ≡ withEntries (e ∷ machineOf w .stack) (machineOf w)
 pushed-to w n e h l q =
     let i = ENTRIES + 4 * n in
     let vs = e .source ∷ e .address ∷ e .psr ∷ e .c0 ∷ [] in
     let k = sets w i vs in
     let stack : stackOf (suc n) k ≡ e ∷ machineOf w .stack =
-        rw (stack-top n k, fill-in w i vs (omega arith), stack-by n w k (fill-past w ENTRIES (4 * n) i vs (omega arith)), stack-as w n q) in
+    rw (stack-top n k, fill-in w i vs (omega arith), stack-by n w k (fill-past w ENTRIES (4 * n) i vs (omega arith)), stack-as w n q) in
     rw (in-row w i (e .source) (e .address) (e .psr) (e .c0), add-one n)
     (depth-stored k (suc n) (length-sets w i vs ∙ h)
     ∙ ap (λ es. withEntries es (machineOf k)) stack

@@ -10,8 +10,8 @@ ghost use Rattle.machine.specs.Machine.{psr, setBy, withRegister, withPs
 ghost use Rattle.machine.specs.Control.{registerAt, controlAt, largest, keptBy, isWritable, storedControl, within, INT-SERV};
 ghost use Rattle.machine.specs.Stack.{popped, sourcesOf, serviceFlags, shownTop, showTop, withStack};
 ghost use Rattle.machine.specs.Words.{WORDS, startBy, machineOf};
-
-use word::{with_flag, without_flag};
+use word::with_flag;
+use word::without_flag;
 
 // The program position (01 "Machine image"): six numbers.
 pub struct Position {
@@ -44,9 +44,13 @@ const PSR: usize = 63;
 const CONDITIONS: usize = 67;
 
 const CONTROL: usize = 76;
+
 const INT_SERV: usize = 95;
+
 const RETI_ADDR: usize = 116;
+
 const RETI_PSR: usize = 117;
+
 const RETI_CR0: usize = 118;
 // The program position.
 const PC: usize = 122;
@@ -326,10 +330,20 @@ pub fn top(w: &[u32]) -> Entry
 {
     let n = depth(w) as usize;
     if n == 0 {
-        Entry { source: 0, address: 1, psr: 9, c0: 0 }
+        Entry {
+            source: 0,
+            address: 1,
+            psr: 9,
+            c0: 0,
+        }
     } else {
         let at = ENTRIES + 4 * (n - 1);
-        Entry { source: w[at], address: w[at + 1], psr: w[at + 2], c0: w[at + 3] }
+        Entry {
+            source: w[at],
+            address: w[at + 1],
+            psr: w[at + 2],
+            c0: w[at + 3],
+        }
     }
 }
 

@@ -16,7 +16,7 @@ use Rattle.machine.proofs.pop.Tie as tie
 -- with the count one below
 stored : (c : tie.After-without-flag)
     → let w = c .before .before .before .before .before .before .before .args .w .now in
-      machineOf (set w DEPTH (c .before .before .before .before .depth .result - 1)) ≡ withEntries (popped (machineOf w .stack)) (machineOf w)
+    machineOf (set w DEPTH (c .before .before .before .before .depth .result - 1)) ≡ withEntries (popped (machineOf w .stack)) (machineOf w)
 stored c =
     let s = c .before .before .before .before .before .before .before in
     let w = s .args .w .now in
