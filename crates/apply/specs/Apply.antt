@@ -1,14 +1,17 @@
 -- What an effect changes: the only place where a machine or the data memory changes, but for interrupts. Assumes nothing.
+use mathlib.Core.Path.{_≡_}
 use mathlib.Core.Bool.{Bool, true, false}
 use mathlib.Core.List.{List, [], _∷_}
 use Prim.Native.Nat.{ℕ, zero, suc, _+_, _*_, _/_, _%_, _^_}
 use lib.ListN.{getD, set}
 use lib.Dec.{eqb}
 use Rattle.word.specs.Choice.{if_then_else_}
+use Rattle.word.specs.Flags.{distinctBelow}
 use Rattle.isa.specs.Decode.{bytesOf}
 use Rattle.machine.specs.Machine.{Machine, State, PSR, SPSR, LINK, SUPER, psr, writesSet2, wideWords, interruptsEnabled, widthOf, withModes, positionAt, withSet1, withSet2, withConditions, withControl, withPosition, withPsr}
 use Rattle.machine.specs.Control.{controlAt, storedControl, EXCEPTION-CS, EXCEPTION-PC, EXCEPTION-PSR, SYSTEM-ADDR, EXCEP-ADDR}
-use Rattle.machine.specs.Stack.{popped, shownTop, withStack}
+use Rattle.machine.specs.Stack.{popped, sourcesOf, shownTop, showStack, withStack}
+use Rattle.machine.specs.Words.{machineOf}
 use Rattle.machine.specs.declared.Position.{Position}
 use Rattle.machine.specs.declared.Entry.{Entry}
 use Rattle.apply.specs.declared.Kind.{Kind}
@@ -132,3 +135,17 @@ apply SystemCall s = machineOnly kind.SystemCall systemCall s
 apply InterruptReturn s = machineOnly kind.InterruptReturn interruptReturn s
 apply UserReturn s = machineOnly kind.Ordinary userReturn s
 apply (SelectSets n) s = machineOnly kind.Ordinary (selectSets n) s
+
+-- ---- what the code has in its place
+
+-- the state, and the transition to it, that words and cells hold
+abbrev pub stateOf : (words cells : List ℕ) → State
+stateOf words cells = record { machine = machineOf words; cells = cells }
+
+abbrev pub transitionOf : Kind → (words cells : List ℕ) → Transition
+transitionOf k words cells = record { kind = k; after = stateOf words cells }
+
+-- the control block shows the stack, whose sources are below 12 and all different (question 5)
+pub record StackShown (m : Machine) : Type 0 where
+  pub shown : showStack (m .stack) (m .control) ≡ m .control
+  pub distinct : distinctBelow 12 (sourcesOf (m .stack)) ≡ true
