@@ -10,7 +10,7 @@ ghost use Rattle.apply.specs.Apply.{writeRegister, writeFlags, unpacked,
 use decide::Effect;
 use machine::Position;
 
-// What happened.
+// What a transition was.
 pub enum Kind {
     // An instruction, with none of the effects below.
     Ordinary,
@@ -28,19 +28,27 @@ pub enum Kind {
 
 // Bits of PSR (002 section 2.4): registers written in set 2, 32-bit words, interrupts enabled.
 const RSWR: u32 = 2;
+
 const IL: u32 = 3;
+
 const IE: u32 = 4;
 // PSR of scall and of exceptions.
 const SUPER: u32 = 0x0E;
 // Registers of set 2, and the link register of both sets.
 const PSR: u32 = 29;
+
 const SPSR: u32 = 30;
+
 const LINK: u32 = 31;
 // Offsets of the control block.
 const EXCEPTION_CS: u32 = 0x17;
+
 const EXCEPTION_PC: u32 = 0x18;
+
 const EXCEPTION_PSR: u32 = 0x19;
+
 const SYSTEM_ADDR: u32 = 0x1F;
+
 const EXCEP_ADDR: u32 = 0x20;
 
 // ---- registers
@@ -114,7 +122,17 @@ fn go_to(w: &mut [u32], pc: u32)
     requires { ⌜ length (now w) ≡ WORDS ⌝ }
     ensures { λ _. ⌜ machineOf (now (w .exit)) ≡ withPosition (positionAt pc) (machineOf (now (w .entry))) ⌝ }
 {
-    machine::set_position(w, Position { pc, slot: 0, target: 0, held: 0, high: 0, low: 0 });
+    machine::set_position(
+        w,
+        Position {
+            pc,
+            slot: 0,
+            target: 0,
+            held: 0,
+            high: 0,
+            low: 0,
+        },
+    );
 }
 
 // PC goes on; the slot is used up and a product dropped.
@@ -132,7 +150,17 @@ fn advance_holding(w: &mut [u32], high: u32, low: u32)
     ensures { λ _. ⌜ machineOf (now (w .exit)) ≡ advanceHolding high low (machineOf (now (w .entry))) ⌝ }
 {
     let pc = next_pc(w);
-    machine::set_position(w, Position { pc, slot: 0, target: 0, held: 1, high, low });
+    machine::set_position(
+        w,
+        Position {
+            pc,
+            slot: 0,
+            target: 0,
+            held: 1,
+            high,
+            low,
+        },
+    );
 }
 
 // A taken jump: the next word is its slot.
@@ -141,7 +169,17 @@ fn jump_to(w: &mut [u32], target: u32)
     ensures { λ _. ⌜ machineOf (now (w .exit)) ≡ jumpTo target (machineOf (now (w .entry))) ⌝ }
 {
     let pc = next_pc(w);
-    machine::set_position(w, Position { pc, slot: 1, target, held: 0, high: 0, low: 0 });
+    machine::set_position(
+        w,
+        Position {
+            pc,
+            slot: 1,
+            target,
+            held: 0,
+            high: 0,
+            low: 0,
+        },
+    );
 }
 
 // ---- changes of mode

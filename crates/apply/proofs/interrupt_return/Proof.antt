@@ -1,41 +1,32 @@
+-- `apply::interrupt_return` meets its contract: the top is read before it is popped. Assumes nothing.
+use Rattle.machine.specs.Stack.{withStack}
+use Rattle.machine.proofs.Service.{depth-most}
+use Rattle.apply.specs.Apply.{interruptReturn}
 use borrow.Author.Needs.{needs}
 use Rattle.apply.proofs.interrupt_return.Statement.{statement}
 use Rattle.apply.proofs.interrupt_return.Tie as tie
-use Rattle.apply.proofs.interrupt_return.Reads as reads
-use Rattle.apply.proofs.interrupt_return.Lts as lts
-use Rattle.apply.proofs.go_to.Reads as go-to-reads
-use Rattle.apply.proofs.pop.Reads as pop-reads
-use Rattle.machine.proofs.set_condition.Reads as set-condition-reads
-use Rattle.machine.proofs.set_psr.Reads as set-psr-reads
-use Rattle.machine.proofs.top.Reads as top-reads
 
--- src/lib.rt:204:9
 top-requires : tie.Need-top-requires
-top-requires c κs = ?
+top-requires c κs = (search needs, depth-most _ (c .before .before .pre .1 .distinct))
 
--- src/lib.rt:205:5
 pop-requires : tie.Need-pop-requires
 pop-requires c κs = search needs
 
--- src/lib.rt:206:5
 set-condition-requires : tie.Need-set-condition-requires
 set-condition-requires c κs = search needs
 
--- src/lib.rt:207:5
 set-psr-requires : tie.Need-set-psr-requires
 set-psr-requires c κs = search needs
 
--- src/lib.rt:208:5
 go-to-requires : tie.Need-go-to-requires
 go-to-requires c κs = search needs
 
--- src/lib.rt:200:1
 same-length : tie.Need-same-length
 same-length c = search needs
 
--- src/lib.rt:200:1
 returns : tie.Need-returns
-returns c = ?
+unfolding interruptReturn withStack
+returns c = rw (c .before .before .go-to .ensures, c .before .before .before .before .before .before .set-psr .ensures, c .before .before .before .before .before .before .before .before .before .before .set-condition .ensures, c .before .before .before .before .before .before .before .before .before .before .before .before .before .before .pop .ensures, c .before .before .before .before .before .before .before .before .before .before .before .before .before .before .before .before .top .ensures)
 
 pub interrupt-return-spec : {M : Type 1} → statement M
 interrupt-return-spec =

@@ -1,34 +1,33 @@
+-- `apply::pop` meets its contract: an empty stack is shown already. Assumes nothing.
+use mathlib.Core.Path.{sym}
+use native.Mathlib.Omega.{arith}
+use Rattle.machine.specs.Words.{machineOf}
+use Rattle.apply.proofs.Service.{shown-served, pop-none}
 use borrow.Author.Needs.{needs}
 use Rattle.apply.proofs.pop.Statement.{statement}
 use Rattle.apply.proofs.pop.Tie as tie
-use Rattle.apply.proofs.pop.Reads as reads
-use Rattle.apply.proofs.pop.Lts as lts
-use Rattle.machine.proofs.depth.Reads as depth-reads
-use Rattle.machine.proofs.pop.Reads as pop-reads
 
--- src/lib.rt:194:12
 depth-requires : tie.Need-depth-requires
 depth-requires c κs = search needs
 
--- src/lib.rt:195:9
 pop-requires : tie.Need-pop-requires
-pop-requires c κs = ?
+pop-requires c κs =
+    let s = c .before .before .before .before .before in
+    (search needs, shown-served (s .args .w .now) (s .pre .0) (s .pre .1), s .pre .1 .distinct, omega (arith, c .before .before .depth .ensures))
 
--- src/lib.rt:190:1
 same-length : tie.Need-same-length
 same-length c = search needs
 
--- src/lib.rt:190:1
 returns : tie.Need-returns
 returns c = search needs
 
--- src/lib.rt:190:1
 same-length-2 : tie.Need-same-length-2
 same-length-2 c = search needs
 
--- src/lib.rt:190:1
 returns-2 : tie.Need-returns-2
-returns-2 c = ?
+returns-2 c =
+    let s = c .before .before .before .before in
+    sym (pop-none (machineOf (s .args .w .now)) (s .pre .1) (omega (arith, c .before .depth .ensures)))
 
 pub pop-spec : {M : Type 1} → statement M
 pop-spec =

@@ -1,36 +1,39 @@
+-- `apply::with_modes` meets its contract: a bool is 0 or 1. Assumes nothing.
+use mathlib.Core.Path.{refl}
+use mathlib.Core.Bool.{Bool, true, false}
+use Prim.Native.Nat.{_≤_}
+use native.Mathlib.Omega.{arith}
+use mir.Val.{boolByte}
+use Rattle.machine.specs.Machine.{withModes}
 use borrow.Author.Needs.{needs}
 use Rattle.apply.proofs.with_modes.Statement.{statement}
 use Rattle.apply.proofs.with_modes.Tie as tie
-use Rattle.apply.proofs.with_modes.Reads as reads
-use Rattle.apply.proofs.with_modes.Lts as lts
 
--- src/lib.rt:215:19
+small : (b : Bool) → boolByte b ≤ 1
+small true = omega arith
+small false = omega arith
+
 cast-result : tie.Need-cast-result
 cast-result c = search needs
 
--- src/lib.rt:215:15
 mul-result : tie.Need-mul-result
-mul-result c = ?
+mul-result c = omega (arith, small (c .args .wide))
 
--- src/lib.rt:215:5
 add-result : tie.Need-add-result
-add-result c = ?
+add-result c = omega (arith, small (c .args .wide))
 
--- src/lib.rt:215:38
 cast-result-2 : tie.Need-cast-result-2
 cast-result-2 c = search needs
 
--- src/lib.rt:215:33
 mul-result-2 : tie.Need-mul-result-2
-mul-result-2 c = ?
+mul-result-2 c = omega (arith, small (c .args .enabled))
 
--- src/lib.rt:215:5
 add-result-2 : tie.Need-add-result-2
-add-result-2 c = ?
+add-result-2 c = omega (arith, small (c .args .wide), small (c .args .enabled))
 
--- src/lib.rt:212:1
 returns : tie.Need-returns
-returns c = ?
+unfolding withModes
+returns c = refl
 
 pub with-modes-spec : {M : Type 1} → statement M
 with-modes-spec =

@@ -1,51 +1,53 @@
+-- `apply::write_register` meets its contract: PSR stays, and any other register takes the word. Assumes nothing.
+use mathlib.Core.Path.{_≡_}
+use Prim.Native.Nat.{_%_, _^_}
+use native.Mathlib.Omega.{arith}
+use borrow.Author.Tests.{eq-eqb, ne-eqb}
+use Rattle.word.specs.Choice.{if_then_else_}
+use Rattle.machine.specs.Machine.{writesSet2, withRegister}
+use Rattle.apply.specs.Apply.{writeRegister}
 use borrow.Author.Needs.{needs}
 use Rattle.apply.proofs.write_register.Statement.{statement}
 use Rattle.apply.proofs.write_register.Tie as tie
-use Rattle.apply.proofs.write_register.Reads as reads
-use Rattle.apply.proofs.write_register.Lts as lts
-use Rattle.machine.proofs.psr.Reads as psr-reads
-use Rattle.machine.proofs.set_register.Reads as set-register-reads
-use Rattle.word.proofs.has_flag.Reads as has-flag-reads
 
--- src/lib.rt:54:23
 psr-requires : tie.Need-psr-requires
 psr-requires c κs = search needs
 
--- src/lib.rt:54:8
 has-flag-requires : tie.Need-has-flag-requires
 has-flag-requires c κs = search needs
 
--- src/lib.rt:56:13
 set-register-requires : tie.Need-set-register-requires
 set-register-requires c κs = search needs
 
--- src/lib.rt:59:9
 set-register-requires-2 : tie.Need-set-register-requires-2
 set-register-requires-2 c κs = search needs
 
--- src/lib.rt:49:1
 same-length : tie.Need-same-length
 same-length c = search needs
 
--- src/lib.rt:49:1
 returns : tie.Need-returns
-returns c = ?
+unfolding writeRegister writesSet2 withRegister if_then_else_
+returns c =
+    let a = c .before .before .before .before .before .before .before .before .before .before .args in
+    let x : a .x % 2 ^ 32 ≡ a .x = omega arith in
+    rw (← (c .before .before .before .before .before .before .before .psr .ensures), ← (c .before .before .before .before .before .before .has-flag .ensures), c .before .before .before .before .before .if1 .taken, ne-eqb _ _ (c .before .before .before .before .if2 .taken), x) (c .before .before .set-register .ensures)
 
--- src/lib.rt:49:1
 same-length-2 : tie.Need-same-length-2
 same-length-2 c = search needs
 
--- src/lib.rt:49:1
 returns-2 : tie.Need-returns-2
-returns-2 c = ?
+unfolding writeRegister writesSet2 if_then_else_
+returns-2 c = rw (← (c .before .before .before .psr .ensures), ← (c .before .before .has-flag .ensures), c .before .if1 .taken, eq-eqb _ _ (c .if2 .left))
 
--- src/lib.rt:49:1
 same-length-3 : tie.Need-same-length-3
 same-length-3 c = search needs
 
--- src/lib.rt:49:1
 returns-3 : tie.Need-returns-3
-returns-3 c = ?
+unfolding writeRegister writesSet2 withRegister if_then_else_
+returns-3 c =
+    let a = c .before .before .before .before .before .before .before .before .before .args in
+    let x : a .x % 2 ^ 32 ≡ a .x = omega arith in
+    rw (← (c .before .before .before .before .before .before .psr .ensures), ← (c .before .before .before .before .before .has-flag .ensures), c .before .before .before .before .if1 .left, x) (c .before .before .set-register2 .ensures)
 
 pub write-register-spec : {M : Type 1} → statement M
 write-register-spec =
