@@ -1,4 +1,5 @@
 // What the next instruction does: fetch, decode, the order of the tests, one clause for each operation.
+mod arithmetic;
 
 // What a fetch gives.
 pub enum Fetched {

@@ -5,6 +5,7 @@ pub struct Operands {
     pub sreg2: u32,
     pub immediate: i32,
 }
+
 pub struct Instruction {
     pub opcode: u32,
     pub conditional: bool,
@@ -15,6 +16,7 @@ pub struct Instruction {
     pub sreg2: u32,
     pub immediate: i32,
 }
+
 pub fn operations() -> u32 {
     58
 }

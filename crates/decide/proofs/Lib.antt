@@ -1,0 +1,2 @@
+-- Laws of what the next instruction does.
+pub mod Ranges
