@@ -2,10 +2,10 @@
 use Rattle.word.specs.Computed.{words}
 use Rattle.isa.specs.Text.{bytes}
 use Rattle.isa.specs.Operation.{operations, operationOf, widthBy, unavailable, properties}
-use Rattle.isa.specs.Condition.{conditionOf, holds}
+use Rattle.isa.specs.Condition.{conditions, conditionOf, holds}
 use Rattle.isa.specs.Format.{fieldsWidth, fieldsOf, operationField, conditionalField, cregField, conditionField, layoutOf, operandFields}
-use Rattle.isa.specs.Decode.{bytesOf, registerOf, immediateOf, operandsOf, opcodeOf, decode}
+use Rattle.isa.specs.Decode.{bytesOf, registerOf, immediateOf, operandsOf, opcodeOf, decode, codeOf}
 
 unfoldable pub instructions : Unit {0}
-unfolding words bytes operations operationOf widthBy unavailable properties conditionOf holds fieldsWidth fieldsOf operationField conditionalField cregField conditionField layoutOf operandFields bytesOf registerOf immediateOf operandsOf opcodeOf decode
+unfolding words bytes operations operationOf widthBy unavailable properties conditions conditionOf holds fieldsWidth fieldsOf operationField conditionalField cregField conditionField layoutOf operandFields bytesOf registerOf immediateOf operandsOf opcodeOf decode codeOf
 instructions = tt

@@ -5,12 +5,16 @@ use Prim.Native.Nat.{ℕ}
 use lib.ListN.{getD}
 use Rattle.word.specs.Word.{bitAt}
 
--- 0 to 7
 pub data Condition : Type 0 where
   c egt elt eq gt lt ne nc : Condition
 
+-- by number, 0 to 7
+unfoldable pub conditions : List Condition
+conditions = c ∷ egt ∷ elt ∷ eq ∷ gt ∷ lt ∷ ne ∷ nc ∷ []
+
+-- the condition of a number
 unfoldable pub conditionOf : ℕ → Condition
-conditionOf n = getD (c ∷ egt ∷ elt ∷ eq ∷ gt ∷ lt ∷ ne ∷ nc ∷ []) n nc
+conditionOf n = getD conditions n nc
 
 -- the flags of a condition register: Z × 4 + N × 2 + C
 abbrev pub carry : ℕ → Bool

@@ -50,7 +50,7 @@ decode width word =
     let o = operandsOf width (p .form) word in
     record {
       opcode = opcode;
-      conditional = p .conditional && eqb (fieldsOf (conditionalField width) word) 1;
+      conditional = eqb (fieldsOf (conditionalField width) word) 1 && p .conditional;
       creg = fieldsOf (cregField width) word;
       condition = fieldsOf (conditionField width) word;
       dreg = o .dreg;

@@ -78,7 +78,7 @@ abbrev s₂ : List Field
 s₂ = bits 4 to 0 ∷ []
 
 -- a 9-bit immediate is bits 18..15 above bits 4..0
-abbrev pub imm9 : List Field
+abbrev imm9 : List Field
 imm9 = bits 18 to 15 ∷ bits 4 to 0 ∷ []
 
 -- 16-bit words

@@ -1,4 +1,13 @@
-// stub
+// Instruction words taken apart, by the table of operations.
+ghost use mathlib.Core.Path.{_≡_};
+ghost use Prim.Native.Nat.{_<_, _≤_, _^_};
+ghost use lib.IntN.{pos};
+ghost use Rattle.word.specs.Word.{signedOf};
+ghost use Rattle.isa.specs.Operation.{operationOf, properties, Properties, w16, w32, widthBy, unavailable};
+ghost use Rattle.isa.specs.Condition.{conditionOf, holds};
+ghost use Rattle.isa.specs.Decode.{opcodeOf, operandsOf, decode, codeOf};
+
+// The operands of an instruction; one that it does not have is 0.
 pub struct Operands {
     pub dreg: u32,
     pub sreg1: u32,
@@ -6,8 +15,10 @@ pub struct Operands {
     pub immediate: i32,
 }
 
+// An instruction word taken apart.
 pub struct Instruction {
     pub opcode: u32,
+    // It is done only where the condition holds of creg.
     pub conditional: bool,
     pub creg: u32,
     pub condition: u32,
@@ -17,6 +28,281 @@ pub struct Instruction {
     pub immediate: i32,
 }
 
-pub fn operations() -> u32 {
-    58
+// The number of a word's operation.
+pub fn opcode(word: u32, wide: bool) -> u32
+    ensures { λ r. ⌜ r ≡ opcodeOf (widthBy wide) word ⌝ }
+{
+    if wide {
+        word / 0x0400_0000 % 64
+    } else {
+        word / 1024 % 64
+    }
+}
+
+// Whether an operation may be conditional: bit 25 of its 32-bit words is not ignored.
+pub fn is_conditional(op: u32) -> bool
+    ensures { λ r. ⌜ r ≡ properties (operationOf op) .conditional ⌝ }
+{
+    (1 <= op) & (op <= 31) | (38 <= op) & (op <= 39) | (op == 48)
+}
+
+// Whether an operation is a control transfer.
+pub fn is_transfer(op: u32) -> bool
+    ensures { λ r. ⌜ r ≡ properties (operationOf op) .transfer ⌝ }
+{
+    (36 <= op) & (op <= 50) | (op == 54)
+}
+
+// The code of the exception where an operation may not be used, or 0.
+pub fn unavailability(op: u32, wide: bool, user: bool) -> u32
+    ensures { λ r. ⌜ r ≡ codeOf (unavailable (properties (operationOf op) .availability) (widthBy wide) user) ⌝ }
+{
+    if 58 <= op {
+        1
+    } else if (34 <= op) & (op <= 35) & !wide | ((op == 49) | (op == 51)) & user {
+        2
+    } else {
+        0
+    }
+}
+
+// Operands that are registers.
+fn registers(dreg: u32, sreg1: u32, sreg2: u32) -> Operands
+    ensures { λ r. ⌜ r ≡ record { dreg = dreg; sreg1 = sreg1; sreg2 = sreg2; immediate = pos 0 } ⌝ }
+{
+    Operands {
+        dreg,
+        sreg1,
+        sreg2,
+        immediate: 0,
+    }
+}
+
+// Operands with an immediate filled with zeros.
+fn unsigned(dreg: u32, sreg1: u32, n: u32) -> Operands
+    requires { ⌜ n < 2 ^ 25 ⌝ }
+    ensures { λ r. ⌜ r ≡ record { dreg = dreg; sreg1 = sreg1; sreg2 = 0; immediate = pos n } ⌝ }
+{
+    Operands {
+        dreg,
+        sreg1,
+        sreg2: 0,
+        immediate: n as i32,
+    }
+}
+
+// Operands with an immediate of k bits, its sign extended.
+fn signed(dreg: u32, sreg1: u32, n: u32, k: u32) -> Operands
+    requires { ⌜ (0 < k) × (k ≤ 32) × (n < 2 ^ k) ⌝ }
+    ensures { λ r. ⌜ r ≡ record { dreg = dreg; sreg1 = sreg1; sreg2 = 0; immediate = signedOf k n } ⌝ }
+{
+    Operands {
+        dreg,
+        sreg1,
+        sreg2: 0,
+        immediate: word::signed_field(n, k),
+    }
+}
+
+// 32-bit words of addi to sexti, ld, st.
+fn wide_immediate(op: u32, w: u32) -> Operands
+    requires { ⌜ (18 ≤ op) × (op ≤ 28) ⌝ }
+    ensures { λ r. ⌜ r ≡ operandsOf w32 (properties (operationOf op) .form) w ⌝ }
+{
+    let d = w / 1024 % 32;
+    let s = w / 32 % 32;
+    let n = w / 0x8000 % 16 * 32 + w % 32;
+    match op {
+        18 => signed(d, s, n, 9),
+        19..=21 => unsigned(d, s, n),
+        22 => signed(d, s, n, 9),
+        23..=26 => unsigned(d, s, w % 32),
+        _ => signed(d, s, n, 9),
+    }
+}
+
+// 32-bit words of mov, not, mulhi, cmp, cmpi, lli, lui.
+fn wide_move(op: u32, w: u32) -> Operands
+    requires { ⌜ (29 ≤ op) × (op ≤ 35) ⌝ }
+    ensures { λ r. ⌜ r ≡ operandsOf w32 (properties (operationOf op) .form) w ⌝ }
+{
+    let d = w / 1024 % 32;
+    let s = w / 32 % 32;
+    match op {
+        29..=30 => registers(d, s, 0),
+        31 => registers(d, 0, 0),
+        32 => registers(0, s, w % 32),
+        33 => signed(0, s, w / 0x8000 % 16 * 32 + w % 32, 9),
+        _ => unsigned(w / 0x1_0000 % 32, 0, w % 0x1_0000),
+    }
+}
+
+// 32-bit words of jmp, jal, jmpr, jalr and the branches.
+fn wide_jump(op: u32, w: u32) -> Operands
+    requires { ⌜ (36 ≤ op) × (op ≤ 47) ⌝ }
+    ensures { λ r. ⌜ r ≡ operandsOf w32 (properties (operationOf op) .form) w ⌝ }
+{
+    match op {
+        36..=37 => signed(0, 0, w % 0x0200_0000, 25),
+        38..=39 => registers(0, w / 32 % 32, 0),
+        _ => signed(0, 0, w % 0x0040_0000, 22),
+    }
+}
+
+// 32-bit words of scall to rcon.
+fn wide_system(op: u32, w: u32) -> Operands
+    requires { ⌜ (48 ≤ op) × (op ≤ 57) ⌝ }
+    ensures { λ r. ⌜ r ≡ operandsOf w32 (properties (operationOf op) .form) w ⌝ }
+{
+    match op {
+        48..=50 => registers(0, 0, 0),
+        51 => unsigned(0, 0, w % 4),
+        52..=53 => registers(0, 0, 0),
+        54 => unsigned(0, 0, w % 2),
+        55 => unsigned(0, 0, w % 32),
+        56 => registers(w / 1024 % 32, 0, 0),
+        _ => registers(0, w / 32 % 32, 0),
+    }
+}
+
+// The operands of a 32-bit word.
+fn wide_operands(op: u32, w: u32) -> Operands
+    ensures { λ r. ⌜ r ≡ operandsOf w32 (properties (operationOf op) .form) w ⌝ }
+{
+    match op {
+        0 => registers(0, 0, 0),
+        1..=17 => registers(w / 1024 % 32, w / 32 % 32, w % 32),
+        18..=28 => wide_immediate(op, w),
+        29..=35 => wide_move(op, w),
+        36..=47 => wide_jump(op, w),
+        48..=57 => wide_system(op, w),
+        _ => registers(0, 0, 0),
+    }
+}
+
+// 16-bit words of addi to sexti, ld, st.
+fn narrow_immediate(op: u32, w: u32) -> Operands
+    requires { ⌜ (18 ≤ op) × (op ≤ 28) ⌝ }
+    ensures { λ r. ⌜ r ≡ operandsOf w16 (properties (operationOf op) .form) w ⌝ }
+{
+    let d = w % 8 + 24;
+    let n = w / 8 % 128;
+    match op {
+        18 => signed(d, d, n, 7),
+        19..=21 => unsigned(d, d, n),
+        22 => signed(d, d, n, 7),
+        23..=26 => unsigned(d, d, w / 8 % 32),
+        _ => signed(d, w / 8 % 8 + 24, w / 64 % 16, 4),
+    }
+}
+
+// 16-bit words of mov, not, mulhi, cmp, cmpi; lli and lui have no operands there.
+fn narrow_move(op: u32, w: u32) -> Operands
+    requires { ⌜ (29 ≤ op) × (op ≤ 35) ⌝ }
+    ensures { λ r. ⌜ r ≡ operandsOf w16 (properties (operationOf op) .form) w ⌝ }
+{
+    let d = w % 8 + 24;
+    let s = w / 8 % 8 + 24;
+    match op {
+        29..=30 => registers(d, s, 0),
+        31 => registers(d, 0, 0),
+        32 => registers(0, s, d),
+        33 => signed(0, d, w / 8 % 128, 7),
+        _ => registers(0, 0, 0),
+    }
+}
+
+// 16-bit words of jmp, jal, jmpr, jalr and the branches.
+fn narrow_jump(op: u32, w: u32) -> Operands
+    requires { ⌜ (36 ≤ op) × (op ≤ 47) ⌝ }
+    ensures { λ r. ⌜ r ≡ operandsOf w16 (properties (operationOf op) .form) w ⌝ }
+{
+    match op {
+        36..=37 => signed(0, 0, w % 1024, 10),
+        38..=39 => registers(0, w / 8 % 8 + 24, 0),
+        _ => signed(0, 0, w % 1024, 10),
+    }
+}
+
+// 16-bit words of scall to rcon.
+fn narrow_system(op: u32, w: u32) -> Operands
+    requires { ⌜ (48 ≤ op) × (op ≤ 57) ⌝ }
+    ensures { λ r. ⌜ r ≡ operandsOf w16 (properties (operationOf op) .form) w ⌝ }
+{
+    match op {
+        48..=50 => registers(0, 0, 0),
+        51 => unsigned(0, 0, w % 4),
+        52..=53 => registers(0, 0, 0),
+        54 => unsigned(0, 0, w % 2),
+        55 => unsigned(0, 0, w % 32),
+        56 => registers(w % 8 + 24, 0, 0),
+        _ => registers(0, w / 8 % 8 + 24, 0),
+    }
+}
+
+// The operands of a 16-bit word: the second source is the target.
+fn narrow_operands(op: u32, w: u32) -> Operands
+    ensures { λ r. ⌜ r ≡ operandsOf w16 (properties (operationOf op) .form) w ⌝ }
+{
+    let d = w % 8 + 24;
+    match op {
+        0 => registers(0, 0, 0),
+        1..=17 => registers(d, w / 8 % 8 + 24, d),
+        18..=28 => narrow_immediate(op, w),
+        29..=35 => narrow_move(op, w),
+        36..=47 => narrow_jump(op, w),
+        48..=57 => narrow_system(op, w),
+        _ => registers(0, 0, 0),
+    }
+}
+
+// The instruction of a word of either width.
+pub fn decode(word: u32, wide: bool) -> Instruction
+    ensures { λ r. ⌜ r ≡ decode (widthBy wide) word ⌝ }
+{
+    let op = opcode(word, wide);
+    if wide {
+        let o = wide_operands(op, word);
+        Instruction {
+            opcode: op,
+            conditional: (word / 0x0200_0000 % 2 == 1) & is_conditional(op),
+            creg: word / 0x0040_0000 % 8,
+            condition: word / 0x0008_0000 % 8,
+            dreg: o.dreg,
+            sreg1: o.sreg1,
+            sreg2: o.sreg2,
+            immediate: o.immediate,
+        }
+    } else {
+        let o = narrow_operands(op, word);
+        Instruction {
+            opcode: op,
+            conditional: false,
+            creg: 0,
+            condition: 0,
+            dreg: o.dreg,
+            sreg1: o.sreg1,
+            sreg2: o.sreg2,
+            immediate: o.immediate,
+        }
+    }
+}
+
+// Whether condition n holds of a condition register.
+pub fn holds(n: u32, flags: u32) -> bool
+    ensures { λ r. ⌜ r ≡ holds (conditionOf n) flags ⌝ }
+{
+    let carry = flags % 2 == 1;
+    let negative = flags / 2 % 2 == 1;
+    let zero = flags / 4 % 2 == 1;
+    match n {
+        0 => carry,
+        1 => !negative,
+        2 => negative | zero,
+        3 => zero,
+        4 => !negative & !zero,
+        5 => negative,
+        6 => !zero,
+        _ => !carry,
+    }
 }

@@ -1,4 +1,5 @@
 -- The running machine as one list of words: an image's numbers in their order (01 "Machine image"). Assumes nothing.
+use mathlib.Core.Bool.{Bool, true, false}
 use mathlib.Core.List.{List, [], _∷_, reverse}
 use Prim.Native.Nat.{ℕ, zero, suc}
 use lib.ListN.{getD, take, drop}
@@ -33,6 +34,11 @@ ENTRIES = 129
 -- as many words as the longest image has
 abbrev pub WORDS : ℕ
 WORDS = 177
+
+-- where the registers begin of set 2 if a bit of PSR is 1, else of set 1
+abbrev pub startBy : Bool → ℕ
+startBy true = SET2
+startBy false = SET1
 
 abbrev pub section : (start count : ℕ) (words : List ℕ) → List ℕ
 section start count ws = take count (drop start ws)

@@ -1,4 +1,14 @@
-// The machine: one flat slice of words, read and written through the functions of this crate.
+// The running machine: one flat slice of words, an image's numbers in their order, read and written through these functions.
+// Their contracts speak of the machine that the words say, so that no other crate knows where a number lies.
+ghost use mathlib.Core.Path.{_≡_};
+ghost use mathlib.Core.Bool.{true, false};
+ghost use mathlib.Core.List.{_∷_};
+ghost use Prim.Native.Nat.{_+_, _<_, _≤_};
+ghost use lib.ListN.{length, getD, set};
+ghost use Rattle.machine.specs.Machine.{psr, setBy, withRegister, withPsr, withConditions, withControl, withPosition};
+ghost use Rattle.machine.specs.Control.{registerAt, controlAt, largest, keptBy, isWritable, storedControl, within};
+ghost use Rattle.machine.specs.Stack.{shownTop, showTop};
+ghost use Rattle.machine.specs.Words.{WORDS, startBy, machineOf};
 
 // The program position (01 "Machine image"): six numbers.
 pub struct Position {
@@ -21,7 +31,263 @@ pub struct Entry {
     pub c0: u32,
 }
 
+// Where the sections' numbers begin, each just after its count, and where single numbers lie.
+const SET1: usize = 1;
+const SET2: usize = 34;
+const PSR: usize = 63;
+const CONDITIONS: usize = 67;
+const CONTROL: usize = 76;
+// The program position.
+const PC: usize = 122;
+const SLOT: usize = 123;
+const TARGET: usize = 124;
+const HELD: usize = 125;
+const HIGH: usize = 126;
+const LOW: usize = 127;
+// The count of stack entries, and the entries, the top last.
+const DEPTH: usize = 128;
+const ENTRIES: usize = 129;
+
 // The number of words of the longest image.
 pub fn words() -> usize {
     177
+}
+
+// ---- registers
+
+// Register n of set 1.
+pub fn register1(w: &[u32], n: u32) -> u32
+    requires { ⌜ (length (now w) ≡ WORDS) × (n < 32) ⌝ }
+    ensures { λ r. ⌜ r ≡ getD (machineOf (now (w .entry)) .set1) n 0 ⌝ }
+{
+    w[SET1 + n as usize]
+}
+
+// Register n of set 2.
+pub fn register2(w: &[u32], n: u32) -> u32
+    requires { ⌜ (length (now w) ≡ WORDS) × (n < 32) ⌝ }
+    ensures { λ r. ⌜ r ≡ getD (machineOf (now (w .entry)) .set2) n 0 ⌝ }
+{
+    w[SET2 + n as usize]
+}
+
+// Where register n of the set that a bit of PSR names lies.
+fn place(second: bool, n: u32) -> usize
+    requires { ⌜ n < 32 ⌝ }
+    ensures { λ r. ⌜ r ≡ startBy second + n ⌝ }
+{
+    SET1 + second as usize * 33 + n as usize
+}
+
+// Register n of the set that a bit of PSR names.
+pub fn register(w: &[u32], second: bool, n: u32) -> u32
+    requires { ⌜ (length (now w) ≡ WORDS) × (n < 32) ⌝ }
+    ensures { λ r. ⌜ r ≡ getD (setBy second (machineOf (now (w .entry)))) n 0 ⌝ }
+{
+    w[place(second, n)]
+}
+
+// The program status register.
+pub fn psr(w: &[u32]) -> u32
+    requires { ⌜ length (now w) ≡ WORDS ⌝ }
+    ensures { λ r. ⌜ r ≡ psr (machineOf (now (w .entry))) ⌝ }
+{
+    w[PSR]
+}
+
+// Condition register n.
+pub fn condition(w: &[u32], n: u32) -> u32
+    requires { ⌜ (length (now w) ≡ WORDS) × (n < 8) ⌝ }
+    ensures { λ r. ⌜ r ≡ getD (machineOf (now (w .entry)) .conditions) n 0 ⌝ }
+{
+    w[CONDITIONS + n as usize]
+}
+
+// Register n of the set that a bit of PSR names takes x.
+pub fn set_register(w: &mut [u32], second: bool, n: u32, x: u32)
+    requires { ⌜ (length (now w) ≡ WORDS) × (n < 32) ⌝ }
+    ensures { λ _. ⌜ machineOf (now (w .exit)) ≡ withRegister second n x (machineOf (now (w .entry))) ⌝ }
+{
+    w[place(second, n)] = x;
+}
+
+// The program status register takes q.
+pub fn set_psr(w: &mut [u32], q: u32)
+    requires { ⌜ length (now w) ≡ WORDS ⌝ }
+    ensures { λ _. ⌜ machineOf (now (w .exit)) ≡ withPsr q (machineOf (now (w .entry))) ⌝ }
+{
+    w[PSR] = q;
+}
+
+// Condition register n takes x.
+pub fn set_condition(w: &mut [u32], n: u32, x: u32)
+    requires { ⌜ (length (now w) ≡ WORDS) × (n < 8) ⌝ }
+    ensures { λ _. ⌜ machineOf (now (w .exit)) ≡ withConditions (set (machineOf (now (w .entry)) .conditions) n x) (machineOf (now (w .entry))) ⌝ }
+{
+    w[CONDITIONS + n as usize] = x;
+}
+
+// ---- the control block
+
+// The control register at an offset of the block's registers.
+pub fn control(w: &[u32], n: u32) -> u32
+    requires { ⌜ (length (now w) ≡ WORDS) × (n < 45) ⌝ }
+    ensures { λ r. ⌜ r ≡ controlAt (machineOf (now (w .entry))) n ⌝ }
+{
+    w[CONTROL + n as usize]
+}
+
+// What a load of the control block gives at an offset.
+pub fn control_at(w: &[u32], n: u32) -> u32
+    requires { ⌜ length (now w) ≡ WORDS ⌝ }
+    ensures { λ r. ⌜ r ≡ controlAt (machineOf (now (w .entry))) n ⌝ }
+{
+    if n < 45 { control(w, n) } else { 0 }
+}
+
+// The control register at an offset takes x.
+pub fn set_control(w: &mut [u32], n: u32, x: u32)
+    requires { ⌜ (length (now w) ≡ WORDS) × (n < 45) ⌝ }
+    ensures { λ _. ⌜ machineOf (now (w .exit)) ≡ withControl (set (machineOf (now (w .entry)) .control) n x) (machineOf (now (w .entry))) ⌝ }
+{
+    w[CONTROL + n as usize] = x;
+}
+
+// The largest number of the bits of the control register at an offset.
+pub fn limit(offset: u32) -> u32
+    ensures { λ r. ⌜ r ≡ largest (registerAt offset) ⌝ }
+{
+    match offset {
+        0x10 => 0xFFF,
+        0x11 => 0xFFF,
+        0x12 => 0xFFF,
+        0x13 => 0xFFF,
+        0x14 => 0xFFF,
+        0x16 => 0xFFFF,
+        0x17 => 0xFF,
+        0x19 => 0xFF,
+        0x1E => 3,
+        0x21 => 0xFFF,
+        0x22 => 0x0FFF_FFFF,
+        0x29 => 0xFF,
+        0x2A => 7,
+        _ => 0xFFFF_FFFF,
+    }
+}
+
+// Whether a store to the control register at an offset changes it.
+pub fn writable(offset: u32) -> bool
+    ensures { λ r. ⌜ r ≡ isWritable (registerAt offset .access) ⌝ }
+{
+    match offset {
+        0x13 => false,
+        0x14 => false,
+        0x17 => false,
+        0x18 => false,
+        0x19 => false,
+        _ => offset < 0x28,
+    }
+}
+
+// What a store of x leaves in a writable control register.
+pub fn kept(offset: u32, x: u32) -> u32
+    ensures { λ r. ⌜ r ≡ keptBy (registerAt offset) x ⌝ }
+{
+    let bits = x & limit(offset);
+    if offset == 0 { bits / 256 * 256 } else { bits }
+}
+
+// A store of x to the control block at an offset.
+pub fn store_control(w: &mut [u32], offset: u32, x: u32)
+    requires { ⌜ length (now w) ≡ WORDS ⌝ }
+    ensures { λ _. ⌜ machineOf (now (w .exit)) ≡ withControl (storedControl offset x (machineOf (now (w .entry)) .control)) (machineOf (now (w .entry))) ⌝ }
+{
+    if writable(offset) {
+        set_control(w, offset, kept(offset, x));
+    }
+}
+
+// Whether bounds protect an address.
+pub fn protected(low: u32, high: u32, address: u32) -> bool
+    ensures { λ r. ⌜ r ≡ within low high address ⌝ }
+{
+    low <= address && address <= high
+}
+
+// ---- the position
+
+// The program counter.
+pub fn pc(w: &[u32]) -> u32
+    requires { ⌜ length (now w) ≡ WORDS ⌝ }
+    ensures { λ r. ⌜ r ≡ machineOf (now (w .entry)) .position .pc ⌝ }
+{
+    w[PC]
+}
+
+// 1 while a branch slot waits.
+pub fn slot(w: &[u32]) -> u32
+    requires { ⌜ length (now w) ≡ WORDS ⌝ }
+    ensures { λ r. ⌜ r ≡ machineOf (now (w .entry)) .position .slot ⌝ }
+{
+    w[SLOT]
+}
+
+// Where control goes after the slot.
+pub fn target(w: &[u32]) -> u32
+    requires { ⌜ length (now w) ≡ WORDS ⌝ }
+    ensures { λ r. ⌜ r ≡ machineOf (now (w .entry)) .position .target ⌝ }
+{
+    w[TARGET]
+}
+
+// 1 while a product is held.
+pub fn held(w: &[u32]) -> u32
+    requires { ⌜ length (now w) ≡ WORDS ⌝ }
+    ensures { λ r. ⌜ r ≡ machineOf (now (w .entry)) .position .held ⌝ }
+{
+    w[HELD]
+}
+
+// The high word of the held product.
+pub fn high(w: &[u32]) -> u32
+    requires { ⌜ length (now w) ≡ WORDS ⌝ }
+    ensures { λ r. ⌜ r ≡ machineOf (now (w .entry)) .position .high ⌝ }
+{
+    w[HIGH]
+}
+
+// Its low word.
+pub fn low(w: &[u32]) -> u32
+    requires { ⌜ length (now w) ≡ WORDS ⌝ }
+    ensures { λ r. ⌜ r ≡ machineOf (now (w .entry)) .position .low ⌝ }
+{
+    w[LOW]
+}
+
+// The program position.
+pub fn position_of(w: &[u32]) -> Position
+    requires { ⌜ length (now w) ≡ WORDS ⌝ }
+    ensures { λ r. ⌜ r ≡ machineOf (now (w .entry)) .position ⌝ }
+{
+    Position {
+        pc: pc(w),
+        slot: slot(w),
+        target: target(w),
+        held: held(w),
+        high: high(w),
+        low: low(w),
+    }
+}
+
+// The program position takes p.
+pub fn set_position(w: &mut [u32], p: Position)
+    requires { ⌜ length (now w) ≡ WORDS ⌝ }
+    ensures { λ _. ⌜ machineOf (now (w .exit)) ≡ withPosition p (machineOf (now (w .entry))) ⌝ }
+{
+    w[PC] = p.pc;
+    w[SLOT] = p.slot;
+    w[TARGET] = p.target;
+    w[HELD] = p.held;
+    w[HIGH] = p.high;
+    w[LOW] = p.low;
 }

@@ -39,8 +39,8 @@ returns c =
       c .before .before .before .before .signed .ensures,
       c .before .result-flags .ensures,
       d .ensures,
-      carry-is (s .args .a) (s .args .b) (s .fits .a .fits) (s .fits .b .fits),
     )
+    (cc (carry-is (s .args .a) (s .args .b) (s .fits .a .fits) (s .fits .b .fits)))
 
 pub add-spec : {M : Type 1} → statement M
 add-spec =

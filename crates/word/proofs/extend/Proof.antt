@@ -1,5 +1,5 @@
 -- `word::extend` meets its contract: the k lowest bits, read as signed. Assumes nothing.
-use Prim.Native.Nat.{_^_}
+use Prim.Native.Nat.{ℕ, _*_, _%_, _^_, _≤_, _<_}
 use native.Mathlib.Omega.{arith}
 use native.Mathlib.Nat.{mod-lt, mod-le}
 use lib.Pow.{pow-pos}
@@ -9,6 +9,9 @@ use Rattle.word.specs.Word.{extendOf}
 use Rattle.word.proofs.Integers.{power-shifted, back}
 use Rattle.word.proofs.extend.Statement.{statement}
 use Rattle.word.proofs.extend.Tie as tie
+
+low-below : (k a : ℕ) → k ≤ 32 → a % ((1 * 2 ^ k) % 2 ^ 64) < 2 ^ k
+low-below k a u = rw (power-shifted k u) (mod-lt a (pow-pos k))
 
 shl-low : tie.Need-shl-low
 shl-low c = search needs
@@ -21,8 +24,7 @@ cast-low c = rw (power-shifted (c .args .k) (c .pre .1)) (omega (arith, mod-le (
 
 signed-field-requires : tie.Need-signed-field-requires
 signed-field-requires c κs =
-    rw (power-shifted (c .args .k) (c .pre .1))
-    (c .pre .0, c .pre .1, mod-lt (c .args .a) (pow-pos (c .args .k)))
+    (c .pre .0, c .pre .1, low-below (c .args .k) (c .args .a) (c .pre .1))
 
 word-requires : tie.Need-word-requires
 word-requires c κs = search needs

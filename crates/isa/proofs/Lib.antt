@@ -1,0 +1,4 @@
+-- Laws of the instruction set.
+pub mod Fields
+pub mod Table
+pub mod Rules

@@ -1,0 +1,64 @@
+-- The table of operations against 01's sentences, each by one computed test. Assumes nothing.
+use mathlib.Core.Path.{_≡_, refl}
+use mathlib.Core.Bool.{Bool, true, false, not, _&&_, _||_}
+use Prim.Native.Nat.{ℕ, _≤_, _<_}
+use native.Mathlib.Omega.{arith}
+use lib.Dec.{leb, eqb}
+use borrow.Author.Tests.{le-leb, lt-leb, ne-eqb}
+use Rattle.word.specs.Choice.{if_then_else_}
+use Rattle.isa.specs.Operation.{Operation, operations, operationOf, Width, w16, w32, widthBy, unavailable, Properties, properties}
+use Rattle.isa.specs.Decode.{codeOf}
+use Rattle.isa.specs.Computed.{instructions}
+use Rattle.isa.proofs.Table.{values, agree, by-number}
+
+-- n is one of low to high
+abbrev pub between : (low high n : ℕ) → Bool
+between low high n = leb low n && leb n high
+
+-- it is not, from high on
+outside : (low high n : ℕ) → high < n → between low high n ≡ false
+outside low high n h = rw (lt-leb n high h) (none (leb low n))
+  where
+    none : (b : Bool) → b && false ≡ false
+    none true = refl
+    none false = refl
+
+-- each row has its own number
+pub numbered : (n : ℕ) → n < 58 → properties (operationOf n) .number ≡ n
+unfolding instructions values
+numbered n h = agree (λ n. properties (operationOf n) .number) (λ n. n) 0 58 refl n (omega arith) h
+
+-- "Never conditional, bit 25 ignored: nop, cmp, cmpi .., lli, lui, jumps with an immediate, branches, 49 to 57"
+pub conditional-is : (n : ℕ) → properties (operationOf n) .conditional ≡ (between 1 31 n || between 38 39 n) || eqb n 48
+unfolding instructions values
+conditional-is = by-number (λ o. properties o .conditional) (λ n. (between 1 31 n || between 38 39 n) || eqb n 48) refl high
+  where
+    high : (n : ℕ) → 64 ≤ n → (between 1 31 n || between 38 39 n) || eqb n 48 ≡ false
+    high n h = rw (outside 1 31 n (omega arith), outside 38 39 n (omega arith), ne-eqb n 48 (λ e. omega arith))
+
+-- "control transfer in a slot (stop 13; operations 36 to 50 and swm ..)"
+pub transfer-is : (n : ℕ) → properties (operationOf n) .transfer ≡ between 36 50 n || eqb n 54
+unfolding instructions values
+transfer-is = by-number (λ o. properties o .transfer) (λ n. between 36 50 n || eqb n 54) refl high
+  where
+    high : (n : ℕ) → 64 ≤ n → between 36 50 n || eqb n 54 ≡ false
+    high n h = rw (outside 36 50 n (omega arith), ne-eqb n 54 (λ e. omega arith))
+
+-- "58 to 63 are unknown (code 01h)"; "Code 02h: lli, lui in 16-bit; those two (retu, chrs) in user mode"
+abbrev pub codeAt : (wide user : Bool) (n : ℕ) → ℕ
+codeAt wide user n =
+    if leb 58 n then 0x01
+    else if (between 34 35 n && not wide) || (eqb n 49 || eqb n 51) && user then 0x02
+    else 0
+
+pub unavailable-is : (wide user : Bool) (n : ℕ) → codeOf (unavailable (properties (operationOf n) .availability) (widthBy wide) user) ≡ codeAt wide user n
+unfolding instructions values
+unavailable-is wide user = by-number (λ o. codeOf (unavailable (properties o .availability) (widthBy wide) user)) (codeAt wide user) (computed wide user) high
+  where
+    computed : (wide user : Bool) → values (λ n. codeOf (unavailable (properties (operationOf n) .availability) (widthBy wide) user)) 0 64 ≡ values (codeAt wide user) 0 64
+    computed true true = refl
+    computed true false = refl
+    computed false true = refl
+    computed false false = refl
+    high : (n : ℕ) → 64 ≤ n → codeAt wide user n ≡ 0x01
+    high n h = rw (le-leb 58 n (omega arith))

@@ -1,0 +1,11 @@
+-- `isa::is_conditional` meets its contract. Assumes nothing.
+use mathlib.Core.Path.{sym}
+use Rattle.isa.proofs.Rules.{conditional-is}
+use Rattle.isa.proofs.is_conditional.Statement.{statement}
+use Rattle.isa.proofs.is_conditional.Tie as tie
+
+returns : tie.Need-returns
+returns c = sym (conditional-is (c .args .op))
+
+pub is-conditional-spec : {M : Type 1} → statement M
+is-conditional-spec = tie.close (tie.spec returns)

@@ -1,0 +1,81 @@
+-- `isa::narrow_move` meets its contract: each arm has the form of its operations. Assumes nothing.
+use mathlib.Core.Path.{refl, _∙_}
+use mathlib.Core.Logic.{⊎-elim}
+use Prim.Native.Nat.{_≤_}
+use native.Mathlib.Nat.{mul-one, add-zero, div-one}
+use native.Mathlib.Omega.{arith}
+use borrow.Author.Needs.{needs}
+use Rattle.isa.specs.Operation.{w16, TwoRegisters, Destination, CompareRegisters, CompareImmediate, Halfword}
+use Rattle.isa.specs.Computed.{instructions}
+use Rattle.isa.proofs.Table.{values, grouped}
+use Rattle.isa.proofs.narrow_move.Statement.{statement}
+use Rattle.isa.proofs.narrow_move.Tie as tie
+
+add-d : tie.Need-add-d
+add-d c = search needs
+
+add-s : tie.Need-add-s
+add-s c = search needs
+
+registers-requires : tie.Need-registers-requires
+registers-requires c κs = search needs
+
+registers-requires-2 : tie.Need-registers-requires-2
+registers-requires-2 c κs = search needs
+
+signed-requires : tie.Need-signed-requires
+signed-requires c κs = search needs
+
+registers-requires-3 : tie.Need-registers-requires-3
+registers-requires-3 c κs = search needs
+
+registers-requires-4 : tie.Need-registers-requires-4
+registers-requires-4 c κs = search needs
+
+returns : tie.Need-returns
+unfolding instructions values
+returns c =
+    let a = c .before .before .args in
+    c .registers .ensures ∙ (simp (mul-one, add-zero, div-one)) ∙ grouped w16 Destination 31 1 refl (a .op) (a .w) (omega arith) (omega arith)
+
+returns-2 : tie.Need-returns-2
+unfolding instructions values
+returns-2 c =
+    let a = c .before .before .args in
+    c .registers2 .ensures ∙ (simp (mul-one, add-zero, div-one)) ∙ grouped w16 CompareRegisters 32 1 refl (a .op) (a .w) (omega arith) (omega arith)
+
+returns-3 : tie.Need-returns-3
+unfolding instructions values
+returns-3 c =
+    let a = c .before .before .args in
+    c .signed .ensures ∙ (simp (mul-one, add-zero, div-one)) ∙ grouped w16 CompareImmediate 33 1 refl (a .op) (a .w) (omega arith) (omega arith)
+
+returns-4 : tie.Need-returns-4
+unfolding instructions values
+returns-4 c =
+    let a = c .before .before .before .before .args in
+    c .registers3 .ensures ∙ (simp (mul-one, add-zero, div-one)) ∙ grouped w16 TwoRegisters 29 2 refl (a .op) (a .w) (omega arith) (omega arith)
+
+returns-5 : tie.Need-returns-5
+unfolding instructions values
+returns-5 c =
+    let a = c .before .before .before .args in
+    let l : 34 ≤ a .op = ⊎-elim (λ w. omega arith) (λ w. omega arith) (c .before .if1 .came) in
+    c .registers4 .ensures ∙ grouped w16 Halfword 34 2 refl (a .op) (a .w) l (omega arith)
+
+pub narrow-move-spec : {M : Type 1} → statement M
+narrow-move-spec =
+    tie.close
+    (tie.spec
+    add-d
+    add-s
+    registers-requires
+    registers-requires-2
+    signed-requires
+    registers-requires-3
+    registers-requires-4
+    returns
+    returns-2
+    returns-3
+    returns-4
+    returns-5)

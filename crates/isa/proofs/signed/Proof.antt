@@ -1,0 +1,16 @@
+-- `isa::signed` meets its contract. Assumes nothing.
+use mathlib.Core.Path.{_≡_}
+use mir.Syntax.{w32}
+use borrow.Author.Needs.{needs}
+use Rattle.word.proofs.Integers.{back}
+use Rattle.isa.proofs.signed.Statement.{statement}
+use Rattle.isa.proofs.signed.Tie as tie
+
+signed-field-requires : tie.Need-signed-field-requires
+signed-field-requires c κs = search needs
+
+returns : tie.Need-returns
+returns c = rw (back w32 (c .signed-field .result) (c .signed-field .ok), c .signed-field .ensures)
+
+pub signed-spec : {M : Type 1} → statement M
+signed-spec = tie.close (tie.spec signed-field-requires returns)

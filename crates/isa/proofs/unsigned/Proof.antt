@@ -1,0 +1,16 @@
+-- `isa::unsigned` meets its contract: the immediate is its own signed number. Assumes nothing.
+use mir.Syntax.{w32}
+use mir.Facts.{toZ-pos}
+use borrow.Author.Needs.{needs}
+use native.Mathlib.Omega.{arith}
+use Rattle.isa.proofs.unsigned.Statement.{statement}
+use Rattle.isa.proofs.unsigned.Tie as tie
+
+cast-t4 : tie.Need-cast-t4
+cast-t4 c = search needs
+
+returns : tie.Need-returns
+returns c = rw (toZ-pos w32 {n = c .args .n} (omega arith))
+
+pub unsigned-spec : {M : Type 1} → statement M
+unsigned-spec = tie.close (tie.spec cast-t4 returns)

@@ -1,0 +1,81 @@
+-- `isa::wide_move` meets its contract: each arm has the form of its operations. Assumes nothing.
+use mathlib.Core.Path.{refl, _∙_}
+use mathlib.Core.Logic.{⊎-elim}
+use Prim.Native.Nat.{_≤_}
+use native.Mathlib.Nat.{mul-one, add-zero, div-one}
+use native.Mathlib.Omega.{arith}
+use borrow.Author.Needs.{needs}
+use Rattle.isa.specs.Operation.{w32, TwoRegisters, Destination, CompareRegisters, CompareImmediate, Halfword}
+use Rattle.isa.specs.Computed.{instructions}
+use Rattle.isa.proofs.Table.{values, grouped}
+use Rattle.isa.proofs.wide_move.Statement.{statement}
+use Rattle.isa.proofs.wide_move.Tie as tie
+
+registers-requires : tie.Need-registers-requires
+registers-requires c κs = search needs
+
+registers-requires-2 : tie.Need-registers-requires-2
+registers-requires-2 c κs = search needs
+
+mul-signed : tie.Need-mul-signed
+mul-signed c = search needs
+
+add-signed : tie.Need-add-signed
+add-signed c = search needs
+
+signed-requires : tie.Need-signed-requires
+signed-requires c κs = search needs
+
+registers-requires-3 : tie.Need-registers-requires-3
+registers-requires-3 c κs = search needs
+
+unsigned-requires : tie.Need-unsigned-requires
+unsigned-requires c κs = search needs
+
+returns : tie.Need-returns
+unfolding instructions values
+returns c =
+    let a = c .before .before .args in
+    c .registers .ensures ∙ (simp (mul-one, add-zero, div-one)) ∙ grouped w32 Destination 31 1 refl (a .op) (a .w) (omega arith) (omega arith)
+
+returns-2 : tie.Need-returns-2
+unfolding instructions values
+returns-2 c =
+    let a = c .before .before .args in
+    c .registers2 .ensures ∙ (simp (mul-one, add-zero, div-one)) ∙ grouped w32 CompareRegisters 32 1 refl (a .op) (a .w) (omega arith) (omega arith)
+
+returns-3 : tie.Need-returns-3
+unfolding instructions values
+returns-3 c =
+    let a = c .before .before .args in
+    c .signed .ensures ∙ (simp (mul-one, add-zero, div-one)) ∙ grouped w32 CompareImmediate 33 1 refl (a .op) (a .w) (omega arith) (omega arith)
+
+returns-4 : tie.Need-returns-4
+unfolding instructions values
+returns-4 c =
+    let a = c .before .before .before .before .args in
+    c .registers3 .ensures ∙ (simp (mul-one, add-zero, div-one)) ∙ grouped w32 TwoRegisters 29 2 refl (a .op) (a .w) (omega arith) (omega arith)
+
+returns-5 : tie.Need-returns-5
+unfolding instructions values
+returns-5 c =
+    let a = c .before .before .before .args in
+    let l : 34 ≤ a .op = ⊎-elim (λ w. omega arith) (λ w. omega arith) (c .before .if1 .came) in
+    c .unsigned .ensures ∙ (simp (mul-one, add-zero, div-one)) ∙ grouped w32 Halfword 34 2 refl (a .op) (a .w) l (omega arith)
+
+pub wide-move-spec : {M : Type 1} → statement M
+wide-move-spec =
+    tie.close
+    (tie.spec
+    registers-requires
+    registers-requires-2
+    mul-signed
+    add-signed
+    signed-requires
+    registers-requires-3
+    unsigned-requires
+    returns
+    returns-2
+    returns-3
+    returns-4
+    returns-5)

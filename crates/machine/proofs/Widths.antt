@@ -1,0 +1,114 @@
+-- What control registers hold, by their offsets: tests of the table that are computed once, as laws of every number. Assumes nothing.
+use mathlib.Core.Path.{_≡_, refl, sym, ap, _∙_}
+use mathlib.Core.Bool.{Bool, true, false, _&&_, _||_, Bool·beq}
+use mathlib.Core.List.{List, [], _∷_}
+use Prim.Native.Nat.{ℕ, zero, suc, _-_, _*_, _/_, _%_, _^_, _≤_, _<_}
+use native.Mathlib.Omega.{arith}
+use native.Mathlib.Nat.{not-suc-le-zero}
+use lib.Dec.{leb, ltb, eqb}
+use lib.ListN.{set, List·getD-eq-default}
+use lib.Bits.{bitAnd, and-mask}
+use borrow.Author.Tests.{ltb-true, ltb-false, eqb-true, le-ltb, ne-eqb}
+use Rattle.word.specs.Choice.{if_then_else_}
+use Rattle.word.specs.Flags.{isAmong}
+use Rattle.machine.specs.Control.{Register, registers, registerAt, largest, keptBy, isWritable, storedControl}
+
+-- ---- a test of the numbers below k
+
+holdsBelow : (ℕ → Bool) → ℕ → Bool
+holdsBelow f zero = true
+holdsBelow f (suc k) = f k && holdsBelow f k
+
+holds-at : (f : ℕ → Bool) (k n : ℕ) → holdsBelow f k ≡ true → n < k → f n ≡ true
+unfolding holdsBelow
+holds-at f zero n e h = absurd (not-suc-le-zero h)
+holds-at f (suc k) n e h = go (f k) (ltb n k) refl refl e (holds-at f k n)
+  where
+    go : (b t : Bool) → f k ≡ b → ltb n k ≡ t → b && holdsBelow f k ≡ true → (holdsBelow f k ≡ true → n < k → f n ≡ true) → f n ≡ true
+    go true true q p r below = below r (ltb-true n k p)
+    go true false q p r below = let l : k ≤ n = ltb-false n k p in let s : n ≡ k = omega arith in ap f s ∙ q
+    go false t q p r below = absurd (let z : _≡_ {A = ℕ} 0 1 = cc in omega arith)
+
+-- ---- all numbers but some
+
+-- n is none of a list, the last first
+abbrev pub Avoids : (ns : List ℕ) (n : ℕ) → Type 0
+Avoids [] n = Unit {0}
+Avoids (k ∷ ks) n = Avoids ks n × (n ≡ k → ⊥)
+
+avoids-among : (ks : List ℕ) (n : ℕ) → Avoids ks n → isAmong n ks ≡ false
+unfolding isAmong
+avoids-among [] n h = refl
+avoids-among (k ∷ ks) n h = rw (ne-eqb k n (λ e. h .1 (sym e))) (avoids-among ks n (h .0))
+
+-- a test of the 45 registers but some, and of the offsets beyond them
+otherwise : (ks : List ℕ) (f : ℕ → Bool) → holdsBelow (λ n. isAmong n ks || f n) 45 ≡ true → ((n : ℕ) → 45 ≤ n → f n ≡ true)
+    → (n : ℕ) → Avoids ks n → f n ≡ true
+otherwise ks f e high n h = go (ltb n 45) refl
+  where
+    go : (b : Bool) → ltb n 45 ≡ b → f n ≡ true
+    go true p = rw (avoids-among ks n h) at (holds-at (λ n. isAmong n ks || f n) 45 n e (ltb-true n 45 p))
+    go false p = high n (ltb-false n 45 p)
+
+-- ---- the registers
+
+-- beyond the block's registers
+beyond : (n : ℕ) → 45 ≤ n → registerAt n ≡ registerAt 45
+unfolding registerAt registers
+beyond n h = List·getD-eq-default registers _ h
+
+-- the registers of fewer than 32 bits, the last first
+abbrev pub short : List ℕ
+short = 0x2A ∷ 0x29 ∷ 0x22 ∷ 0x21 ∷ 0x1E ∷ 0x19 ∷ 0x17 ∷ 0x16 ∷ 0x14 ∷ 0x13 ∷ 0x12 ∷ 0x11 ∷ 0x10 ∷ []
+
+pub wide : (n : ℕ) → Avoids short n → 0xFFFF_FFFF ≡ largest (registerAt n)
+unfolding holdsBelow isAmong registerAt registers largest
+wide n h = sym (eqb-true _ _ (otherwise short (λ n. eqb (largest (registerAt n)) 0xFFFF_FFFF) refl (λ n l. ap (λ r. eqb (largest r) 0xFFFF_FFFF) (beyond n l)) n h))
+
+-- the read-only registers below 28h, the last first
+abbrev pub readOnlys : List ℕ
+readOnlys = 0x19 ∷ 0x18 ∷ 0x17 ∷ 0x14 ∷ 0x13 ∷ []
+
+pub writable-below : (n : ℕ) → Avoids readOnlys n → ltb n 0x28 ≡ isWritable (registerAt n .access)
+unfolding holdsBelow isAmong registerAt registers isWritable
+writable-below n h = same _ _ (otherwise readOnlys (λ n. Bool·beq (ltb n 0x28) (isWritable (registerAt n .access))) refl high n h)
+  where
+    high : (n : ℕ) → 45 ≤ n → Bool·beq (ltb n 0x28) (isWritable (registerAt n .access)) ≡ true
+    high n l = rw (le-ltb n 0x28 (omega arith), beyond n l)
+
+    same : (a b : Bool) → Bool·beq a b ≡ true → a ≡ b
+    same true true e = refl
+    same true false e = sym e
+    same false true e = e
+    same false false e = refl
+
+-- no register but CCB_BASE has bits that are stored 0
+pub no-zeros : (n : ℕ) → (n ≡ 0 → ⊥) → registerAt n .zeros ≡ 0
+unfolding holdsBelow isAmong registerAt registers
+no-zeros n h = eqb-true _ _ (otherwise (0 ∷ []) (λ n. eqb (registerAt n .zeros) 0) refl (λ n l. ap (λ r. eqb (r .zeros) 0) (beyond n l)) n (tt, h))
+
+-- ---- stores
+
+pub mask-kept : (r : Register) (x : ℕ) → bitAnd x (largest r) / 2 ^ r .zeros * 2 ^ r .zeros ≡ keptBy r x
+unfolding largest keptBy
+mask-kept r x = ap (λ y. y / 2 ^ r .zeros * 2 ^ r .zeros) (and-mask x (r .width))
+
+pub mask-whole : (r : Register) (x : ℕ) → r .zeros ≡ 0 → bitAnd x (largest r) ≡ keptBy r x
+mask-whole r x z = sym (sym (mask-kept r x) ∙ rw z (omega arith))
+
+-- a writable register is one of the block's
+pub writable-small : (n : ℕ) → isWritable (registerAt n .access) ≡ true → n < 45
+unfolding registers registerAt isWritable
+writable-small n h = go (ltb n 45) refl
+  where
+    go : (b : Bool) → ltb n 45 ≡ b → n < 45
+    go true p = ltb-true n 45 p
+    go false p = absurd (let z : _≡_ {A = ℕ} 0 1 = cc (rw (beyond n (ltb-false n 45 p)) at h) in omega arith)
+
+pub stored-writable : (n x : ℕ) (l : List ℕ) → isWritable (registerAt n .access) ≡ true → storedControl n x l ≡ set l n (keptBy (registerAt n) x)
+unfolding storedControl if_then_else_
+stored-writable n x l h = rw h
+
+pub stored-ignored : (n x : ℕ) (l : List ℕ) → isWritable (registerAt n .access) ≡ false → storedControl n x l ≡ l
+unfolding storedControl if_then_else_
+stored-ignored n x l h = rw h

@@ -1,0 +1,25 @@
+-- `machine::kept` meets its contract: the low bits by a mask. Assumes nothing.
+use mathlib.Core.Path.{_∙_}
+use native.Mathlib.Omega.{arith}
+use lib.Bits.{and-le-l}
+use Rattle.machine.specs.Control.{registers, registerAt}
+use Rattle.machine.proofs.Widths.{no-zeros, mask-kept, mask-whole}
+use borrow.Author.Needs.{needs}
+use Rattle.machine.proofs.kept.Statement.{statement}
+use Rattle.machine.proofs.kept.Tie as tie
+
+limit-requires : tie.Need-limit-requires
+limit-requires c κs = search needs
+
+mul-result : tie.Need-mul-result
+mul-result c = omega (arith, and-le-l (c .before .before .args .x) (c .before .limit .result))
+
+returns : tie.Need-returns
+unfolding registers registerAt
+returns c = rw (c .before .limit .ensures, c .if1 .taken) (mask-kept (registerAt 0) (c .before .before .args .x))
+
+returns-2 : tie.Need-returns-2
+returns-2 c = rw (c .before .limit .ensures) (mask-whole (registerAt (c .before .before .args .offset)) (c .before .before .args .x) (no-zeros (c .before .before .args .offset) (c .if1 .left)))
+
+pub kept-spec : {M : Type 1} → statement M
+kept-spec = tie.close (tie.spec limit-requires mul-result returns returns-2)

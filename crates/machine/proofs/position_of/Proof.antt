@@ -1,0 +1,45 @@
+-- `machine::position_of` meets its contract: number by number. Assumes nothing.
+use borrow.Author.Needs.{needs}
+use Rattle.machine.proofs.position_of.Statement.{statement}
+use Rattle.machine.proofs.position_of.Tie as tie
+
+pc-requires : tie.Need-pc-requires
+pc-requires c κs = search needs
+
+slot-requires : tie.Need-slot-requires
+slot-requires c κs = search needs
+
+target-requires : tie.Need-target-requires
+target-requires c κs = search needs
+
+held-requires : tie.Need-held-requires
+held-requires c κs = search needs
+
+high-requires : tie.Need-high-requires
+high-requires c κs = search needs
+
+low-requires : tie.Need-low-requires
+low-requires c κs = search needs
+
+returns : tie.Need-returns
+returns c =
+    λ i. record {
+      pc = c .before .before .before .before .before .pc .ensures i;
+      slot = c .before .before .before .before .slot .ensures i;
+      target = c .before .before .before .target .ensures i;
+      held = c .before .before .held .ensures i;
+      high = c .before .high .ensures i;
+      low = c .low .ensures i;
+    }
+
+pub position-of-spec : {M : Type 1} → statement M
+position-of-spec =
+    tie.close
+    (tie.spec
+    pc-requires
+    slot-requires
+    target-requires
+    held-requires
+    high-requires
+    low-requires
+    returns)

@@ -1,0 +1,22 @@
+-- `machine::register` meets its contract: an element of the set that the bit names. Assumes nothing.
+use mathlib.Core.Path.{sym, _∙_}
+use native.Mathlib.Omega.{arith}
+use Rattle.machine.proofs.Flat.{start-small, register-at}
+use borrow.Author.Needs.{needs}
+use Rattle.machine.proofs.register.Statement.{statement}
+use Rattle.machine.proofs.register.Tie as tie
+
+place-requires : tie.Need-place-requires
+place-requires c κs = search needs
+
+mul-result : tie.Need-mul-result
+mul-result c = omega (arith, start-small (c .before .before .args .second))
+
+shared-slice-read-result : tie.Need-shared-slice-read-result
+shared-slice-read-result c = omega (arith, start-small (c .before .before .before .args .second))
+
+returns : tie.Need-returns
+returns c = rw (c .before .place .ensures) (sym (register-at (c .before .before .before .args .w .now) (c .before .before .before .args .second) (c .before .before .before .args .n) (c .before .before .before .pre .1)))
+
+pub register-spec : {M : Type 1} → statement M
+register-spec = tie.close (tie.spec place-requires mul-result shared-slice-read-result returns)

@@ -1,0 +1,24 @@
+-- `machine::set_register` meets its contract: it stores an element of the set that the bit names. Assumes nothing.
+use native.Mathlib.Omega.{arith}
+use Rattle.machine.proofs.Flat.{start-small, register-stored}
+use borrow.Author.Needs.{needs}
+use Rattle.machine.proofs.set_register.Statement.{statement}
+use Rattle.machine.proofs.set_register.Tie as tie
+
+place-requires : tie.Need-place-requires
+place-requires c κs = search needs
+
+mul-w : tie.Need-mul-w
+mul-w c = omega (arith, start-small (c .before .before .args .second))
+
+slice-write-w : tie.Need-slice-write-w
+slice-write-w c = omega (arith, start-small (c .before .before .args .second))
+
+same-length : tie.Need-same-length
+same-length c = search needs
+
+returns : tie.Need-returns
+returns c = rw (c .place .ensures) (register-stored (c .before .before .args .w .now) (c .before .before .args .x) (c .before .before .args .n) (c .before .before .args .second) (c .before .before .pre .1))
+
+pub set-register-spec : {M : Type 1} → statement M
+set-register-spec = tie.close (tie.spec place-requires mul-w slice-write-w same-length returns)

@@ -1,0 +1,32 @@
+-- `machine::store_control` meets its contract: a writable register keeps what it can hold, and any other stays. Assumes nothing.
+use mathlib.Core.Path.{sym, ap, _∙_}
+use Rattle.machine.specs.Machine.{withControl}
+use Rattle.machine.specs.Control.{registerAt}
+use Rattle.machine.proofs.Widths.{writable-small, stored-writable, stored-ignored}
+use borrow.Author.Needs.{needs}
+use Rattle.machine.proofs.store_control.Statement.{statement}
+use Rattle.machine.proofs.store_control.Tie as tie
+
+writable-requires : tie.Need-writable-requires
+writable-requires c κs = search needs
+
+kept-requires : tie.Need-kept-requires
+kept-requires c κs = search needs
+
+set-control-requires : tie.Need-set-control-requires
+set-control-requires c κs = (search needs, writable-small (c .before .before .before .before .before .args .offset) (sym (c .before .before .before .writable .ensures) ∙ c .before .before .if1 .taken))
+
+same-length : tie.Need-same-length
+same-length c = search needs
+
+returns : tie.Need-returns
+returns c = rw (stored-writable _ _ _ (sym (c .before .before .before .before .before .before .writable .ensures) ∙ c .before .before .before .before .before .if1 .taken), ← (c .before .before .before .kept .ensures)) (c .before .before .set-control .ensures)
+
+returns-2 : tie.Need-returns-2
+unfolding withControl
+returns-2 c = rw (stored-ignored _ _ _ (sym (c .before .writable .ensures) ∙ c .if1 .left))
+
+pub store-control-spec : {M : Type 1} → statement M
+store-control-spec =
+    tie.close
+    (tie.spec writable-requires kept-requires set-control-requires same-length returns returns-2)
