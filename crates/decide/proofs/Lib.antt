@@ -1,2 +1,3 @@
 -- Laws of what the next instruction does.
 pub mod Ranges
+pub mod Bytes

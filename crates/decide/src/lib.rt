@@ -1,5 +1,17 @@
 // What the next instruction does: fetch, decode, the order of the tests, one clause for each operation.
 mod arithmetic;
+mod program;
+
+pub use program::fetch;
+
+// Bits of PSR (002 section 2.4): user mode, registers read from set 2, registers written in set 2, 32-bit words.
+const UM: u32 = 0;
+
+const RSRD: u32 = 1;
+
+const RSWR: u32 = 2;
+
+const IL: u32 = 3;
 
 // What a fetch gives.
 pub enum Fetched {
@@ -58,9 +70,4 @@ pub enum Effect {
     UserReturn,
     // RSRD + 2 × RSWR.
     SelectSets(u32),
-}
-
-// The length in bytes of a 32-bit word.
-pub fn word_bytes() -> u32 {
-    4
 }
