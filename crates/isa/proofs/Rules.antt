@@ -60,6 +60,5 @@ unavailable-is wide user = by-number (λ o. codeOf (unavailable (properties o .a
     computed true false = refl
     computed false true = refl
     computed false false = refl
-
     high : (n : ℕ) → 64 ≤ n → codeAt wide user n ≡ 0x01
     high n h = rw (le-leb 58 n (omega arith))

@@ -33,29 +33,19 @@ pub struct Entry {
 
 // Where the sections' numbers begin, each just after its count, and where single numbers lie.
 const SET1: usize = 1;
-
 const SET2: usize = 34;
-
 const PSR: usize = 63;
-
 const CONDITIONS: usize = 67;
-
 const CONTROL: usize = 76;
 // The program position.
 const PC: usize = 122;
-
 const SLOT: usize = 123;
-
 const TARGET: usize = 124;
-
 const HELD: usize = 125;
-
 const HIGH: usize = 126;
-
 const LOW: usize = 127;
 // The count of stack entries, and the entries, the top last.
 const DEPTH: usize = 128;
-
 const ENTRIES: usize = 129;
 
 // The number of words of the longest image.
