@@ -1,3 +1,4 @@
 -- Laws of what the next instruction does.
 pub mod Ranges
 pub mod Bytes
+pub mod Bounds
