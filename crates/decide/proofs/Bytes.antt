@@ -126,6 +126,11 @@ unfolding bytesOf
 bytes-positive w16 = omega arith
 bytes-positive w32 = omega arith
 
+pub bytes-most : (width : Width) → bytesOf width ≤ 4
+unfolding bytesOf
+bytes-most w16 = omega arith
+bytes-most w32 = omega arith
+
 -- a word at an aligned address lies below 2 ^ 32
 pub aligned-fits : (width : Width) (n a : ℕ) → n ≡ bytesOf width → a < 2 ^ 32 → a % n ≡ 0 → a + n ≤ 2 ^ 32
 unfolding bytesOf

@@ -2,3 +2,4 @@
 pub mod Ranges
 pub mod Bytes
 pub mod Bounds
+pub mod Groups

@@ -1,5 +1,6 @@
 // What the next instruction does: fetch, decode, the order of the tests, one clause for each operation.
 mod arithmetic;
+mod jump;
 mod memory;
 mod program;
 
