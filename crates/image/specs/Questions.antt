@@ -2,6 +2,7 @@
 use mathlib.Core.Bool.{Bool, true, false, _&&_}
 use mathlib.Core.List.{List, [], _∷_}
 use Prim.Native.Nat.{ℕ, suc, _%_, _^_}
+use lib.ListN.{length}
 use lib.Dec.{ltb, eqb}
 use Rattle.word.specs.Flags.{distinctBelow}
 use Rattle.machine.specs.Machine.{Machine, psr, userMode}
@@ -88,3 +89,19 @@ stackTests m =
 
 unfoldable pub question5 : Machine → Bool
 question5 m = all (stackTests m)
+
+-- ---- a well-formed machine: its lists have their counts, and 3 to 5 are yes
+
+unfoldable pub formTests : Machine → List Bool
+formTests m =
+    eqb (length (m .set1)) 32 ∷
+    eqb (length (m .set2)) 32 ∷
+    eqb (length (m .conditions)) 8 ∷
+    eqb (length (m .control)) 45 ∷
+    question3 m ∷
+    question4 m ∷
+    question5 m ∷
+    []
+
+unfoldable pub wellFormed : Machine → Bool
+wellFormed m = all (formTests m)

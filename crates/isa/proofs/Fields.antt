@@ -1,13 +1,42 @@
 -- Fields in pieces. Assumes nothing.
-use mathlib.Core.Path.{_≡_, refl}
+use mathlib.Core.Path.{_≡_}
+use mathlib.Core.Bool.{Bool, true, false, _&&_, _||_}
 use mathlib.Core.List.{List, [], _∷_}
-use Prim.Native.Nat.{ℕ, _+_, _*_, _/_, _%_, _^_, _≤_, _<_}
-use native.Mathlib.Nat.{mul-one, add-zero}
+use Prim.Native.Nat.{ℕ, _+_, _*_, _/_, _^_, _≤_, _<_}
+use native.Mathlib.Nat.{div-lt-iff-lt-mul}
 use native.Mathlib.Omega.{arith}
+use lib.Dec.{leb}
+use lib.Pow.{pow-pos, pow-add, high}
 use Rattle.word.specs.Word.{Field, fieldOf}
+use Rattle.word.proofs.Bounds.{field-below}
 use Rattle.isa.specs.Format.{fieldsWidth, fieldsOf}
 
--- a field of one piece
-pub one-piece : (f : Field) (word : ℕ) → fieldsOf (f ∷ []) word ≡ fieldOf f word
+-- what pieces hold fits their bits
+pub fields-below : (fs : List Field) (word : ℕ) → fieldsOf fs word < 2 ^ fieldsWidth fs
 unfolding fieldsOf fieldsWidth
-one-piece f word = simp (mul-one, add-zero)
+fields-below [] word = omega arith
+fields-below (f ∷ fs) word =
+    let above : (fieldOf f word * 2 ^ fieldsWidth fs + fieldsOf fs word) / 2 ^ fieldsWidth fs < 2 ^ f .width =
+    rw (high (fieldOf f word) (fieldsWidth fs) (fields-below fs word)) (field-below f word)
+    in
+    rw (pow-add 2 (f .width) (fieldsWidth fs)) (div-lt-iff-lt-mul (pow-pos (fieldsWidth fs)) .0 above)
+
+-- ---- tests of pieces
+
+-- all lie below bit k
+unfoldable pub within : (k : ℕ) → List Field → Bool
+within k [] = true
+within k (f ∷ fs) = leb (f .place + f .width) k && within k fs
+
+-- two share no bit
+unfoldable pub apart : Field → Field → Bool
+apart f g = leb (f .place + f .width) (g .place) || leb (g .place + g .width) (f .place)
+
+unfoldable pub apartFrom : Field → List Field → Bool
+apartFrom f [] = true
+apartFrom f (g ∷ gs) = apart f g && apartFrom f gs
+
+-- no two of a list share a bit
+unfoldable pub separate : List Field → Bool
+separate [] = true
+separate (f ∷ fs) = apartFrom f fs && separate fs

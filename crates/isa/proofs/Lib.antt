@@ -2,3 +2,6 @@
 pub mod Fields
 pub mod Table
 pub mod Rules
+pub mod Rows
+pub mod Decoded
+pub mod Worked

@@ -1,13 +1,15 @@
 -- The table of operations against 01's sentences, each by one computed test. Assumes nothing.
 use mathlib.Core.Path.{_≡_, refl}
-use mathlib.Core.Bool.{Bool, true, false, not, _&&_, _||_}
+use mathlib.Core.Logic.{_≢_}
+use mathlib.Core.Option.{Option, none, some}
+use mathlib.Core.Bool.{Bool, true, false, not, _&&_, _||_, and-false}
 use Prim.Native.Nat.{ℕ, _≤_, _<_}
 use native.Mathlib.Omega.{arith}
 use lib.Dec.{leb, eqb}
-use borrow.Author.Tests.{le-leb, lt-leb, ne-eqb}
+use lib.ListN.{length}
+use borrow.Author.Tests.{leb-true, le-leb, lt-leb, ne-eqb}
 use Rattle.word.specs.Choice.{if_then_else_}
-use Rattle.isa.specs.Operation.{Operation, operations, operationOf, Width, w16, w32, widthBy, unavailable, Properties, properties}
-use Rattle.isa.specs.Decode.{codeOf}
+use Rattle.isa.specs.Operation.{Operation, operations, operationOf, Width, w16, w32, widthBy, Availability, anywhere, wideOnly, superOnly, nowhere, unavailable, codeOf, Properties, properties}
 use Rattle.isa.specs.Computed.{instructions}
 use Rattle.isa.proofs.Table.{values, agree, by-number}
 
@@ -15,18 +17,19 @@ use Rattle.isa.proofs.Table.{values, agree, by-number}
 abbrev pub between : (low high n : ℕ) → Bool
 between low high n = leb low n && leb n high
 
--- it is not, from high on
+-- it is not, past high
 outside : (low high n : ℕ) → high < n → between low high n ≡ false
-outside low high n h = rw (lt-leb n high h) (none (leb low n))
-  where
-    none : (b : Bool) → b && false ≡ false
-    none true = refl
-    none false = refl
+outside low high n h = rw (lt-leb n high h) (and-false (leb low n))
 
 -- each row has its own number
 pub numbered : (n : ℕ) → n < 58 → properties (operationOf n) .number ≡ n
 unfolding instructions values
 numbered n h = agree (λ n. properties (operationOf n) .number) (λ n. n) 0 58 refl n (omega arith) h
+
+-- mnemonics have at most eight bytes
+pub mnemonic-short : (n : ℕ) → length (properties (operationOf n) .mnemonic) ≤ 8
+unfolding instructions values
+mnemonic-short n = leb-true _ 8 (by-number (λ o. leb (length (properties o .mnemonic)) 8) (λ n. true) refl (λ n h. refl) n)
 
 -- "Never conditional, bit 25 ignored: nop, cmp, cmpi .., lli, lui, jumps with an immediate, branches, 49 to 57"
 pub conditional-is : (n : ℕ) → properties (operationOf n) .conditional ≡ (between 1 31 n || between 38 39 n) || eqb n 48
@@ -60,5 +63,24 @@ unavailable-is wide user = by-number (λ o. codeOf (unavailable (properties o .a
     computed true false = refl
     computed false true = refl
     computed false false = refl
+
     high : (n : ℕ) → 64 ≤ n → codeAt wide user n ≡ 0x01
     high n h = rw (le-leb 58 n (omega arith))
+
+-- ---- the answer of `unavailability`
+
+-- 0: the operation may be used
+pub available : (a : Availability) (width : Width) (user : Bool) → codeOf (unavailable a width user) ≡ 0 → unavailable a width user ≡ none
+unfolding unavailable codeOf
+available anywhere width user e = refl
+available wideOnly w16 user e = let z : ⊥ = omega arith in absurd z
+available wideOnly w32 user e = refl
+available superOnly width true e = let z : ⊥ = omega arith in absurd z
+available superOnly width false e = refl
+available nowhere width user e = let z : ⊥ = omega arith in absurd z
+
+-- another number: it is the exception's code
+pub refused : (o : Option ℕ) → codeOf o ≢ 0 → o ≡ some (codeOf o)
+unfolding codeOf
+refused none d = absurd (d refl)
+refused (some code) d = refl

@@ -45,14 +45,18 @@ pub beyond : (n : ℕ) → 64 ≤ n → operationOf n ≡ unknown
 unfolding operationOf operations
 beyond n h = List·getD-eq-default operations unknown h
 
--- a property of the operations, computed for the 64 numbers, at every number
+-- a property of the operations, computed for the 64 numbers, at every number: beyond them it is as at 63
 pub by-number : {A : Type 0} (f : Operation → A) (g : ℕ → A) → values (λ n. f (operationOf n)) 0 64 ≡ values g 0 64
-    → ((n : ℕ) → 64 ≤ n → g n ≡ f unknown) → (n : ℕ) → f (operationOf n) ≡ g n
+    → ((n : ℕ) → 64 ≤ n → g n ≡ g 63) → (n : ℕ) → f (operationOf n) ≡ g n
+unfolding operationOf operations
 by-number f g e high n = go (ltb n 64) refl
   where
     go : (b : Bool) → ltb n 64 ≡ b → f (operationOf n) ≡ g n
     go true t = agree (λ n. f (operationOf n)) g 0 64 e n (omega arith) (ltb-true n 64 t)
-    go false t = let l : 64 ≤ n = ltb-false n 64 t in ap f (beyond n l) ∙ sym (high n l)
+    go false t =
+        let l : 64 ≤ n = ltb-false n 64 t in
+        let last : f unknown ≡ g 63 = agree (λ n. f (operationOf n)) g 0 64 e 63 (omega arith) (omega arith) in
+        ap f (beyond n l) ∙ last ∙ sym (high n l)
 
 -- 58 to 63 are unknown, and beyond them there is nothing
 pub unknown-from : (n : ℕ) → 58 ≤ n → operationOf n ≡ unknown

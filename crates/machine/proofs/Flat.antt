@@ -5,13 +5,16 @@ use mathlib.Core.Bool.{Bool, true, false, _||_}
 use mathlib.Core.List.{List, [], _∷_, _++_, reverse, reverse-append, append-assoc}
 use Prim.Native.Nat.{ℕ, zero, suc, _+_, _-_, _*_, _≤_, _<_}
 use native.Mathlib.Omega.{arith}
-use lib.Dec.{leb}
-use lib.ListN.{length, getD, set, take, drop, length-drop, length-set, length-reverse, List·getD-eq-default}
-use lib.Seq.{drop-set-add, drop-set-lt, take-set-lt, take-set-le, getD-set-same, getD-set-other, getD-take, getD-drop, drop-drop, length-take-le, sets, sets-eq, take-at, drop-at}
+use native.Mathlib.Nat.{add-zero}
+use native.Mathlib.Numerals.{add-one}
+use lib.Dec.{leb, lit<}
+use lib.ListN.{length, getD, set, take, drop, length-drop, length-reverse, List·getD-eq-default}
+use lib.Seq.{drop-set-add, drop-set-lt, take-set-lt, take-set-le, getD-set-same, getD-set-other, getD-take, getD-drop, drop-drop, length-take-le, sets, sets-eq, length-sets, take-at, drop-at}
 use borrow.Author.Tests.{leb-true}
 use Rattle.machine.specs.Machine.{Machine, withSet1, withSet2, withConditions, withControl, withPosition, setBy, withRegister}
-use Rattle.machine.specs.Control.{controlAt}
-use Rattle.machine.specs.Words.{SET1, SET2, CONDITIONS, CONTROL, POSITION, DEPTH, ENTRIES, WORDS, startBy, section, positionOf, entriesOf, machineOf}
+use Rattle.machine.specs.Control.{controlAt, INT-SERV, RETI-ADDR, RETI-PSR, RETI-CR0}
+use Rattle.machine.specs.Stack.{popped, serviceFlags, shownTop, showTop, showStack, withStack}
+use Rattle.machine.specs.Words.{SET1, SET2, CONDITIONS, CONTROL, POSITION, DEPTH, ENTRIES, WORDS, startBy, section, positionOf, entryOf, entriesOf, machineOf}
 use Rattle.machine.specs.declared.Position.{Position}
 use Rattle.machine.specs.declared.Entry.{Entry}
 
@@ -61,16 +64,16 @@ fill-in w start vs h =
     rw (sets-eq vs w start h, append-assoc (take start w) vs rest, drop-at (take start w) (vs ++ rest) start (length-take-le start w (omega arith)))
     (take-at vs rest (length vs) refl)
 
-pub fill-apart : (w : List ℕ) (start : ℕ) (vs : List ℕ) (m n : ℕ) → apart start (length vs) m n ≡ true → section m n (sets w start vs) ≡ section m n w
-fill-apart w start vs m n e = split-apart start (length vs) m n e (short w start vs) (past w start vs)
-  where
-    short : (w : List ℕ) (i : ℕ) (vs : List ℕ) → i + length vs ≤ m → section m n (sets w i vs) ≡ section m n w
-    short w i [] l = refl
-    short w i (v ∷ vs) l = short (set w i v) (suc i) vs (omega arith) ∙ store-short w m n i v (omega arith)
+fill-short : (w : List ℕ) (start count i : ℕ) (vs : List ℕ) → i + length vs ≤ start → section start count (sets w i vs) ≡ section start count w
+fill-short w m n i [] h = refl
+fill-short w m n i (v ∷ vs) h = fill-short (set w i v) m n (suc i) vs (omega arith) ∙ store-short w m n i v (omega arith)
 
-    past : (w : List ℕ) (i : ℕ) (vs : List ℕ) → m + n ≤ i → section m n (sets w i vs) ≡ section m n w
-    past w i [] l = refl
-    past w i (v ∷ vs) l = past (set w i v) (suc i) vs (omega arith) ∙ store-past w m n i v l
+fill-past : (w : List ℕ) (start count i : ℕ) (vs : List ℕ) → start + count ≤ i → section start count (sets w i vs) ≡ section start count w
+fill-past w m n i [] h = refl
+fill-past w m n i (v ∷ vs) h = fill-past (set w i v) m n (suc i) vs (omega arith) ∙ store-past w m n i v h
+
+pub fill-apart : (w : List ℕ) (start : ℕ) (vs : List ℕ) (m n : ℕ) → apart start (length vs) m n ≡ true → section m n (sets w start vs) ≡ section m n w
+fill-apart w start vs m n e = split-apart start (length vs) m n e (fill-short w m n start vs) (fill-past w m n start vs)
 
 -- ---- the machine
 
@@ -130,3 +133,145 @@ unfolding machineOf withPosition positionOf
 position-filled w p h =
     let vs = p .pc ∷ p .slot ∷ p .target ∷ p .held ∷ p .high ∷ p .low ∷ [] in
     simp (fill-in w POSITION vs (omega arith), fill-apart w POSITION vs, stack-below w POSITION vs (omega arith))
+
+-- ---- entries of the stack
+
+length-entries : (n : ℕ) (l : List ℕ) → length (entriesOf n l) ≡ n
+unfolding entriesOf
+length-entries zero l = refl
+length-entries (suc n) l = ap suc (length-entries n (drop 4 l))
+
+-- n entries lie in the first 4 × n words
+entries-front : (n : ℕ) (l : List ℕ) → entriesOf n (take (4 * n) l) ≡ entriesOf n l
+unfolding entriesOf
+entries-front zero l = refl
+entries-front (suc n) l =
+    let e : 4 * suc n ≡ suc (suc (suc (suc (4 * n)))) = omega arith in
+    rw e (go l (entries-front n (drop 4 l)))
+  where
+    go : (l : List ℕ) → entriesOf n (take (4 * n) (drop 4 l)) ≡ entriesOf n (drop 4 l) → entriesOf (suc n) (take (suc (suc (suc (suc (4 * n))))) l) ≡ entriesOf (suc n) l
+    go [] h = refl
+    go (a ∷ []) h = refl
+    go (a ∷ b ∷ []) h = refl
+    go (a ∷ b ∷ c ∷ []) h = refl
+    go (a ∷ b ∷ c ∷ d ∷ l) h = ap (λ es. record { source = a; address = b; psr = c; c0 = d } ∷ es) h
+
+-- one more entry is the last
+entries-more : (n : ℕ) (l : List ℕ) → entriesOf (suc n) l ≡ entriesOf n l ++ (entryOf (drop (4 * n) l) ∷ [])
+unfolding entriesOf
+entries-more zero l = refl
+entries-more (suc n) l =
+    let e : 4 * suc n ≡ 4 + 4 * n = omega arith in
+    rw (e, ← drop-drop (4 * n) 4 l) (ap (λ es. entryOf l ∷ es) (entries-more n (drop 4 l)))
+
+entry-front : (l : List ℕ) → entryOf (take 4 l) ≡ entryOf l
+entry-front [] = refl
+entry-front (a ∷ []) = refl
+entry-front (a ∷ b ∷ []) = refl
+entry-front (a ∷ b ∷ c ∷ []) = refl
+entry-front (a ∷ b ∷ c ∷ d ∷ l) = refl
+
+-- ---- the stack: its count, and a section of entries
+
+-- the stack of n entries
+abbrev pub stackOf : (n : ℕ) (words : List ℕ) → List Entry
+stackOf n w = reverse (entriesOf n (drop ENTRIES w))
+
+-- its top is the last four words
+pub stack-top : (n : ℕ) (w : List ℕ) → stackOf (suc n) w ≡ entryOf (section (ENTRIES + 4 * n) 4 w) ∷ stackOf n w
+stack-top n w =
+    ap reverse (entries-more n (drop ENTRIES w))
+    ∙ reverse-append (entriesOf n (drop ENTRIES w)) (entryOf (drop (4 * n) (drop ENTRIES w)) ∷ [])
+    ∙ rw (drop-drop (4 * n) ENTRIES w) (ap (λ e. e ∷ stackOf n w) (sym (entry-front (drop (ENTRIES + 4 * n) w))))
+
+-- it depends on its entries' words alone
+stack-by : (n : ℕ) (w k : List ℕ) → section ENTRIES (4 * n) k ≡ section ENTRIES (4 * n) w → stackOf n k ≡ stackOf n w
+stack-by n w k e = ap reverse (sym (entries-front n (drop ENTRIES k)) ∙ ap (entriesOf n) e ∙ entries-front n (drop ENTRIES w))
+
+pub depth-is : (w : List ℕ) → length (machineOf w .stack) ≡ getD w DEPTH 0
+unfolding machineOf
+depth-is w = length-reverse (entriesOf (getD w DEPTH 0) (drop ENTRIES w)) ∙ length-entries (getD w DEPTH 0) (drop ENTRIES w)
+
+module _ (w : List ℕ) where
+  stack-as : (n : ℕ) → getD w DEPTH 0 ≡ n → machineOf w .stack ≡ stackOf n w
+  unfolding machineOf
+  stack-as n e = rw e
+
+  pub stack-none : getD w DEPTH 0 ≡ 0 → machineOf w .stack ≡ []
+  unfolding entriesOf
+  stack-none = stack-as 0
+
+  -- the top's four words
+  pub stack-some : (n : ℕ) → getD w DEPTH 0 ≡ suc n → machineOf w .stack ≡ entryOf (section (ENTRIES + 4 * n) 4 w) ∷ stackOf n w
+  stack-some n e = stack-as (suc n) e ∙ stack-top n w
+
+  pub entry-read : (at : ℕ) → entryOf (section at 4 w) ≡ record { source = getD w at 0; address = getD w (at + 1) 0; psr = getD w (at + 2) 0; c0 = getD w (at + 3) 0 }
+  entry-read at = simp (section-at w at 4 0 (lit< tt), section-at w at 4 1 (lit< tt), section-at w at 4 2 (lit< tt), section-at w at 4 3 (lit< tt), add-zero)
+
+-- ---- stores to the stack
+
+-- the machine with another stack, its control block left
+abbrev pub withEntries : List Entry → Machine → Machine
+withEntries es m = record { set1 = m .set1; set2 = m .set2; conditions = m .conditions; control = m .control; position = m .position; stack = es }
+
+pub depth-stored : (w : List ℕ) (n : ℕ) → length w ≡ WORDS → machineOf (set w DEPTH n) ≡ withEntries (stackOf n w) (machineOf w)
+unfolding machineOf
+depth-stored w n h = simp (store-apart w n DEPTH 1 0 (lit< tt), getD-set-same w DEPTH n 0 (omega arith), drop-set-lt ENTRIES w DEPTH n (lit< tt))
+
+-- stores past the stack's count leave all but the stack
+fill-high : (w : List ℕ) (i : ℕ) (vs : List ℕ) → ENTRIES ≤ i → (m n : ℕ) → leb (m + n) ENTRIES ≡ true → section m n (sets w i vs) ≡ section m n w
+fill-high w i vs h m n e = let l : m + n ≤ ENTRIES = leb-true _ _ e in fill-past w m n i vs (omega arith)
+
+fill-entries : (w : List ℕ) (i : ℕ) (vs : List ℕ) (es : List Entry) → ENTRIES ≤ i → withEntries es (machineOf (sets w i vs)) ≡ withEntries es (machineOf w)
+unfolding machineOf
+fill-entries w i vs es h = simp (fill-high w i vs h)
+
+in-row : (w : List ℕ) (i a b c d : ℕ) → set (set (set (set w i a) (i + 1) b) (i + 2) c) (i + 3) d ≡ sets w i (a ∷ b ∷ c ∷ d ∷ [])
+in-row w i a b c d =
+    let p : i + 1 ≡ suc i = omega arith in
+    let q : i + 2 ≡ suc (suc i) = omega arith in
+    let r : i + 3 ≡ suc (suc (suc i)) = omega arith in
+    rw (p, q, r)
+
+-- four words past the last entry, and a count one above, push an entry
+pub pushed-to : (w : List ℕ) (n : ℕ) (e : Entry) → length w ≡ WORDS → n < 12 → getD w DEPTH 0 ≡ n
+    → let i = ENTRIES + 4 * n in
+    machineOf (set (set (set (set (set w i (e .source)) (i + 1) (e .address)) (i + 2) (e .psr)) (i + 3) (e .c0)) DEPTH (n + 1))
+    ≡ withEntries (e ∷ machineOf w .stack) (machineOf w)
+pushed-to w n e h l q =
+    let i = ENTRIES + 4 * n in
+    let vs = e .source ∷ e .address ∷ e .psr ∷ e .c0 ∷ [] in
+    let k = sets w i vs in
+    let stack : stackOf (suc n) k ≡ e ∷ machineOf w .stack =
+    rw (stack-top n k, fill-in w i vs (omega arith), stack-by n w k (fill-past w ENTRIES (4 * n) i vs (omega arith)), stack-as w n q) in
+    rw (in-row w i (e .source) (e .address) (e .psr) (e .c0), add-one n)
+    (depth-stored k (suc n) (length-sets w i vs ∙ h)
+    ∙ ap (λ es. withEntries es (machineOf k)) stack
+    ∙ fill-entries w i vs (e ∷ machineOf w .stack) (omega arith))
+
+-- a count one below pops an entry
+pub popped-to : (w : List ℕ) (n : ℕ) → length w ≡ WORDS → getD w DEPTH 0 ≡ suc n → machineOf (set w DEPTH n) ≡ withEntries (popped (machineOf w .stack)) (machineOf w)
+unfolding popped
+popped-to w n h q = rw (stack-some w n q) (depth-stored w n h)
+
+-- ---- INT_SERV and the RETI_ registers
+
+pub shown-stored : (w : List ℕ) (flags : ℕ) (top : Entry)
+    → machineOf (set (set (set (set w (CONTROL + INT-SERV) flags) (CONTROL + RETI-ADDR) (top .address)) (CONTROL + RETI-PSR) (top .psr)) (CONTROL + RETI-CR0) (top .c0))
+    ≡ withControl (showTop flags top (machineOf w .control)) (machineOf w)
+unfolding withControl
+shown-stored w flags top =
+    let a = set w (CONTROL + INT-SERV) flags in
+    let b = set a (CONTROL + RETI-ADDR) (top .address) in
+    let c = set b (CONTROL + RETI-PSR) (top .psr) in
+    rw (control-stored c (top .c0) RETI-CR0 (lit< tt), control-stored b (top .psr) RETI-PSR (lit< tt), control-stored a (top .address) RETI-ADDR (lit< tt), control-stored w flags INT-SERV (lit< tt))
+
+pub service-flags : (w : List ℕ) → getD w (CONTROL + INT-SERV) 0 ≡ controlAt (machineOf w) INT-SERV
+unfolding machineOf
+service-flags w = sym (section-at w CONTROL 45 INT-SERV (lit< tt))
+
+-- a stack stored, and then shown
+pub stored-shown : (m k last : Machine) (es : List Entry) (flags : ℕ) (top : Entry) → k ≡ withEntries es m → flags ≡ serviceFlags es → top ≡ shownTop es
+    → last ≡ withControl (showTop flags top (k .control)) k → last ≡ withStack es m
+unfolding withControl withStack showStack
+stored-shown m k last es flags top a b c d = rw (d, a, b, c)

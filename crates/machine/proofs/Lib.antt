@@ -1,3 +1,7 @@
--- Laws of the machine.
+-- Laws of the machine: its lists, its control registers, its stack, and the flat words that hold it.
+pub mod Lists
+pub mod Registers
+pub mod Stack
 pub mod Flat
 pub mod Widths
+pub mod Service

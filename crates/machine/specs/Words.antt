@@ -46,10 +46,12 @@ section start count ws = take count (drop start ws)
 unfoldable pub positionOf : (words : List ℕ) → Position
 positionOf l = record { pc = getD l 0 0; slot = getD l 1 0; target = getD l 2 0; held = getD l 3 0; high = getD l 4 0; low = getD l 5 0 }
 
+abbrev pub entryOf : (words : List ℕ) → Entry
+entryOf l = record { source = getD l 0 0; address = getD l 1 0; psr = getD l 2 0; c0 = getD l 3 0 }
+
 unfoldable pub entriesOf : (count : ℕ) (words : List ℕ) → List Entry
 entriesOf zero l = []
-entriesOf (suc n) l =
-    record { source = getD l 0 0; address = getD l 1 0; psr = getD l 2 0; c0 = getD l 3 0 } ∷ entriesOf n (drop 4 l)
+entriesOf (suc n) l = entryOf l ∷ entriesOf n (drop 4 l)
 
 -- the machine that words in this order say; words past the last entry say nothing
 unfoldable pub machineOf : (words : List ℕ) → Machine

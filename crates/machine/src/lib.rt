@@ -5,10 +5,13 @@ ghost use mathlib.Core.Bool.{true, false};
 ghost use mathlib.Core.List.{_∷_};
 ghost use Prim.Native.Nat.{_+_, _<_, _≤_};
 ghost use lib.ListN.{length, getD, set};
+ghost use Rattle.word.specs.Flags.{distinctBelow};
 ghost use Rattle.machine.specs.Machine.{psr, setBy, withRegister, withPsr, withConditions, withControl, withPosition};
-ghost use Rattle.machine.specs.Control.{registerAt, controlAt, largest, keptBy, isWritable, storedControl, within};
-ghost use Rattle.machine.specs.Stack.{shownTop, showTop};
+ghost use Rattle.machine.specs.Control.{registerAt, controlAt, largest, keptBy, isWritable, storedControl, within, INT-SERV};
+ghost use Rattle.machine.specs.Stack.{popped, sourcesOf, serviceFlags, shownTop, showTop, withStack};
 ghost use Rattle.machine.specs.Words.{WORDS, startBy, machineOf};
+use word::with_flag;
+use word::without_flag;
 
 // The program position (01 "Machine image"): six numbers.
 pub struct Position {
@@ -31,21 +34,44 @@ pub struct Entry {
     pub c0: u32,
 }
 
-// Where the sections' numbers begin, each just after its count, and where single numbers lie.
+// Where the numbers lie (01 "Machine image"). Register set 1:
 const SET1: usize = 1;
+
+// Register set 2, and its PSR:
 const SET2: usize = 34;
+
 const PSR: usize = 63;
+
+// Condition registers:
 const CONDITIONS: usize = 67;
+
+// The control block, and the registers of it that show the stack:
 const CONTROL: usize = 76;
-// The program position.
+
+const INT_SERV: usize = 95;
+
+const RETI_ADDR: usize = 116;
+
+const RETI_PSR: usize = 117;
+
+const RETI_CR0: usize = 118;
+
+// The program position:
 const PC: usize = 122;
+
 const SLOT: usize = 123;
+
 const TARGET: usize = 124;
+
 const HELD: usize = 125;
+
 const HIGH: usize = 126;
+
 const LOW: usize = 127;
-// The count of stack entries, and the entries, the top last.
+
+// The count of stack entries, and the entries, four words each, the top last:
 const DEPTH: usize = 128;
+
 const ENTRIES: usize = 129;
 
 // The number of words of the longest image.
@@ -290,4 +316,83 @@ pub fn set_position(w: &mut [u32], p: Position)
     w[HELD] = p.held;
     w[HIGH] = p.high;
     w[LOW] = p.low;
+}
+
+// ---- the hardware stack
+
+// The number of interrupts in service.
+pub fn depth(w: &[u32]) -> u32
+    requires { ⌜ length (now w) ≡ WORDS ⌝ }
+    ensures { λ r. ⌜ r ≡ length (machineOf (now (w .entry)) .stack) ⌝ }
+{
+    w[DEPTH]
+}
+
+// What the RETI_ registers show of the stack: its top, or 1, 9, 0 when it is empty.
+pub fn top(w: &[u32]) -> Entry
+    requires { ⌜ (length (now w) ≡ WORDS) × (length (machineOf (now w) .stack) ≤ 12) ⌝ }
+    ensures { λ r. ⌜ r ≡ shownTop (machineOf (now (w .entry)) .stack) ⌝ }
+{
+    let n = depth(w) as usize;
+    if n == 0 {
+        Entry {
+            source: 0,
+            address: 1,
+            psr: 9,
+            c0: 0,
+        }
+    } else {
+        let at = ENTRIES + 4 * (n - 1);
+        Entry {
+            source: w[at],
+            address: w[at + 1],
+            psr: w[at + 2],
+            c0: w[at + 3],
+        }
+    }
+}
+
+// INT_SERV takes flags, and the RETI_ registers show an entry.
+fn show(w: &mut [u32], flags: u32, e: Entry)
+    requires { ⌜ length (now w) ≡ WORDS ⌝ }
+    ensures { λ _. ⌜ machineOf (now (w .exit)) ≡ withControl (showTop flags e (machineOf (now (w .entry)) .control)) (machineOf (now (w .entry))) ⌝ }
+{
+    w[INT_SERV] = flags;
+    w[RETI_ADDR] = e.address;
+    w[RETI_PSR] = e.psr;
+    w[RETI_CR0] = e.c0;
+}
+
+// An entry goes on the stack, and the control block shows it.
+pub fn push(w: &mut [u32], e: Entry)
+    requires { ⌜ length (now w) ≡ WORDS ⌝ }
+    requires flags { ⌜ controlAt (machineOf (now w)) INT-SERV ≡ serviceFlags (machineOf (now w) .stack) ⌝ }
+    requires sources { ⌜ distinctBelow 12 (sourcesOf (e ∷ machineOf (now w) .stack)) ≡ true ⌝ }
+    ensures { λ _. ⌜ machineOf (now (w .exit)) ≡ withStack (e ∷ machineOf (now (w .entry)) .stack) (machineOf (now (w .entry))) ⌝ }
+{
+    let n = depth(w);
+    let flags = with_flag(w[INT_SERV], e.source);
+    let at = ENTRIES + 4 * n as usize;
+    w[at] = e.source;
+    w[at + 1] = e.address;
+    w[at + 2] = e.psr;
+    w[at + 3] = e.c0;
+    w[DEPTH] = n + 1;
+    show(w, flags, e);
+}
+
+// The top leaves the stack, and the control block shows the rest.
+pub fn pop(w: &mut [u32])
+    requires { ⌜ length (now w) ≡ WORDS ⌝ }
+    requires flags { ⌜ controlAt (machineOf (now w)) INT-SERV ≡ serviceFlags (machineOf (now w) .stack) ⌝ }
+    requires sources { ⌜ distinctBelow 12 (sourcesOf (machineOf (now w) .stack)) ≡ true ⌝ }
+    requires entry { ⌜ 0 < length (machineOf (now w) .stack) ⌝ }
+    ensures { λ _. ⌜ machineOf (now (w .exit)) ≡ withStack (popped (machineOf (now (w .entry)) .stack)) (machineOf (now (w .entry))) ⌝ }
+{
+    let n = depth(w);
+    let e = top(w);
+    let flags = without_flag(w[INT_SERV], e.source);
+    w[DEPTH] = n - 1;
+    let rest = top(w);
+    show(w, flags, rest);
 }

@@ -1,6 +1,6 @@
 -- Numbers as sets of flags: one flag set or cleared, the others, and the count. Assumes nothing.
 use mathlib.Core.Path.{_≡_, refl, sym, ap, _∙_}
-use mathlib.Core.Bool.{Bool, true, false, not, _&&_, _||_}
+use mathlib.Core.Bool.{Bool, true, false, not, _&&_, _||_, or-true}
 use mathlib.Core.List.{List, [], _∷_}
 use Prim.Native.Nat.{ℕ, zero, suc, _+_, _-_, _*_, _/_, _%_, _^_, _≤_, _<_}
 use native.Mathlib.Nat.{pow-suc, pow-succ', div-div-eq-div-mul, add-div-right, le-div-iff-mul-le, le-of-suc-le-suc, not-suc-le-zero, zero-div}
@@ -11,6 +11,7 @@ use lib.Pow.{pow-pos}
 use borrow.Author.Tests.{eqb-true, eqb-false, eq-eqb, ne-eqb, ltb-true, lt-ltb, not-true}
 use Rattle.word.specs.Choice.{if_then_else_}
 use Rattle.word.specs.Word.{bitAt}
+use Rattle.word.proofs.Tests.{and-parts}
 use Rattle.word.specs.Flags.{onesOf, withFlag, withoutFlag, flagsAt, isAmong, distinctBelow}
 
 -- ---- digits: flag n is 1 when digit n is
@@ -193,19 +194,16 @@ flags-at n (m ∷ ms) = go (eqb m n) refl (flags-at n ms)
     go true e h = rw (eqb-true m n e) (with-same n (flagsAt ms))
     go false e h = with-other m (flagsAt ms) n (λ q. eqb-false m n e (sym q)) ∙ h
 
--- a list's first, taken off
+-- a list's first, put on and taken off
+pub flags-push : (n : ℕ) (ns : List ℕ) → flagsAt (n ∷ ns) ≡ withFlag n (flagsAt ns)
+unfolding flagsAt
+flags-push n ns = refl
+
 pub flags-pop : (n : ℕ) (ns : List ℕ) → isAmong n ns ≡ false → withoutFlag n (flagsAt (n ∷ ns)) ≡ flagsAt ns
 unfolding flagsAt
 flags-pop n ns e = without-with n (flagsAt ns) (flags-at n ns ∙ e)
 
-and-true : (a b : Bool) → (a && b) ≡ true → (a ≡ true) × (b ≡ true)
-and-true true true e = (refl, refl)
-and-true true false e = absurd (let z : _≡_ {A = ℕ} 0 1 = cc in omega arith)
-and-true false b e = absurd (let z : _≡_ {A = ℕ} 0 1 = cc in omega arith)
-
-or-true : (a : Bool) → (a || true) ≡ true
-or-true true = refl
-or-true false = refl
+-- ---- distinct places
 
 apart : {b : Bool} → b ≡ true → b ≡ false → ⊥
 apart p q = let z : _≡_ {A = ℕ} 0 1 = cc in omega arith
@@ -220,8 +218,8 @@ module _ (k n : ℕ) (ns : List ℕ) where
   pub distinct-first : distinctBelow k (n ∷ ns) ≡ true → Distinct
   unfolding distinctBelow
   distinct-first e =
-      let a = and-true (ltb n k) (not (isAmong n ns) && distinctBelow k ns) e in
-      let b = and-true (not (isAmong n ns)) (distinctBelow k ns) (a .1) in
+      let a = and-parts (ltb n k) (not (isAmong n ns) && distinctBelow k ns) e in
+      let b = and-parts (not (isAmong n ns)) (distinctBelow k ns) (a .1) in
       record { below = ltb-true n k (a .0); new = not-true (isAmong n ns) (b .0); rest = b .1 }
 
   pub distinct-more : Distinct → distinctBelow k (n ∷ ns) ≡ true

@@ -14,7 +14,7 @@ use mir.Syntax.{Width, w32, w64}
 use mir.Val.{hbits, SFits, toZ, ofZ}
 use mir.Facts.{toZ-ofZ, sfits-widen}
 use Rattle.word.specs.Choice.{if_then_else_}
-use Rattle.word.specs.Word.{signedOf, modZ, wordOf, extendOf}
+use Rattle.word.specs.Word.{signedOf, modZ, wordOf, extendOf, isAddress}
 
 -- ---- differences of naturals
 
@@ -136,6 +136,21 @@ module _ (k : ℕ) (p : 0 < k) (u : k ≤ 32) where
   pub signed-extend : (w : ℕ) → signedOf 32 (extendOf k w) ≡ signedOf k (w % 2 ^ k)
   unfolding extendOf
   signed-extend w = signed-word 32 (lit< tt) (signedOf k (w % 2 ^ k)) (signed-fits (w % 2 ^ k) (mod-lt w (pow-pos k)) .sfits)
+
+-- the word of a natural
+pub word-natural : (k n : ℕ) → n < 2 ^ k → wordOf k (pos n) ≡ n
+unfolding modZ
+word-natural k n b = mod-eq-of-lt b
+
+-- an address is its word
+pub address-word : (z : ℤ) → isAddress z ≡ true → z ≡ pos (wordOf 32 z)
+unfolding isAddress
+address-word (pos n) e = ap pos (sym (word-natural 32 n (ltb-true n (2 ^ 32) e)))
+address-word (negsuc n) e = absurd (let z : _≡_ {A = ℕ} 0 1 = cc in omega arith)
+
+pub natural-address : (n : ℕ) → n < 2 ^ 32 → isAddress (pos n) ≡ true
+unfolding isAddress
+natural-address n b = lt-ltb n (2 ^ 32) b
 
 -- the low word of a word
 pub low-word-is : (z : ℤ) → wordOf 64 z % 2 ^ 32 ≡ wordOf 32 z

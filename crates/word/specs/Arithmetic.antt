@@ -1,10 +1,10 @@
 -- What the arithmetic operations give (01 "Instruction words"; 002 section 6). A register holds a number below 2 ^ 32. Assumes nothing.
-use mathlib.Core.Bool.{Bool, true, false, not, _||_}
+use mathlib.Core.Bool.{Bool, _||_}
 use Prim.Native.Nat.{ℕ, _+_, _-_, _*_, _/_, _%_, _^_, min, max}
 use lib.IntN.{ℤ, pos, negℤ, _+ℤ_, _-ℤ_, _*ℤ_}
 use lib.Signed.{ltZ}
 use lib.Dec.{leb, eqb}
-use Rattle.word.specs.Word.{bitOf, signedOf, modZ, divZ, wordOf, extendOf, bitwiseOf}
+use Rattle.word.specs.Word.{bitOf, signedOf, divZ, wordOf, extendOf, bitwiseOf}
 use Rattle.word.specs.declared.Sum.{Sum}
 use Rattle.word.specs.declared.Product.{Product}
 

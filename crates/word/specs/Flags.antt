@@ -6,7 +6,7 @@ use lib.Dec.{ltb, eqb}
 use Rattle.word.specs.Choice.{if_then_else_}
 use Rattle.word.specs.Word.{bitAt}
 
--- how many of the k lowest flags are 1
+-- how many of the k lowest flags are 1 ("as many entries as INT_SERV has ones")
 unfoldable pub onesOf : (k flags : ℕ) → ℕ
 onesOf zero flags = 0
 onesOf (suc k) flags = flags % 2 + onesOf k (flags / 2)

@@ -13,17 +13,18 @@ pub record Field : Type 0 where
   pub width : ℕ
 
 infixl 90 bits_to_
--- the papers' `high..low`
+-- the bits `high..low`, as the papers write them
 abbrev pub bits_to_ : (high low : ℕ) → Field
 bits high to low = record { place = low; width = high + 1 - low }
 
 unfoldable pub fieldOf : Field → (word : ℕ) → ℕ
 fieldOf f word = word / 2 ^ f .place % 2 ^ f .width
 
--- bit n
+-- bit n; "bit 0 is lowest"
 abbrev pub bitAt : (n word : ℕ) → Bool
 bitAt n word = eqb (word / 2 ^ n % 2) 1
 
+-- 1 for yes, 0 for no
 abbrev pub bitOf : Bool → ℕ
 bitOf true = 1
 bitOf false = 0
@@ -52,7 +53,7 @@ wordOf k z = modZ z (2 ^ k)
 unfoldable pub extendOf : (k word : ℕ) → ℕ
 extendOf k word = wordOf 32 (signedOf k (word % 2 ^ k))
 
--- z is an address of 32 bits
+-- z is an address of 32 bits: from 0 to FFFFFFFFh
 unfoldable pub isAddress : ℤ → Bool
 isAddress (pos n) = ltb n (2 ^ 32)
 isAddress (negsuc n) = false

@@ -79,7 +79,7 @@ unfolding instructions values
 returns-7 c =
     let a = c .before .before .before .args in
     let l : 57 ≤ a .op = ⊎-elim (λ w. omega arith) (λ w. omega arith) (c .before .if1 .came) in
-    c .registers4 .ensures ∙ (simp (mul-one, add-zero, div-one)) ∙ grouped w16 Source 57 1 refl (a .op) (a .w) l (omega arith)
+    c .registers4 .ensures ∙ (simp (mul-one, add-zero)) ∙ grouped w16 Source 57 1 refl (a .op) (a .w) l (omega arith)
 
 pub narrow-system-spec : {M : Type 1} → statement M
 narrow-system-spec =

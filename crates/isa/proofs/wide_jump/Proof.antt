@@ -30,7 +30,7 @@ returns-2 : tie.Need-returns-2
 unfolding instructions values
 returns-2 c =
     let a = c .before .before .before .before .args in
-    c .registers .ensures ∙ (simp (mul-one, add-zero, div-one)) ∙ grouped w32 Source 38 2 refl (a .op) (a .w) (omega arith) (omega arith)
+    c .registers .ensures ∙ (simp (mul-one, add-zero)) ∙ grouped w32 Source 38 2 refl (a .op) (a .w) (omega arith) (omega arith)
 
 returns-3 : tie.Need-returns-3
 unfolding instructions values

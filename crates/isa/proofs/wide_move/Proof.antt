@@ -36,7 +36,7 @@ returns : tie.Need-returns
 unfolding instructions values
 returns c =
     let a = c .before .before .args in
-    c .registers .ensures ∙ (simp (mul-one, add-zero, div-one)) ∙ grouped w32 Destination 31 1 refl (a .op) (a .w) (omega arith) (omega arith)
+    c .registers .ensures ∙ (simp (mul-one, add-zero)) ∙ grouped w32 Destination 31 1 refl (a .op) (a .w) (omega arith) (omega arith)
 
 returns-2 : tie.Need-returns-2
 unfolding instructions values
@@ -54,7 +54,7 @@ returns-4 : tie.Need-returns-4
 unfolding instructions values
 returns-4 c =
     let a = c .before .before .before .before .args in
-    c .registers3 .ensures ∙ (simp (mul-one, add-zero, div-one)) ∙ grouped w32 TwoRegisters 29 2 refl (a .op) (a .w) (omega arith) (omega arith)
+    c .registers3 .ensures ∙ (simp (mul-one, add-zero)) ∙ grouped w32 TwoRegisters 29 2 refl (a .op) (a .w) (omega arith) (omega arith)
 
 returns-5 : tie.Need-returns-5
 unfolding instructions values

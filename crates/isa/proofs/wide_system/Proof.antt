@@ -54,7 +54,7 @@ returns-4 : tie.Need-returns-4
 unfolding instructions values
 returns-4 c =
     let a = c .before .before .args in
-    c .registers .ensures ∙ (simp (mul-one, add-zero, div-one)) ∙ grouped w32 Destination 56 1 refl (a .op) (a .w) (omega arith) (omega arith)
+    c .registers .ensures ∙ (simp (mul-one, add-zero)) ∙ grouped w32 Destination 56 1 refl (a .op) (a .w) (omega arith) (omega arith)
 
 returns-5 : tie.Need-returns-5
 unfolding instructions values
@@ -73,7 +73,7 @@ unfolding instructions values
 returns-7 c =
     let a = c .before .before .before .args in
     let l : 57 ≤ a .op = ⊎-elim (λ w. omega arith) (λ w. omega arith) (c .before .if1 .came) in
-    c .registers4 .ensures ∙ (simp (mul-one, add-zero, div-one)) ∙ grouped w32 Source 57 1 refl (a .op) (a .w) l (omega arith)
+    c .registers4 .ensures ∙ (simp (mul-one, add-zero)) ∙ grouped w32 Source 57 1 refl (a .op) (a .w) l (omega arith)
 
 pub wide-system-spec : {M : Type 1} → statement M
 wide-system-spec =

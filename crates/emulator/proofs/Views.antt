@@ -1,0 +1,124 @@
+-- In user mode what a decision may use is the same on two machines that agree on what is not protected. Assumes nothing.
+use mathlib.Core.Path.{_≡_, refl, sym, ap, _∙_, fun-ext}
+use mathlib.Core.Bool.{Bool, true, false, true≢false, not, _&&_}
+use mathlib.Core.List.{List}
+use Prim.Native.Nat.{ℕ, zero, suc, _+_, _*_, _≤_}
+use native.Mathlib.Omega.{arith}
+use lib.ListN.{length, getD, getElem?}
+use lib.Dec.{leb}
+use lib.IntN.{ℤ}
+use borrow.Author.Tests.{le-leb, leb-true}
+use Rattle.word.specs.Choice.{if_then_else_}
+use Rattle.word.specs.Word.{wordOf}
+use Rattle.word.proofs.Tests.{and-parts, and-both, or-parts, false-unless, if-false, if-else}
+use Rattle.isa.specs.Decode.{bytesOf}
+use Rattle.machine.specs.Machine.{Machine, State, psr, userMode, widthOf, setBy}
+use Rattle.machine.specs.Control.{controlAt, within, CCB-BASE, DMEM-BOUND-LO, DMEM-BOUND-HI, IMEM-BOUND-LO, IMEM-BOUND-HI}
+use Rattle.machine.specs.declared.Position.{Position}
+use Rattle.machine.proofs.Lists.{same-getD}
+use Rattle.decide.specs.View.{anyWithin, byteThen, bytesAt, fetchAt, inBlock, placeAt, heldAt, View, view}
+use Rattle.decide.specs.declared.Place.{Place}
+use Rattle.decide.specs.declared.Place.the-variants.{Block, Cell, Refused, Missing}
+use Rattle.decide.proofs.Addresses.{place-cell, place-block}
+use Rattle.emulator.proofs.User.{user-bit, read-bit, write-bit}
+use Rattle.emulator.proofs.States.{Mode, Low}
+
+-- ---- program memory
+
+-- two programs agree outside of a range
+unfoldable pub SameBytes : (low high : ℕ) (p q : List ℕ) → Type 0
+SameBytes low high p q = (a : ℕ) → within low high a ≡ false → getElem? p a ≡ getElem? q a
+
+module _ (low high : ℕ) (p q : List ℕ) (h : SameBytes low high p q) where
+  bytes-same : (n a w : ℕ) → anyWithin low high a n ≡ false → bytesAt p n a w ≡ bytesAt q n a w
+  unfolding SameBytes anyWithin bytesAt
+  bytes-same zero a w e = refl
+  bytes-same (suc n) a w e =
+      let o = or-parts (within low high a) (anyWithin low high (suc a) n) e in
+      ap (λ b. byteThen b (λ x. bytesAt p n (suc a) (w * 256 + x))) (h a (o .0))
+      ∙ ap (byteThen (getElem? q a)) (fun-ext (λ x. bytes-same n (suc a) (w * 256 + x) (o .1)))
+
+  fetch-same : (n pc : ℕ) → fetchAt p low high true n pc ≡ fetchAt q low high true n pc
+  unfolding fetchAt
+  fetch-same n pc = if-else _ _ _ _ (λ _. if-else _ _ _ _ (λ e. bytes-same n pc 0 e))
+
+-- ---- data memory
+
+-- a block wholly within the bounds: outside of the bounds is outside of the block
+outside-block : (low high base a : ℕ) → low ≤ base → base + 255 ≤ high → within low high a ≡ false → inBlock base a ≡ false
+unfolding within inBlock
+outside-block low high base a l h e =
+    false-unless (leb base a && leb a (base + 255)) (λ t.
+    let b = and-parts (leb base a) (leb a (base + 255)) t in
+    let above : base ≤ a = leb-true base a (b .0) in
+    let below : a ≤ base + 255 = leb-true a (base + 255) (b .1) in
+    true≢false (sym (and-both (leb low a) (leb a high) (le-leb low a (omega arith)) (le-leb a high (omega arith))) ∙ e))
+
+place-same : (low high base base′ count : ℕ) → low ≤ base → base + 255 ≤ high → low ≤ base′ → base′ + 255 ≤ high → (z : ℤ)
+    → placeAt true low high base count z ≡ placeAt true low high base′ count z
+unfolding placeAt
+place-same low high base base′ count b₁ b₂ c₁ c₂ z =
+    let a = wordOf 32 z in
+    if-else _ _ _ _ (λ _. if-else _ _ _ _ (λ e.
+    if-false _ _ _ (outside-block low high base a b₁ b₂ e) ∙ sym (if-false _ _ _ (outside-block low high base′ a c₁ c₂ e))))
+
+-- no register of such a block is unprotected
+pub no-block : (low high base n : ℕ) → low ≤ base → base + 255 ≤ high → n ≤ 255 → within low high (base + n) ≡ false → ⊥
+unfolding within
+no-block low high base n l h b e =
+    true≢false (sym (and-both _ _ (le-leb low (base + n) (omega arith)) (le-leb (base + n) high (omega arith))) ∙ e)
+
+held-same : (s t : State) → Mode s → Low s t → (count : ℕ) (z : ℤ) (p : Place)
+    → placeAt true (controlAt (s .machine) DMEM-BOUND-LO) (controlAt (s .machine) DMEM-BOUND-HI) (controlAt (s .machine) CCB-BASE) count z ≡ p
+    → heldAt s p ≡ heldAt t p
+unfolding heldAt
+held-same s t i l count z (Block n) e =
+    let b = place-block true _ _ _ count z n e in
+    absurd (no-block _ _ _ n (i .blockLow) (i .blockHigh) (b .offset) (b .unprotected refl))
+held-same s t i l count z (Cell a) e =
+    let c = place-cell true _ _ _ count z a e in
+    same-getD (s .cells) (t .cells) a 0 (l .shown .cells a (c .unprotected refl))
+held-same s t i l count z (Refused c) e = refl
+held-same s t i l count z Missing e = refl
+
+-- ---- registers
+
+set1-used : (b : Bool) (m : Machine) → b ≡ false → setBy b m ≡ m .set1
+unfolding setBy
+set1-used b m e = rw e
+
+-- ---- the view
+
+pub view-same : (p q : List ℕ) (s t : State) → Mode s → Mode t → Low s t
+    → SameBytes (controlAt (s .machine) IMEM-BOUND-LO) (controlAt (s .machine) IMEM-BOUND-HI) p q → view p s ≡ view q t
+unfolding view
+view-same p q s t i j l h =
+    let m = s .machine in
+    let n = t .machine in
+    let um : userMode (psr m) ≡ true = user-bit (psr m) (i .user .status) in
+    let un : userMode (psr n) ≡ true = user-bit (psr n) (j .user .status) in
+    let fetched : view p s .fetched ≡ view q t .fetched =
+    cc (fetch-same _ _ p q h (bytesOf (widthOf (psr m))) (m .position .pc), um, un, l .shown .status, l .imemLow, l .imemHigh, l .shown .position) in
+    let source : (x : ℕ) → view p s .source x ≡ view q t .source x = λ x.
+    ap (λ r. getD r x 0) (set1-used _ m (read-bit (psr m) (i .user .status)) ∙ l .shown .set1 ∙ sym (set1-used _ n (read-bit (psr n) (j .user .status)))) in
+    let target : (x : ℕ) → view p s .target x ≡ view q t .target x = λ x.
+    ap (λ r. getD r x 0) (set1-used _ m (write-bit (psr m) (i .user .status)) ∙ l .shown .set1 ∙ sym (set1-used _ n (write-bit (psr n) (j .user .status)))) in
+    let low : controlAt m DMEM-BOUND-LO ≤ controlAt n CCB-BASE = rw (l .dmemLow) (j .blockLow) in
+    let high : controlAt n CCB-BASE + 255 ≤ controlAt m DMEM-BOUND-HI = rw (l .dmemHigh) (j .blockHigh) in
+    let place : (z : ℤ) → view p s .place z ≡ view q t .place z = λ z.
+    cc (place-same _ _ (controlAt m CCB-BASE) (controlAt n CCB-BASE) (length (s .cells)) (i .blockLow) (i .blockHigh) low high z, um, un, l .dmemLow, l .dmemHigh, l .dataSize) in
+    let load : (z : ℤ) → view p s .load z ≡ view q t .load z = λ z.
+    cc (held-same s t i l (length (s .cells)) z _ refl, place z, um) in
+    let closed : (x : ℕ) → view p s .closed x ≡ view q t .closed x = λ x. cc (l .shown .status, l .imemLow, l .imemHigh) in
+    λ d. record {
+      status = l .shown .status d;
+      position = l .shown .position d;
+      conditions = l .shown .conditions d;
+      nested = l .nested d;
+      fetched = fetched d;
+      source = λ x. source x d;
+      target = λ x. target x d;
+      place = λ z. place z d;
+      load = λ z. load z d;
+      closed = λ x. closed x d;
+    }

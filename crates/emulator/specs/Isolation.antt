@@ -1,0 +1,139 @@
+-- The isolation of user mode (01 "The packer's stretch", demand 3). Assumes nothing.
+use mathlib.Core.Path.{_≡_}
+use mathlib.Core.Logic.{_≢_}
+use mathlib.Core.Bool.{Bool, true, false, _||_}
+use mathlib.Core.List.{List, [], _∷_}
+use mathlib.Core.Option.{Option, none, some}
+use Prim.Native.Nat.{ℕ, zero, suc, _+_, _≤_}
+use lib.ListN.{length, getElem?}
+use Rattle.word.specs.Choice.{if_then_else_}
+use Rattle.machine.specs.Machine.{Machine, State, PSR, psr, userMode}
+use Rattle.machine.specs.Control.{controlAt, protectedCell, protectedByte, CCB-BASE, INT-PEND, DMEM-BOUND-LO, DMEM-BOUND-HI, IMEM-BOUND-LO, IMEM-BOUND-HI}
+use Rattle.machine.specs.declared.Position.{Position}
+use Rattle.image.specs.Image.{Read, Accepted, readImage}
+use Rattle.decide.specs.View.{nestedBy}
+use Rattle.apply.specs.Apply.{Transition}
+use Rattle.emulator.specs.Run.{Call, stateOf, transitions}
+use Rattle.apply.specs.declared.Kind.{Kind}
+use Rattle.apply.specs.declared.Kind.the-variants.{Ordinary, Interrupt, SystemCall, InterruptReturn, Exception, Stop}
+
+-- ---- which transitions are compared (01: a transition is a turn)
+
+-- "numbered from 1 through the whole list"
+unfoldable pub transition : List Transition → ℕ → Option Transition
+transition ts zero = none
+transition ts (suc k) = getElem? ts k
+
+-- "when it carries out scall (system call) or reti (interrupt return), enters an exception, or is a stop" (01: end)
+unfoldable pub isExit : Kind → Bool
+isExit Ordinary = false
+isExit Interrupt = false
+isExit SystemCall = true
+isExit InterruptReturn = true
+isExit (Exception c) = true
+isExit (Stop n) = true
+
+-- "when it accepts an interrupt" (01: cut)
+unfoldable pub isPreemption : Kind → Bool
+isPreemption Ordinary = false
+isPreemption Interrupt = true
+isPreemption SystemCall = false
+isPreemption InterruptReturn = false
+isPreemption (Exception c) = false
+isPreemption (Stop n) = false
+
+-- "all turns before the first end or cut" (01: stretch)
+unfoldable pub segment : List Transition → List Transition
+segment [] = []
+segment (t ∷ ts) =
+    let rest = segment ts in
+    if isExit (t .kind) || isPreemption (t .kind) then [] else t ∷ rest
+
+-- transition k is in the segment
+abbrev pub InSegment : List Transition → (k : ℕ) → Type 0
+InSegment ts k = k ≤ length (segment ts)
+
+-- "all earlier turns are in" the segment
+abbrev pub EarlierInSegment : List Transition → (k : ℕ) → Type 0
+EarlierInSegment ts k = k ≤ suc (length (segment ts))
+
+-- ---- a machine and a list of calls on it
+
+pub record Session : Type 0 where
+  pub program : List ℕ
+  pub image : List ℕ
+  pub machine : Machine  -- what the image says
+  pub cells : List ℕ
+  pub calls : List Call
+
+-- before the first call
+abbrev pub startOf : Session → State
+startOf a = stateOf (a .machine) (a .cells)
+
+abbrev pub transitionsOf : Session → List Transition
+transitionsOf a = transitions (a .program) (a .image) (a .cells) (a .calls)
+
+-- "The first call gets an image for which 2 to 5 are all yes"; "UM is 1 in the first image's PSR"; "DMEM_BOUND_LO ≤ CCB_BASE and
+-- CCB_BASE + 255 ≤ DMEM_BOUND_HI"
+pub record UserStart (a : Session) : Type 0 where
+  pub read : readImage (a .image) ≡ Accepted (a .machine)
+  pub user : userMode (psr (a .machine)) ≡ true
+  pub blockLow : controlAt (a .machine) DMEM-BOUND-LO ≤ controlAt (a .machine) CCB-BASE
+  pub blockHigh : controlAt (a .machine) CCB-BASE + 255 ≤ controlAt (a .machine) DMEM-BOUND-HI
+
+-- ---- first half: what is protected stays as it was
+
+-- set 2 but the status, control registers but the pending flags, the hardware stack, protected cells; and user mode stays
+pub record Kept (before after : State) : Type 0 where
+  pub set2 : (n : ℕ) → n ≢ PSR → getElem? (after .machine .set2) n ≡ getElem? (before .machine .set2) n
+  pub control : (n : ℕ) → n ≢ INT-PEND → getElem? (after .machine .control) n ≡ getElem? (before .machine .control) n
+  pub stack : after .machine .stack ≡ before .machine .stack
+  pub cells : (a : ℕ) → protectedCell (before .machine) a ≡ true → getElem? (after .cells) a ≡ getElem? (before .cells) a
+  pub user : userMode (psr (after .machine)) ≡ true
+
+unfoldable pub Integrity : Session → Type 0
+Integrity a =
+    (k : ℕ) (t : Transition) → transition (transitionsOf a) k ≡ some t → InSegment (transitionsOf a) k → Kept (startOf a) (t .after)
+
+-- ---- second half: what is protected does not show
+
+-- user registers, conditions, status, program position and unprotected cells are equal
+pub record SameShown (s t : State) : Type 0 where
+  pub set1 : s .machine .set1 ≡ t .machine .set1
+  pub conditions : s .machine .conditions ≡ t .machine .conditions
+  pub status : psr (s .machine) ≡ psr (t .machine)
+  pub position : s .machine .position ≡ t .machine .position
+  pub cells : (a : ℕ) → protectedCell (s .machine) a ≡ false → getElem? (s .cells) a ≡ getElem? (t .cells) a
+
+-- two starts that differ in nothing but set 2 (the status apart), control registers (the bounds apart), the entries of the hardware
+-- stack, protected cells and protected program bytes; of the stack, whether it is empty is equal, for reti asks it (stop 15)
+pub record SameStart (a b : Session) : Type 0 where
+  pub shown : SameShown (startOf a) (startOf b)
+  pub nested : nestedBy (a .machine .stack) ≡ nestedBy (b .machine .stack)
+  pub dmemLow : controlAt (a .machine) DMEM-BOUND-LO ≡ controlAt (b .machine) DMEM-BOUND-LO
+  pub dmemHigh : controlAt (a .machine) DMEM-BOUND-HI ≡ controlAt (b .machine) DMEM-BOUND-HI
+  pub imemLow : controlAt (a .machine) IMEM-BOUND-LO ≡ controlAt (b .machine) IMEM-BOUND-LO
+  pub imemHigh : controlAt (a .machine) IMEM-BOUND-HI ≡ controlAt (b .machine) IMEM-BOUND-HI
+  pub dataSize : length (a .cells) ≡ length (b .cells)
+  pub programSize : length (a .program) ≡ length (b .program)
+  pub bytes : (n : ℕ) → protectedByte (a .machine) n ≡ false → getElem? (a .program) n ≡ getElem? (b .program) n
+
+-- "Either turn k is in both stretches, and what demand 3 says is shown is equal after it; or it is an end in both, and the same: scall,
+-- reti, an exception with the same code, or a stop with the same number"
+pub data SameTransition (a b : Session) (k : ℕ) (t u : Transition) : Type 0 where
+  bothGoOn : InSegment (transitionsOf a) k → InSegment (transitionsOf b) k → SameShown (t .after) (u .after) → SameTransition a b k t u
+  bothExit : isExit (t .kind) ≡ true → isExit (u .kind) ≡ true → t .kind ≡ u .kind → SameTransition a b k t u
+
+-- "at every turn number k that both have, where all earlier turns are in both stretches and turn k is a cut in neither"
+unfoldable pub Confidentiality : Session → Session → Type 0
+Confidentiality a b =
+    (k : ℕ) (t u : Transition) → transition (transitionsOf a) k ≡ some t → transition (transitionsOf b) k ≡ some u
+    → EarlierInSegment (transitionsOf a) k → EarlierInSegment (transitionsOf b) k
+    → isPreemption (t .kind) ≡ false → isPreemption (u .kind) ≡ false → SameTransition a b k t u
+
+-- ---- demand 3: of every list of calls, refused ones anywhere in it, and of every two such lists
+
+unfoldable pub Isolation : Type 0
+Isolation =
+    ((a : Session) → UserStart a → Integrity a)
+    × ((a b : Session) → UserStart a → UserStart b → SameStart a b → Confidentiality a b)

@@ -1,0 +1,5 @@
+-- The run call and lists of run calls (Run), what a call leaves (Closure), the isolation of user mode (Isolation).
+pub mod Run
+pub mod Closure
+pub mod Isolation
+pub mod Computed

@@ -1,0 +1,131 @@
+-- A run call, and lists of run calls on one machine (01 "Machine image", "The packer's stretch"). Assumes nothing.
+use mathlib.Core.Bool.{Bool, true, false, not, _&&_}
+use mathlib.Core.List.{List, [], _∷_, _++_}
+use Prim.Native.Nat.{ℕ, zero, suc}
+use lib.ListN.{length, getD}
+use lib.Dec.{leb}
+use Rattle.word.specs.Choice.{if_then_else_}
+use Rattle.codec.specs.Number.{over}
+use Rattle.machine.specs.Machine.{Machine, State}
+use Rattle.image.specs.Questions.{allBelow}
+use Rattle.image.specs.Image.{Read, Refused, Accepted, readImage, writeImage}
+use Rattle.apply.specs.Apply.{Transition}
+use Rattle.step.specs.Step.{isStop, step}
+use Rattle.apply.specs.declared.Kind.{Kind}
+use Rattle.apply.specs.declared.Kind.the-variants.{Ordinary, Interrupt, SystemCall, InterruptReturn, Exception, Stop}
+use Rattle.emulator.specs.declared.Answer.{Answer}
+use Rattle.emulator.specs.declared.Answer.the-variants.{Refusal, Ran}
+
+-- "Requests, step limit and image buffer are each call's own"
+pub record Call : Type 0 where
+  pub requests : List ℕ  -- "one number per step; steps past the list have none"
+  pub limit : ℕ
+  pub buffer : List ℕ
+
+-- ---- the steps of a call
+
+-- at most `limit` steps, or the steps before a stop and the stop; `done` steps of the call came before
+unfoldable pub run : (program requests : List ℕ) (limit done : ℕ) → State → List Transition
+run program requests zero done s = []
+run program requests (suc limit) done s =
+    let t = step program s (getD requests done 0) in
+    let ts = run program requests limit (suc done) (t .after) in
+    t ∷ (if isStop (t .kind) then [] else ts)
+
+-- steps done; "ending (0 limit reached, or stop 11 to 15)"; the state that is left
+pub record End : Type 0 where
+  pub steps : ℕ
+  pub ending : ℕ
+  pub after : State
+
+-- the number of a stop
+unfoldable pub stopNumber : Kind → ℕ
+stopNumber Ordinary = 0
+stopNumber Interrupt = 0
+stopNumber SystemCall = 0
+stopNumber InterruptReturn = 0
+stopNumber (Exception c) = 0
+stopNumber (Stop n) = n
+
+-- where transitions lead: a stop is not a step
+unfoldable pub endOf : (done : ℕ) → State → List Transition → End
+endOf done s [] = record { steps = done; ending = 0; after = s }
+endOf done s (t ∷ ts) =
+    let rest = endOf (suc done) (t .after) ts in
+    if isStop (t .kind) then record { steps = done; ending = stopNumber (t .kind); after = t .after } else rest
+
+-- how a call ends that has done `done` steps and may do `left` more
+unfoldable pub endFrom : (program requests : List ℕ) (left done : ℕ) → State → End
+endFrom program requests left done s = endOf done s (run program requests left done s)
+
+-- ---- the questions: "Asked in order; a no gives the number and does no step"
+
+-- the number of the first no, or the machine that the call starts with
+pub data Asked : Type 0 where
+  No : ℕ → Asked
+  Start : Machine → Asked
+
+-- 6 to 8
+unfoldable pub askCall : Call → Read → Asked
+askCall c (Refused n) = No n
+askCall c (Accepted m) =
+    if not (allBelow 0x1000 (c .requests)) then No 6
+    else if not (leb (c .limit) 1000000) then No 7
+    else if not (leb 708 (length (c .buffer))) then No 8
+    else Start m
+
+-- 1 to 8
+unfoldable pub ask : (program image cells : List ℕ) → Call → Asked
+ask program image cells c =
+    if not (leb (length program) 65536 && leb (length cells) 65536) then No 1
+    else askCall c (readImage image)
+
+-- ---- the call
+
+-- its answer, and the lent buffer and data memory after it
+pub record Outcome : Type 0 where
+  pub answer : Answer
+  pub buffer : List ℕ
+  pub cells : List ℕ
+
+abbrev pub outcome : Answer → (buffer cells : List ℕ) → Outcome
+outcome answer buffer cells = record { answer = answer; buffer = buffer; cells = cells }
+
+-- the same with what a list of calls goes on with
+pub record Called : Type 0 where
+  pub outcome : Outcome
+  pub image : List ℕ  -- "the image that the last one left (after a refusal, the image that one got)"
+  pub transitions : List Transition
+
+abbrev pub stateOf : Machine → (cells : List ℕ) → State
+stateOf m cells = record { machine = m; cells = cells }
+
+-- "Every refusal .. changes no lent memory"; otherwise "the image at the buffer's front; its further bytes keep their values"
+unfoldable pub calledBy : (program image cells : List ℕ) → Call → Asked → Called
+calledBy program image cells c (No n) = record { outcome = outcome (Refusal n) (c .buffer) cells; image = image; transitions = [] }
+calledBy program image cells c (Start m) =
+    let s = stateOf m cells in
+    let e = endFrom program (c .requests) (c .limit) 0 s in
+    let left = writeImage (e .after .machine) in
+    record {
+      outcome = outcome (Ran (e .steps) (e .ending)) (over left (c .buffer)) (e .after .cells);
+      image = left;
+      transitions = run program (c .requests) (c .limit) 0 s;
+    }
+
+unfoldable pub called : (program image cells : List ℕ) → Call → Called
+called program image cells c = calledBy program image cells c (ask program image cells c)
+
+-- what the run call gives
+unfoldable pub runCall : (program image cells : List ℕ) → Call → Outcome
+runCall program image cells c = called program image cells c .outcome
+
+-- ---- lists of calls
+
+-- the steps and stops of the calls of a list, in order (01: turns); each later call gets "the same program, a copy of the image that the
+-- last one left .. and the memories as it left them"
+unfoldable pub transitions : (program image cells : List ℕ) → List Call → List Transition
+transitions program image cells [] = []
+transitions program image cells (c ∷ cs) =
+    let d = called program image cells c in
+    d .transitions ++ transitions program (d .image) (d .outcome .cells) cs

@@ -1,0 +1,221 @@
+-- A machine's numbers and their sections: what is written is read back, what was read is written back. Assumes nothing.
+use mathlib.Core.Path.{_≡_, refl, sym, ap, _∙_}
+use mathlib.Core.List.{List, [], _∷_, _++_, append-assoc, reverse, reverse-reverse}
+use Prim.Native.Nat.{ℕ, zero, suc, _+_, _*_, _≤_, _<_}
+use native.Mathlib.Omega.{arith}
+use native.Mathlib.Nat.{add-zero}
+use native.Mathlib.Numerals.{add-one}
+use lib.ListN.{length, getD, take, drop, length-append, length-reverse, length-drop, take-append-drop}
+use lib.Seq.{take-at, drop-at, take-add, take-take, drop-drop, drop-cons, getD-drop}
+use Rattle.machine.specs.Machine.{Machine}
+use Rattle.machine.specs.Words.{SET1, SET2, CONDITIONS, CONTROL, POSITION, DEPTH, ENTRIES, section, positionOf, entriesOf, machineOf}
+use Rattle.machine.specs.declared.Entry.{Entry}
+use Rattle.machine.proofs.Flat.{section-length}
+use Rattle.image.specs.Image.{positionNumbers, entryNumbers, imageNumbers, countOf}
+use Rattle.image.proofs.Formed.{Counts}
+
+-- words whose sections have their counts
+pub record Counted (ws : List ℕ) : Type 0 where
+  pub set1 : countOf SET1 ws ≡ 32
+  pub set2 : countOf SET2 ws ≡ 32
+  pub conditions : countOf CONDITIONS ws ≡ 8
+  pub control : countOf CONTROL ws ≡ 45
+  pub position : countOf POSITION ws ≡ 6
+
+-- ---- position and entries
+
+-- the elements of a list from a place on, one by one
+elements : (k at : ℕ) → List ℕ → List ℕ
+elements zero at l = []
+elements (suc k) at l = getD l at 0 ∷ elements k (suc at) l
+
+elements-section : (k at : ℕ) (l : List ℕ) → at + k ≤ length l → elements k at l ≡ section at k l
+unfolding elements
+elements-section zero at l h = refl
+elements-section (suc k) at l h =
+    ap (λ (t : List ℕ). getD l at 0 ∷ t) (elements-section k (suc at) l (omega arith)) ∙ ap (take (suc k)) (sym (drop-cons l at 0 (omega arith)))
+
+positionNumbers-positionOf : (l : List ℕ) → 6 ≤ length l → positionNumbers (positionOf l) ≡ take 6 l
+unfolding positionNumbers positionOf elements
+positionNumbers-positionOf l h = elements-section 6 0 l h
+
+entryNumbers-entriesOf : (n : ℕ) (l : List ℕ) → 4 * n ≤ length l → entryNumbers (entriesOf n l) ≡ take (4 * n) l
+unfolding entryNumbers entriesOf elements
+entryNumbers-entriesOf zero l h = refl
+entryNumbers-entriesOf (suc n) l h =
+    let e : 4 + 4 * n ≡ 4 * suc n = omega arith in
+    let r : entryNumbers (entriesOf n (drop 4 l)) ≡ take (4 * n) (drop 4 l) = entryNumbers-entriesOf n (drop 4 l) (rw length-drop (omega arith)) in
+    ap (λ (t : List ℕ). elements 4 0 l ++ t) r
+    ∙ ap (λ (t : List ℕ). t ++ take (4 * n) (drop 4 l)) (elements-section 4 0 l (omega arith))
+    ∙ sym (take-add 4 (4 * n) l)
+    ∙ ap (λ (k : ℕ). take k l) e
+
+entriesOf-entryNumbers : (es : List Entry) → entriesOf (length es) (entryNumbers es) ≡ es
+unfolding entriesOf entryNumbers
+entriesOf-entryNumbers [] = refl
+entriesOf-entryNumbers (e ∷ es) = ap (λ (r : List Entry). e ∷ r) (entriesOf-entryNumbers es)
+
+pub length-entryNumbers : (es : List Entry) → length (entryNumbers es) ≡ 4 * length es
+unfolding entryNumbers
+length-entryNumbers [] = refl
+length-entryNumbers (e ∷ es) = omega (arith, length-entryNumbers es)
+
+pub length-entriesOf : (n : ℕ) (l : List ℕ) → length (entriesOf n l) ≡ n
+unfolding entriesOf
+length-entriesOf zero l = refl
+length-entriesOf (suc n) l = ap suc (length-entriesOf n (drop 4 l))
+
+-- ---- what is written is read back
+
+module _ (ws : List ℕ) (at : ℕ) {c : ℕ} {q : List ℕ} (e : drop at ws ≡ c ∷ q) where
+  count-read : getD ws at 0 ≡ c
+  count-read = ap (λ (k : ℕ). getD ws k 0) (sym (add-zero at)) ∙ sym (getD-drop at ws 0 0) ∙ ap (λ (l : List ℕ). getD l 0 0) e
+
+  after-count : drop (suc at) ws ≡ q
+  after-count = ap (λ (k : ℕ). drop k ws) (sym (add-one at)) ∙ sym (drop-drop 1 at ws) ∙ ap (drop 1) e
+
+-- at a place stands a section: its count, its numbers, and what follows
+record Section (ws : List ℕ) (at n : ℕ) (p q : List ℕ) : Type 0 where
+  starts : drop at ws ≡ n ∷ p ++ q
+  size : length p ≡ n
+
+section-read : {ws : List ℕ} {at n : ℕ} {p q : List ℕ} → Section ws at n p q → section (suc at) n ws ≡ p
+section-read {ws} {at} {n} {p} {q} s = ap (take n) (after-count ws at (s .starts)) ∙ take-at p q n (s .size)
+
+next : {ws : List ℕ} {at n : ℕ} {p q : List ℕ} → Section ws at n p q → drop (suc at + n) ws ≡ q
+next {ws} {at} {n} {p} {q} s = sym (drop-drop n (suc at) ws) ∙ ap (drop n) (after-count ws at (s .starts)) ∙ drop-at p q n (s .size)
+
+-- the stack is bottom first in an image
+stack-read : (es : List Entry) {n : ℕ} {l : List ℕ} → n ≡ length es → l ≡ entryNumbers (reverse es) → reverse (entriesOf n l) ≡ es
+stack-read es d e = rw (e, d, ← length-reverse es, entriesOf-entryNumbers (reverse es)) (reverse-reverse es)
+
+module _ (m : Machine) (c : Counts m) where
+  rest₆ : List ℕ
+  rest₆ = length (m .stack) ∷ entryNumbers (reverse (m .stack))
+
+  rest₅ : List ℕ
+  rest₅ = 6 ∷ positionNumbers (m .position) ++ rest₆
+
+  rest₄ : List ℕ
+  rest₄ = 45 ∷ m .control ++ rest₅
+
+  rest₃ : List ℕ
+  rest₃ = 8 ∷ m .conditions ++ rest₄
+
+  rest₂ : List ℕ
+  rest₂ = 32 ∷ m .set2 ++ rest₃
+
+  section₁ : Section (imageNumbers m) 0 32 (m .set1) rest₂
+  unfolding imageNumbers rest₂ rest₃ rest₄ rest₅ rest₆
+  section₁ = record { starts = refl; size = c .set1 }
+
+  section₂ : Section (imageNumbers m) 33 32 (m .set2) rest₃
+  unfolding rest₂
+  section₂ = record { starts = next section₁; size = c .set2 }
+
+  section₃ : Section (imageNumbers m) 66 8 (m .conditions) rest₄
+  unfolding rest₃
+  section₃ = record { starts = next section₂; size = c .conditions }
+
+  section₄ : Section (imageNumbers m) 75 45 (m .control) rest₅
+  unfolding rest₄
+  section₄ = record { starts = next section₃; size = c .control }
+
+  section₅ : Section (imageNumbers m) 121 6 (positionNumbers (m .position)) rest₆
+  unfolding rest₅ positionNumbers
+  section₅ = record { starts = next section₄; size = refl }
+
+  section₆ : drop 128 (imageNumbers m) ≡ length (m .stack) ∷ entryNumbers (reverse (m .stack))
+  unfolding rest₆
+  section₆ = next section₅
+
+  -- the counts stand at their places
+  pub counted-imageNumbers : Counted (imageNumbers m)
+  counted-imageNumbers =
+      record {
+        set1 = count-read (imageNumbers m) 0 (section₁ .starts);
+        set2 = count-read (imageNumbers m) 33 (section₂ .starts);
+        conditions = count-read (imageNumbers m) 66 (section₃ .starts);
+        control = count-read (imageNumbers m) 75 (section₄ .starts);
+        position = count-read (imageNumbers m) 121 (section₅ .starts);
+      }
+
+  pub depth-imageNumbers : getD (imageNumbers m) DEPTH 0 ≡ length (m .stack)
+  depth-imageNumbers = count-read (imageNumbers m) 128 section₆
+
+  -- the machine is read back
+  pub machineOf-imageNumbers : machineOf (imageNumbers m) ≡ m
+  unfolding machineOf positionOf positionNumbers
+  machineOf-imageNumbers = λ i. record {
+    set1 = section-read section₁ i;
+    set2 = section-read section₂ i;
+    conditions = section-read section₃ i;
+    control = section-read section₄ i;
+    position = positionOf (section-read section₅ i);
+    stack = stack-read (m .stack) depth-imageNumbers (after-count (imageNumbers m) 128 section₆) i;
+  }
+
+  pub length-imageNumbers : length (imageNumbers m) ≡ 129 + 4 * length (m .stack)
+  unfolding imageNumbers positionNumbers
+  length-imageNumbers = simp (length-append, length-entryNumbers, length-reverse) (omega arith)
+
+-- ---- what was read is written back
+
+-- the stack has as many entries as its count says
+pub depth-machineOf : (ws : List ℕ) → length (machineOf ws .stack) ≡ getD ws DEPTH 0
+unfolding machineOf
+depth-machineOf ws =
+    length-reverse (entriesOf (getD ws DEPTH 0) (drop ENTRIES ws)) ∙ length-entriesOf (getD ws DEPTH 0) (drop ENTRIES ws)
+
+-- the lists have their counts where the words are enough
+pub counts-machineOf : (ws : List ℕ) → ENTRIES ≤ length ws → Counts (machineOf ws)
+unfolding machineOf
+counts-machineOf ws h =
+    record {
+      set1 = section-length ws SET1 32 (omega arith);
+      set2 = section-length ws SET2 32 (omega arith);
+      conditions = section-length ws CONDITIONS 8 (omega arith);
+      control = section-length ws CONTROL 45 (omega arith);
+    }
+
+append-imageNumbers : (m : Machine) (t : List ℕ)
+    → imageNumbers m ++ t ≡ 32 ∷ m .set1 ++ (32 ∷ m .set2 ++ (8 ∷ m .conditions ++ (45 ∷ m .control ++ (6 ∷ positionNumbers (m .position) ++ (length (m .stack) ∷ entryNumbers (reverse (m .stack)) ++ t)))))
+unfolding imageNumbers
+append-imageNumbers m t = simp append-assoc
+
+-- from a place on: a count, a section, and what follows
+join : (ws : List ℕ) (at n c : ℕ) {p t : List ℕ} → at < length ws → c ≡ getD ws at 0 → p ≡ section (suc at) n ws → t ≡ drop (suc at + n) ws
+    → c ∷ p ++ t ≡ drop at ws
+join ws at n c h e f g =
+    rw (e, f, g, ← drop-drop n (suc at) ws, take-append-drop n (drop (suc at) ws)) (sym (drop-cons ws at 0 h))
+
+module _ (ws : List ℕ) (c : Counted ws) (long : 129 + 4 * getD ws DEPTH 0 ≤ length ws) where
+  position-back : positionNumbers (machineOf ws .position) ≡ section POSITION 6 ws
+  unfolding machineOf
+  position-back =
+      let n : length (section POSITION 6 ws) ≡ 6 = section-length ws POSITION 6 (omega arith) in
+      positionNumbers-positionOf (section POSITION 6 ws) (omega arith) ∙ take-take 6 6 (drop POSITION ws) (omega arith)
+
+  entries-back : entryNumbers (reverse (machineOf ws .stack)) ≡ section ENTRIES (4 * getD ws DEPTH 0) ws
+  unfolding machineOf
+  entries-back =
+      ap entryNumbers (reverse-reverse (entriesOf (getD ws DEPTH 0) (drop ENTRIES ws)))
+      ∙ entryNumbers-entriesOf (getD ws DEPTH 0) (drop ENTRIES ws) (rw length-drop (omega arith))
+
+  -- with the words past the last entry
+  all-words : imageNumbers (machineOf ws) ++ drop (129 + 4 * getD ws DEPTH 0) ws ≡ ws
+  unfolding machineOf
+  all-words =
+      append-imageNumbers (machineOf ws) (drop (129 + 4 * getD ws DEPTH 0) ws)
+      ∙ join ws 0 32 32 (omega arith) (sym (c .set1)) refl
+      (join ws 33 32 32 (omega arith) (sym (c .set2)) refl
+      (join ws 66 8 8 (omega arith) (sym (c .conditions)) refl
+      (join ws 75 45 45 (omega arith) (sym (c .control)) refl
+      (join ws 121 6 6 (omega arith) (sym (c .position)) position-back
+      (join ws 128 (4 * getD ws DEPTH 0) _ (omega arith) (depth-machineOf ws) entries-back refl)))))
+
+  -- the words up to the last entry
+  pub imageNumbers-machineOf : imageNumbers (machineOf ws) ≡ take (129 + 4 * getD ws DEPTH 0) ws
+  imageNumbers-machineOf =
+      let n : length (imageNumbers (machineOf ws)) ≡ 129 + 4 * getD ws DEPTH 0 = length-imageNumbers (machineOf ws) (counts-machineOf ws (omega arith)) ∙ rw (depth-machineOf ws) in
+      sym (take-at (imageNumbers (machineOf ws)) (drop (129 + 4 * getD ws DEPTH 0) ws) (129 + 4 * getD ws DEPTH 0) n) ∙ ap (take (129 + 4 * getD ws DEPTH 0)) all-words

@@ -1,0 +1,90 @@
+-- What control registers hold. Assumes nothing.
+use mathlib.Core.Path.{_≡_, refl, sym, ap, _∙_}
+use mathlib.Core.Bool.{Bool, true, false, true≢false, _&&_}
+use mathlib.Core.List.{List, [], _∷_}
+use Prim.Native.Nat.{ℕ, zero, suc, _/_, _%_, _^_, _≤_, _<_}
+use native.Mathlib.Omega.{arith}
+use native.Mathlib.Nat.{mod-lt, div-mul-le-self, mul-mod-left, mod-one, lt-of-le-of-lt}
+use lib.ListN.{length, getD, List·getD-eq-default}
+use lib.Pow.{pow-pos, pow-mono}
+use lib.Dec.{leb, ltb}
+use borrow.Author.Tests.{leb-true, ltb-true, lt-ltb, eq-eqb}
+use Rattle.machine.specs.Control.{Access, writable, readOnly, constant, Register, registers, registerAt, holdsAs, canHold, keptBy, isWritable}
+use Rattle.word.proofs.Tests.{and-parts, and-both}
+
+-- ---- one register
+
+-- what a register can hold has its width
+pub holds-small : (r : Register) (x : ℕ) → canHold r x ≡ true → x < 2 ^ r .width
+unfolding canHold
+holds-small r x h = ltb-true x (2 ^ r .width) (and-parts (ltb x (2 ^ r .width)) _ h .0)
+
+-- a register with no bits that are stored 0 holds what has its width, if it is no constant
+pub plain-holds : (r : Register) (x : ℕ) → r .zeros ≡ 0 → holdsAs (r .access) (r .reset) x ≡ true → x < 2 ^ r .width → canHold r x ≡ true
+unfolding canHold
+plain-holds r x z a h =
+    and-both _ _ (lt-ltb x (2 ^ r .width) h) (and-both _ _ (eq-eqb _ 0 (ap (λ k. x % 2 ^ k) z ∙ mod-one x)) a)
+
+writable-holds : (a : Access) (reset x : ℕ) → isWritable a ≡ true → holdsAs a reset x ≡ true
+unfolding holdsAs isWritable
+writable-holds writable reset x w = refl
+writable-holds readOnly reset x w = refl
+writable-holds constant reset x w = absurd (true≢false (sym w))
+
+-- a store leaves the bits 0 that are stored 0
+pub kept-zeros : (r : Register) (x : ℕ) → keptBy r x % 2 ^ r .zeros ≡ 0
+unfolding keptBy
+kept-zeros r x = mul-mod-left (x % 2 ^ r .width / 2 ^ r .zeros) (2 ^ r .zeros)
+
+-- a store leaves what has the register's width
+pub kept-small : (r : Register) (x : ℕ) → keptBy r x < 2 ^ r .width
+unfolding keptBy
+kept-small r x = lt-of-le-of-lt (div-mul-le-self (x % 2 ^ r .width) (2 ^ r .zeros)) (mod-lt x (pow-pos (r .width)))
+
+-- a store leaves what the register can hold
+pub kept-holds : (r : Register) (x : ℕ) → isWritable (r .access) ≡ true → canHold r (keptBy r x) ≡ true
+unfolding canHold
+kept-holds r x w =
+    and-both _ _ (lt-ltb _ (2 ^ r .width) (kept-small r x)) (and-both _ _ (eq-eqb _ 0 (kept-zeros r x)) (writable-holds (r .access) (r .reset) _ w))
+
+-- ---- the table
+
+-- a test that every row passes
+every : (p : Register → Bool) → List Register → Bool
+every p [] = true
+every p (r ∷ l) = p r && every p l
+
+every-row : (p : Register → Bool) (l : List Register) (d : Register) → every p l ≡ true → p d ≡ true → (i : ℕ) → p (getD l i d) ≡ true
+unfolding every
+every-row p [] d h e i = e
+every-row p (r ∷ l) d h e zero = and-parts (p r) (every p l) h .0
+every-row p (r ∷ l) d h e (suc i) = every-row p l d (and-parts (p r) (every p l) h .1) e i
+
+pub registers-count : length registers ≡ 45
+unfolding registers
+registers-count = refl
+
+-- at most 32 bits
+pub width-small : (i : ℕ) → registerAt i .width ≤ 32
+unfolding registerAt registers every
+width-small i = leb-true _ 32 (every-row (λ r. leb (r .width) 32) registers _ refl refl i)
+
+-- nothing but 0 is past the last one
+pub beyond-holds : (i : ℕ) → 45 ≤ i → canHold (registerAt i) 0 ≡ true
+unfolding registerAt registers canHold holdsAs
+beyond-holds i h = rw (List·getD-eq-default registers _ h)
+
+-- its value after reset is one that the register can hold
+pub reset-holds : (i : ℕ) → canHold (registerAt i) (registerAt i .reset) ≡ true
+unfolding registerAt registers every canHold holdsAs
+reset-holds i = every-row (λ r. canHold r (r .reset)) registers _ refl refl i
+
+-- a word of 32 bits
+below-word : (i x : ℕ) → x < 2 ^ registerAt i .width → x < 2 ^ 32
+below-word i x h = let b : 2 ^ registerAt i .width ≤ 2 ^ 32 = pow-mono (width-small i) in omega arith
+
+pub holds-word : (i x : ℕ) → canHold (registerAt i) x ≡ true → x < 2 ^ 32
+holds-word i x h = below-word i x (holds-small (registerAt i) x h)
+
+pub kept-word : (i x : ℕ) → keptBy (registerAt i) x < 2 ^ 32
+kept-word i x = below-word i (keptBy (registerAt i) x) (kept-small (registerAt i) x)

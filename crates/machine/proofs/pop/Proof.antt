@@ -1,0 +1,96 @@
+-- `machine::pop` meets its contract: the count, and what shows the rest. Assumes nothing.
+use mathlib.Core.Path.{_≡_, ap, _∙_}
+use Prim.Native.Nat.{suc, _-_}
+use native.Mathlib.Omega.{arith}
+use lib.ListN.{getD, set, length-set}
+use Rattle.word.specs.Flags.{withoutFlag}
+use Rattle.machine.specs.Machine.{Machine}
+use Rattle.machine.specs.Stack.{popped, serviceFlags, shownTop}
+use Rattle.machine.specs.Words.{DEPTH, machineOf}
+use Rattle.machine.proofs.Flat.{withEntries, depth-is, service-flags, popped-to, stored-shown}
+use Rattle.machine.proofs.Service.{depth-most, top-below, flags-popped, length-popped}
+use borrow.Author.Needs.{needs}
+use Rattle.machine.proofs.pop.Statement.{statement}
+use Rattle.machine.proofs.pop.Tie as tie
+
+-- with the count one below
+stored : (c : tie.After-without-flag)
+    → let w = c .before .before .before .before .before .before .before .args .w .now in
+    machineOf (set w DEPTH (c .before .before .before .before .depth .result - 1)) ≡ withEntries (popped (machineOf w .stack)) (machineOf w)
+stored c =
+    let s = c .before .before .before .before .before .before .before in
+    let w = s .args .w .now in
+    let n = c .before .before .before .before .depth in
+    let e : getD w DEPTH 0 ≡ suc (n .result - 1) = omega (arith, depth-is w, n .ensures, s .pre .1 .1 .1) in
+    popped-to w (n .result - 1) (s .pre .0) e
+
+depth-requires : tie.Need-depth-requires
+depth-requires c κs = search needs
+
+top-requires : tie.Need-top-requires
+top-requires c κs = (search needs, depth-most _ (c .before .before .before .before .pre .1 .1 .0))
+
+slice-read-without-flag : tie.Need-slice-read-without-flag
+slice-read-without-flag c = search needs
+
+without-flag-requires : tie.Need-without-flag-requires
+without-flag-requires c κs =
+    let s = c .before .before .before .before .before .before in
+    rw (c .before .top .ensures) (omega (arith, top-below (machineOf (s .args .w .now) .stack) (s .pre .1 .1 .0) (s .pre .1 .1 .1)))
+
+sub-w : tie.Need-sub-w
+sub-w c = search needs
+
+slice-write-w : tie.Need-slice-write-w
+slice-write-w c = search needs
+
+top-requires-2 : tie.Need-top-requires-2
+top-requires-2 c κs =
+    let s = c .before .before .before .before .before .before .before .before in
+    let es = machineOf (s .args .w .now) .stack in
+    (simp length-set (s .pre .0), rw (stored (c .before)) (omega (arith, depth-most es (s .pre .1 .1 .0), length-popped es)))
+
+show-requires : tie.Need-show-requires
+show-requires c κs = search needs
+
+same-length : tie.Need-same-length
+same-length c = c .before .before .show .kept .0 ∙ simp length-set
+
+returns : tie.Need-returns
+returns c =
+    let s = c .before .before .before .before .before .before .before .before .before .before .before .before .before in
+    let w = s .args .w .now in
+    let es = machineOf w .stack in
+    let e = c .before .before .before .before .before .before .before .before .top in
+    let flags = c .before .before .before .before .before .before .without-flag in
+    let rest = c .before .before .before .before .top2 in
+    let k = stored (c .before .before .before .before .before .before) in
+    stored-shown
+    (machineOf w)
+    _
+    _
+    (popped es)
+    (flags .result)
+    (rest .result)
+    k
+    (flags .ensures
+    ∙ ap (withoutFlag (e .result .source)) (service-flags w ∙ s .pre .1 .0)
+    ∙ ap (λ e. withoutFlag (e .source) (serviceFlags es)) (e .ensures)
+    ∙ flags-popped es (s .pre .1 .1 .0) (s .pre .1 .1 .1))
+    (rest .ensures ∙ ap (λ (m : Machine). shownTop (m .stack)) k)
+    (c .before .before .show .ensures)
+
+pub pop-spec : {M : Type 1} → statement M
+pop-spec =
+    tie.close
+    (tie.spec
+    depth-requires
+    top-requires
+    slice-read-without-flag
+    without-flag-requires
+    sub-w
+    slice-write-w
+    top-requires-2
+    show-requires
+    same-length
+    returns)

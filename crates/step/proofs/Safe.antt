@@ -1,0 +1,181 @@
+-- What a decision can be: a store goes to a place that passed the data tests, and a privileged effect is not user mode's. Assumes nothing.
+use mathlib.Core.Path.{_≡_, refl}
+use mathlib.Core.Bool.{Bool, true, false}
+use mathlib.Core.Option.{Option, none, some}
+use Prim.Native.Nat.{ℕ}
+use native.Mathlib.Omega.{arith}
+use lib.IntN.{ℤ, pos, _+ℤ_}
+use Rattle.word.specs.Choice.{if_then_else_}
+use Rattle.word.specs.Word.{wordOf}
+use Rattle.word.specs.declared.Sum.{Sum}
+use Rattle.isa.specs.Operation.{Operation, nop, add, addu, sub, subu, and, or, xor, muls, mulu, mulus, muls16, mulu16, mulus16, sll, srl, sra, sext, addi, addiu, andi, ori, muli, slli, srli, srai, sexti, ld, st, mov, not, mulhi, cmp, cmpi, lli, lui, jmp, jal, jmpr, jalr, bc, begt, belt, beq, bgt, blt, bne, bnc, scall, retu, reti, chrs, di, ei, swm, trap, scon, rcon, unknown}
+use Rattle.isa.specs.Operation.{operationOf, Width, superOnly, unavailable, properties}
+use Rattle.isa.specs.Condition.{Condition}
+use Rattle.isa.specs.Decode.{decode}
+use Rattle.isa.specs.declared.Instruction.{Instruction}
+use Rattle.machine.specs.Machine.{userMode, widthOf}
+use Rattle.decide.specs.View.{View}
+use Rattle.decide.specs.Execute.{checked, wrapped, product, loaded, stored, targetBy, jumped, branch, execute}
+use Rattle.decide.specs.Decide.{perform, ifAvailable, instruction, fetchedThen, decide}
+use Rattle.decide.specs.declared.Fetched.{Fetched}
+use Rattle.decide.specs.declared.Fetched.the-variants.{Word, Fault, Absent}
+use Rattle.decide.specs.declared.Place.{Place}
+use Rattle.decide.specs.declared.Place.the-variants.{Block, Cell, Refused, Missing}
+use Rattle.decide.specs.declared.Effect.{Effect}
+use Rattle.decide.specs.declared.Effect.the-variants.{Stopped, Raised, Next, Result, ResultFlags, ResultProduct, Compare, Conditions, StoreControl, StoreCell, Jump, JumpLink, EnableInterrupts, SwitchWidth, SystemCall, InterruptReturn, UserReturn, SelectSets}
+
+-- some data address names a place
+abbrev pub Reached : View → Place → Type 0
+Reached v p = (z : ℤ) × (v .place z ≡ p)
+
+-- what a view allows
+abbrev pub Safe : View → Effect → Type 0
+Safe v (Stopped n) = Unit {0}
+Safe v (Raised c) = Unit {0}
+Safe v Next = Unit {0}
+Safe v (Result d x) = Unit {0}
+Safe v (ResultFlags d x f) = Unit {0}
+Safe v (ResultProduct d h l) = Unit {0}
+Safe v (Compare c f) = Unit {0}
+Safe v (Conditions x) = Unit {0}
+Safe v (StoreControl n x) = Reached v (Block n)
+Safe v (StoreCell a x) = Reached v (Cell a)
+Safe v (Jump t) = Unit {0}
+Safe v (JumpLink t) = Unit {0}
+Safe v (EnableInterrupts e) = Unit {0}
+Safe v (SwitchWidth w) = Unit {0}
+Safe v SystemCall = Unit {0}
+Safe v InterruptReturn = v .nested ≡ true
+Safe v UserReturn = userMode (v .status) ≡ false
+Safe v (SelectSets n) = userMode (v .status) ≡ false
+
+-- ---- the parts that operations share
+
+-- what holds of both branches where they are taken holds of a choice
+pub if-holds : {A : Type 0} (P : A → Type 0) (b : Bool) {x y : A} → (b ≡ true → P x) → (b ≡ false → P y) → P (if_then_else_ b x y)
+unfolding if_then_else_
+if-holds P true f g = f refl
+if-holds P false f g = g refl
+
+module _ (v : View) where
+  if-safe : (b : Bool) (x y : Effect) → (b ≡ true → Safe v x) → (b ≡ false → Safe v y) → Safe v (if_then_else_ b x y)
+  if-safe b x y f g = if-holds (Safe v) b f g
+
+  checked-safe : (d : ℕ) (s : Sum) → Safe v (checked d s)
+  unfolding checked
+  checked-safe d s = if-safe _ _ _ (λ _. tt) (λ _. tt)
+
+  loaded-safe : (d x : ℕ) (p : Place) → Safe v (loaded d x p)
+  unfolding loaded
+  loaded-safe d x (Block n) = tt
+  loaded-safe d x (Cell a) = tt
+  loaded-safe d x (Refused c) = tt
+  loaded-safe d x Missing = tt
+
+  stored-safe : (x : ℕ) (p : Place) → Reached v p → Safe v (stored x p)
+  unfolding stored
+  stored-safe x (Block n) h = h
+  stored-safe x (Cell a) h = h
+  stored-safe x (Refused c) h = tt
+  stored-safe x Missing h = tt
+
+  jumped-safe : (z : ℤ) (taken : ℕ → Effect) → ((t : ℕ) → Safe v (taken t)) → Safe v (jumped v z taken)
+  unfolding jumped
+  jumped-safe z taken h = if-safe _ _ _ (λ _. tt) (λ _. if-safe _ _ _ (λ _. tt) (λ _. if-safe _ _ _ (λ _. tt) (λ _. h (wordOf 32 z))))
+
+  branch-safe : (when : Condition) (i : Instruction) → Safe v (branch when v i)
+  unfolding branch
+  branch-safe when i = if-safe _ _ _ (λ _. jumped-safe (targetBy v (i .immediate)) Jump (λ t. tt)) (λ _. tt)
+
+-- ---- operations
+
+-- an operation that is available
+abbrev Available : View → Operation → Type 0
+Available v op = unavailable (properties op .availability) (widthOf (v .status)) (userMode (v .status)) ≡ none
+
+super-only : (w : Width) (user : Bool) → unavailable superOnly w user ≡ none → user ≡ false
+unfolding unavailable
+super-only w true e = absurd (let z : _≡_ {A = ℕ} 0 1 = cc in omega arith)
+super-only w false e = refl
+
+module _ (v : View) (i : Instruction) (x y : ℕ) where
+  execute-safe : (op : Operation) → Available v op → Safe v (execute op v i x y)
+  unfolding execute wrapped product properties
+  execute-safe nop e = tt
+  execute-safe add e = checked-safe v (i .dreg) _
+  execute-safe addu e = tt
+  execute-safe sub e = checked-safe v (i .dreg) _
+  execute-safe subu e = tt
+  execute-safe and e = tt
+  execute-safe or e = tt
+  execute-safe xor e = tt
+  execute-safe muls e = tt
+  execute-safe mulu e = tt
+  execute-safe mulus e = tt
+  execute-safe muls16 e = tt
+  execute-safe mulu16 e = tt
+  execute-safe mulus16 e = tt
+  execute-safe sll e = tt
+  execute-safe srl e = tt
+  execute-safe sra e = tt
+  execute-safe sext e = tt
+  execute-safe addi e = checked-safe v (i .dreg) _
+  execute-safe addiu e = tt
+  execute-safe andi e = tt
+  execute-safe ori e = tt
+  execute-safe muli e = tt
+  execute-safe slli e = tt
+  execute-safe srli e = tt
+  execute-safe srai e = tt
+  execute-safe sexti e = tt
+  execute-safe ld e = let a = pos x +ℤ i .immediate in loaded-safe v (i .dreg) (v .load a) (v .place a)
+  execute-safe st e = let a = pos x +ℤ i .immediate in stored-safe v (v .source (i .dreg)) (v .place a) (a, refl)
+  execute-safe mov e = tt
+  execute-safe not e = tt
+  execute-safe mulhi e = if-safe v _ _ _ (λ _. tt) (λ _. tt)
+  execute-safe cmp e = tt
+  execute-safe cmpi e = tt
+  execute-safe lli e = tt
+  execute-safe lui e = tt
+  execute-safe jmp e = jumped-safe v _ Jump (λ t. tt)
+  execute-safe jal e = jumped-safe v _ JumpLink (λ t. tt)
+  execute-safe jmpr e = jumped-safe v _ Jump (λ t. tt)
+  execute-safe jalr e = jumped-safe v _ JumpLink (λ t. tt)
+  execute-safe bc e = branch-safe v _ i
+  execute-safe begt e = branch-safe v _ i
+  execute-safe belt e = branch-safe v _ i
+  execute-safe beq e = branch-safe v _ i
+  execute-safe bgt e = branch-safe v _ i
+  execute-safe blt e = branch-safe v _ i
+  execute-safe bne e = branch-safe v _ i
+  execute-safe bnc e = branch-safe v _ i
+  execute-safe scall e = tt
+  execute-safe retu e = super-only _ _ e
+  execute-safe reti e = if-safe v _ _ _ (λ b. b) (λ _. tt)
+  execute-safe chrs e = super-only _ _ e
+  execute-safe di e = tt
+  execute-safe ei e = tt
+  execute-safe swm e = tt
+  execute-safe trap e = tt
+  execute-safe scon e = tt
+  execute-safe rcon e = tt
+  execute-safe unknown e = tt
+
+-- ---- the order of the tests
+
+available-safe : (v : View) (i : Instruction) (op : Operation) (o : Option ℕ)
+    → unavailable (properties op .availability) (widthOf (v .status)) (userMode (v .status)) ≡ o → Safe v (ifAvailable v i op o)
+unfolding ifAvailable perform
+available-safe v i op (some c) e = tt
+available-safe v i op none e =
+    if-safe v _ _ _ (λ _. tt) (λ _. if-safe v _ _ _ (λ _. tt) (λ _. execute-safe v i (v .source (i .sreg1)) (v .source (i .sreg2)) op e))
+
+fetched-safe : (v : View) (f : Fetched) → Safe v (fetchedThen v f)
+unfolding fetchedThen instruction
+fetched-safe v (Word w) = let i = decode (widthOf (v .status)) w in available-safe v i (operationOf (i .opcode)) _ refl
+fetched-safe v (Fault c) = tt
+fetched-safe v Absent = tt
+
+pub decide-safe : (v : View) → Safe v (decide v)
+unfolding decide
+decide-safe v = fetched-safe v (v .fetched)

@@ -1,0 +1,35 @@
+-- Tests joined, and choices by a test. Assumes nothing.
+use mathlib.Core.Path.{_≡_, refl, sym}
+use mathlib.Core.Bool.{Bool, true, false, true≢false, _&&_, _||_}
+use Rattle.word.specs.Choice.{if_then_else_}
+
+pub and-parts : (a b : Bool) → a && b ≡ true → (a ≡ true) × (b ≡ true)
+and-parts true b e = (refl, e)
+and-parts false b e = absurd (true≢false (sym e))
+
+pub and-both : (a b : Bool) → a ≡ true → b ≡ true → a && b ≡ true
+and-both a b p q = rw (p, q)
+
+pub or-parts : (a b : Bool) → a || b ≡ false → (a ≡ false) × (b ≡ false)
+or-parts true b e = absurd (true≢false e)
+or-parts false b e = (refl, e)
+
+-- a test that is not true is false
+pub false-unless : (b : Bool) → (b ≡ true → ⊥) → b ≡ false
+false-unless true h = absurd (h refl)
+false-unless false h = refl
+
+module _ {A : Type 0} where
+  pub if-true : (b : Bool) (x y : A) → b ≡ true → if_then_else_ b x y ≡ x
+  unfolding if_then_else_
+  if-true b x y e = rw e
+
+  pub if-false : (b : Bool) (x y : A) → b ≡ false → if_then_else_ b x y ≡ y
+  unfolding if_then_else_
+  if-false b x y e = rw e
+
+  -- what stands for a false test matters only then
+  pub if-else : (b : Bool) (x y z : A) → (b ≡ false → y ≡ z) → if_then_else_ b x y ≡ if_then_else_ b x z
+  unfolding if_then_else_
+  if-else true x y z f = refl
+  if-else false x y z f = f refl
