@@ -1,22 +1,23 @@
 -- The bytes of an instruction word: which are protected, which are there. Assumes nothing.
 use mathlib.Core.Path.{_≡_, refl, sym}
-use mathlib.Core.Bool.{Bool, true, false, _&&_, _||_}
+use mathlib.Core.Bool.{Bool, true, false, not, _&&_, _||_}
 use mathlib.Core.List.{List, [], _∷_}
 use mathlib.Core.Option.{Option, none, some}
 use Prim.Native.Nat.{ℕ, zero, suc, _+_, _-_, _*_, _%_, _^_, _≤_, _<_}
 use native.Mathlib.Nat.{zero-mul, zero-add}
 use native.Mathlib.Numerals.{towards-suc}
 use native.Mathlib.Omega.{arith}
-use lib.Dec.{leb, ltb}
+use lib.Dec.{leb, ltb, eqb}
 use lib.ListN.{length, getD, getElem?}
 use borrow.Author.Tests.{leb-true, leb-false, le-leb, lt-leb, ltb-true, ltb-false}
+use Rattle.word.specs.Choice.{if_then_else_}
 use Rattle.codec.specs.Number.{numberAt}
 use Rattle.isa.specs.Operation.{Width, w16, w32}
 use Rattle.isa.specs.Decode.{bytesOf}
 use Rattle.machine.specs.Control.{within}
-use Rattle.decide.specs.View.{anyWithin, byteThen, bytesAt}
+use Rattle.decide.specs.View.{anyWithin, byteThen, bytesAt, fetchAt}
 use Rattle.decide.specs.declared.Fetched.{Fetched}
-use Rattle.decide.specs.declared.Fetched.the-variants.{Word, Absent}
+use Rattle.decide.specs.declared.Fetched.the-variants.{Word, Fault, Absent}
 
 -- ---- protection
 
@@ -109,6 +110,22 @@ bytes-absent program (suc n) a w p h = go (ltb a (length program)) refl (bytes-a
         → bytesAt program (suc n) a w ≡ Absent
     go true t later = let l = ltb-true a (length program) t in rw (element-there program a l) (later (omega arith) (omega arith))
     go false t later = rw (element-absent program a (ltb-false a (length program) t))
+
+-- a word is fetched only where all bytes are there
+not-fetched : (b c : Bool) (f : Fetched) (w : ℕ) → f ≡ Absent → (if b then Fault 0x05 else if c then Fault 0x00 else f) ≡ Word w → ⊥
+unfolding if_then_else_
+not-fetched true c f w a e = let z : _≡_ {A = ℕ} 0 1 = cc in omega arith
+not-fetched false true f w a e = let z : _≡_ {A = ℕ} 0 1 = cc in omega arith
+not-fetched false false f w a e = let z : _≡_ {A = ℕ} 0 1 = cc in omega arith
+
+pub fetched-inside : (program : List ℕ) (low high : ℕ) (user : Bool) (n pc w : ℕ) → 0 < n
+    → fetchAt program low high user n pc ≡ Word w → pc + n ≤ length program
+unfolding fetchAt
+fetched-inside program low high user n pc w p e = go (leb (pc + n) (length program)) refl
+  where
+    go : (b : Bool) → leb (pc + n) (length program) ≡ b → pc + n ≤ length program
+    go true t = leb-true (pc + n) (length program) t
+    go false t = absurd (not-fetched _ _ _ w (bytes-absent program n pc 0 p (leb-false (pc + n) (length program) t)) e)
 
 -- words of 32 and of 16 bits
 pub four-bytes : (program : List ℕ) (a : ℕ) → a + 4 ≤ length program → bytesAt program 4 a 0 ≡ Word (numberAt program a)

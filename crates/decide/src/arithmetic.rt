@@ -5,6 +5,7 @@ ghost use Rattle.isa.specs.Operation.{operationOf};
 ghost use Rattle.decide.specs.View.{View};
 ghost use Rattle.decide.specs.Execute.{checked, wrapped, product, execute};
 use crate::Effect;
+use crate::immediate_word;
 use isa::Instruction;
 use word::Product;
 use word::Sum;
@@ -68,7 +69,7 @@ pub fn immediates(op: u32, i: Instruction, x: u32) -> Effect
     ensures { λ r. ⌜ ((v : View) (y : ℕ) → r ≡ execute (operationOf op) v i x y) ⌝ }
 {
     let d = i.dreg;
-    let n = word::word(i.immediate);
+    let n = immediate_word(i);
     match op {
         18 => checked(d, word::add(x, n)),
         19 => wrapped(d, word::add(x, n)),
