@@ -1,0 +1,2 @@
+-- Laws of the text of the run program.
+pub mod Laws
