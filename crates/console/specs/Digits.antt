@@ -4,6 +4,12 @@ use Prim.Native.Nat.{ℕ, zero, suc, _+_, _/_, _%_}
 use lib.Dec.{ltb}
 use Rattle.word.specs.Choice.{if_then_else_}
 
+abbrev pub blank : ℕ
+blank = 32
+
+abbrev pub newline : ℕ
+newline = 10
+
 -- the character of a digit: 0 to 9, then A to F ("capitals, here and later")
 unfoldable pub digitOf : (d : ℕ) → ℕ
 digitOf d = if ltb d 10 then 48 + d else 55 + d
@@ -13,18 +19,16 @@ unfoldable pub digitsOf : (base count n : ℕ) → List ℕ
 digitsOf base zero n = []
 digitsOf base (suc count) n = digitsOf base count (n / base) ++ digitOf (n % base) ∷ []
 
--- how many decimal digits a number has: 1 below 10, else one more than its tenth has; `most` bounds the divisions
-unfoldable pub placesFrom : (most n : ℕ) → ℕ
+-- how many decimal digits a number has, at most `more` besides the first: 1 below 10, else one more than its tenth has
+unfoldable pub placesFrom : (more n : ℕ) → ℕ
 placesFrom zero n = 1
-placesFrom (suc most) n =
-    let more = placesFrom most (n / 10) in
-    if ltb n 10 then 1 else suc more
+placesFrom (suc more) n = if ltb n 10 then 1 else suc (placesFrom more (n / 10))
 
--- n divisions are enough
+-- ten digits are enough for 32 bits
 abbrev pub placesOf : (n : ℕ) → ℕ
-placesOf n = placesFrom n n
+placesOf n = placesFrom 9 n
 
--- a number in decimal, without leading zeros
+-- a number of 32 bits in decimal, without leading zeros
 abbrev pub decimal : (n : ℕ) → List ℕ
 decimal n = digitsOf 10 (placesOf n) n
 

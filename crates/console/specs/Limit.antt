@@ -5,6 +5,7 @@ use Prim.Native.Nat.{ℕ, _+_, _-_, _*_}
 use lib.ListN.{length, getD, take}
 use lib.Dec.{leb, eqb}
 use Rattle.word.specs.Choice.{if_then_else_}
+use Rattle.console.specs.Digits.{newline}
 
 -- what "anything but 1 to 7 digits and an optional newline" says: a limit that question 7 refuses, and that no seven digits say
 abbrev pub badLimit : ℕ
@@ -27,7 +28,7 @@ numberOf s = if leb 1 (length s) && leb (length s) 7 then numberFrom 0 s else ba
 unfoldable pub lineLength : (text : List ℕ) → ℕ
 lineLength text =
     let last = length text - 1 in
-    if eqb (getD text last 0) 10 then last else length text
+    if eqb (getD text last 0) newline then last else length text
 
 -- the step limit that a text says
 unfoldable pub limitOf : (text : List ℕ) → ℕ

@@ -3,14 +3,8 @@ use mathlib.Core.List.{List, [], _∷_, _++_}
 use Prim.Native.Nat.{ℕ}
 use lib.ListN.{length, replicate}
 use Rattle.codec.specs.Number.{over}
-use Rattle.console.specs.Digits.{decimal, hex8}
+use Rattle.console.specs.Digits.{blank, newline, decimal, hex8}
 use Rattle.console.specs.declared.Line.{Line}
-
-abbrev pub blank : ℕ
-blank = 32
-
-abbrev pub newline : ℕ
-newline = 10
 
 -- "prints steps, ending, PC in 8 hex digits .., single blanks between and a newline after"
 unfoldable pub ranText : (steps ending pc : ℕ) → List ℕ

@@ -74,7 +74,11 @@ fn digit(d: u32) -> u8
     requires { ⌜ d < 16 ⌝ }
     ensures { λ r. ⌜ r ≡ digitOf d ⌝ }
 {
-    if d < 10 { (48 + d) as u8 } else { (55 + d) as u8 }
+    if d < 10 {
+        (48 + d) as u8
+    } else {
+        (55 + d) as u8
+    }
 }
 
 // How many decimal digits a number has.

@@ -1,9 +1,9 @@
 -- `limit_of` meets its contract. Assumes nothing.
-use mathlib.Core.Path.{sym, _∙_}
+use mathlib.Core.Path.{sym}
 use native.Mathlib.Omega.{arith}
 use lib.Seq.{length-take-le}
 use Rattle.console.specs.Limit.{limitOf}
-use Rattle.console.proofs.Laws.{lineLength-le}
+use Rattle.console.proofs.Limits.{lineLength-near}
 use borrow.Author.Needs.{needs}
 use Rattle.console.proofs.limit_of.Statement.{statement}
 use Rattle.console.proofs.limit_of.Tie as tie
@@ -12,7 +12,7 @@ line-length-requires : tie.Need-line-length-requires
 line-length-requires c κs = search needs
 
 slice-aggregate-number : tie.Need-slice-aggregate-number
-slice-aggregate-number c = sym (length-take-le _ _ (omega (arith, c .before .line-length .ensures, lineLength-le (c .before .before .before .args .text .now))))
+slice-aggregate-number c = sym (length-take-le _ _ (omega (arith, c .before .line-length .ensures, lineLength-near (c .before .before .before .args .text .now))))
 
 number-requires : tie.Need-number-requires
 number-requires c κs = search needs

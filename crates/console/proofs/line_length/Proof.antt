@@ -1,5 +1,5 @@
 -- `line_length` meets its contract. Assumes nothing.
-use Rattle.console.proofs.Laws.{line-empty, line-ended, line-open}
+use Rattle.console.proofs.Limits.{line-empty, line-ended, line-open}
 use borrow.Author.Needs.{needs}
 use Rattle.console.proofs.line_length.Statement.{statement}
 use Rattle.console.proofs.line_length.Tie as tie

@@ -1,13 +1,13 @@
 -- `put_number` meets its contract: each turn of the loop writes one digit more, the lowest of those that are left. Assumes nothing.
-use mathlib.Core.Path.{_≡_, sym, ap, _∙_}
-use Prim.Native.Nat.{_≤_, _+_, _/_, _%_}
+use mathlib.Core.Path.{_≡_, sym, _∙_}
+use Prim.Native.Nat.{_≤_}
 use native.Mathlib.Nat.{mod-lt}
 use native.Mathlib.Omega.{arith}
 use lib.ListN.{length, length-set}
 use borrow.Author.Needs.{needs}
 use Rattle.codec.specs.Number.{stored}
 use Rattle.console.specs.Digits.{digitsOf}
-use Rattle.console.proofs.Laws.{length-digitsOf, stored-last, digits-done, digit-more}
+use Rattle.console.proofs.Digits.{length-digitsOf, stored-last, digits-done, digit-more}
 use Rattle.console.proofs.put_number.Statement.{statement}
 use Rattle.console.proofs.put_number.Tie as tie
 
@@ -18,6 +18,7 @@ Inv-loop line₀ at base count n end i₀ rest₀ line i rest =
 abbrev μ-loop : tie.MeasureT-loop
 μ-loop line₀ at base count n end i₀ rest₀ line i rest = i
 
+-- the line keeps its length
 kept : (c : tie.At-loop Inv-loop μ-loop) → length (c .loop .line) ≡ length (c .before .before .args .line .now)
 kept c = c .loop .inv .1 .0 ∙ simp length-set
 

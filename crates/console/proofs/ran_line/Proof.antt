@@ -1,16 +1,19 @@
 -- `ran_line` meets its contract: each number is written just after those before it. Assumes nothing.
 use Prim.Native.Nat.{_≤_}
 use native.Mathlib.Omega.{arith}
-use Rattle.console.proofs.Laws.{places-few, ran-line}
+use Rattle.console.proofs.Digits.{places-few}
+use Rattle.console.proofs.Lines.{ran-line}
 use borrow.Author.Needs.{needs}
 use Rattle.console.proofs.ran_line.Statement.{statement}
 use Rattle.console.proofs.ran_line.Tie as tie
 
+-- no number has more than ten digits
 few : (c : tie.After-places2) → (c .before .places .result ≤ 10) × (c .places2 .result ≤ 10)
 few c =
-    let start = c .before .before in
-    (omega (arith, c .before .places .ensures, places-few (start .args .steps) (start .fits .steps .fits)),
-    omega (arith, c .places2 .ensures, places-few (start .args .ending) (start .fits .ending .fits)))
+    let start = c .before .before in (
+      omega (arith, c .before .places .ensures, places-few (start .args .steps) (start .fits .steps .fits)),
+      omega (arith, c .places2 .ensures, places-few (start .args .ending) (start .fits .ending .fits)),
+    )
 
 places-requires : tie.Need-places-requires
 places-requires c κs = search needs

@@ -1,11 +1,13 @@
 -- `refusal_line` meets its contract. Assumes nothing.
 use Prim.Native.Nat.{_≤_}
 use native.Mathlib.Omega.{arith}
-use Rattle.console.proofs.Laws.{places-few, refusal-line}
+use Rattle.console.proofs.Digits.{places-few}
+use Rattle.console.proofs.Lines.{refusal-line}
 use borrow.Author.Needs.{needs}
 use Rattle.console.proofs.refusal_line.Statement.{statement}
 use Rattle.console.proofs.refusal_line.Tie as tie
 
+-- no number has more than ten digits
 few : (c : tie.After-places) → c .places .result ≤ 10
 few c = omega (arith, c .places .ensures, places-few (c .before .args .n) (c .before .fits .n .fits))
 
