@@ -1,17 +1,25 @@
 -- What a call leaves: for lists of calls (01 "The packer's stretch"), and of its answer and buffer (01 "Machine image"). Assumes nothing.
 use mathlib.Core.Path.{_≡_}
+use mathlib.Core.Logic.{_↔_}
 use mathlib.Core.List.{List, [], _∷_}
-use Prim.Native.Nat.{ℕ, _≤_, _<_}
-use lib.ListN.{length, getElem?}
+use Prim.Native.Nat.{ℕ, suc, _≤_, _<_}
+use lib.ListN.{length, getD, getElem?}
 use Rattle.machine.specs.Machine.{Machine, State}
-use Rattle.image.specs.Image.{Read, Accepted, readImage}
+use Rattle.image.specs.Image.{Accepted, readImage}
 use Rattle.apply.specs.Apply.{Transition}
-use Rattle.emulator.specs.Run.{Call, Asked, Start, ask, stateOf, Outcome, Called, called}
+use Rattle.step.specs.Step.{step}
+use Rattle.emulator.specs.Run.{Call, No, Start, ask, stateOf, Called, called, transitions}
+use Rattle.emulator.specs.declared.Answer.the-variants.{Refusal, Ran}
 
 -- the state after all of these
 unfoldable pub final : State → List Transition → State
 final s [] = s
 final s (t ∷ ts) = final (t .after) ts
+
+-- each transition is a step, or a stop, of the state after the one before it
+unfoldable pub Steps : (program : List ℕ) → State → List Transition → Type 0
+Steps program s [] = Unit {0}
+Steps program s (t ∷ ts) = (requests : ℕ) × (t ≡ step program s requests) × Steps program (t .after) ts
 
 -- "The machine after a turn is demand 2's, and where its call ends there, it is what that call left": the image is one for which 2 to 5
 -- are all yes, and says the machine after the call's last turn; the data memory is the one after it
@@ -23,14 +31,73 @@ pub record Left (program image cells : List ℕ) (c : Call) (m : Machine) : Type
 unfoldable pub Closure : Type 0
 Closure = (program image cells : List ℕ) (c : Call) (m : Machine) → readImage image ≡ Accepted m → Left program image cells c m
 
+-- the transitions of a list of calls, refused ones anywhere in it, are steps and stops of one machine
+unfoldable pub Continuity : Type 0
+Continuity =
+    (program image cells : List ℕ) (calls : List Call) (m : Machine) → readImage image ≡ Accepted m
+    → Steps program (stateOf m cells) (transitions program image cells calls)
+
+-- ---- the answer and the lent memory
+
+-- the eight questions are all answered yes
+pub record AllYes (program image cells : List ℕ) (c : Call) (m : Machine) : Type 0 where
+  pub programSize : length program ≤ 65536
+  pub dataSize : length cells ≤ 65536
+  pub read : readImage image ≡ Accepted m  -- 2 to 5
+  pub requests : (i : ℕ) → getD (c .requests) i 0 ≤ 0xFFF
+  pub limit : c .limit ≤ 1000000
+  pub room : 708 ≤ length (c .buffer)
+
+-- just such a call is not refused
+unfoldable pub Questions : Type 0
+Questions = (program image cells : List ℕ) (c : Call) (m : Machine) → (ask program image cells c ≡ Start m) ↔ AllYes program image cells c m
+
+-- "a no gives the number and does no step"; "Every refusal .. changes no lent memory"
+pub record Unchanged (image cells : List ℕ) (c : Call) (n : ℕ) (d : Called) : Type 0 where
+  pub least : 1 ≤ n
+  pub most : n ≤ 8
+  pub answer : d .outcome .answer ≡ Refusal n
+  pub sameBuffer : d .outcome .buffer ≡ c .buffer
+  pub sameCells : d .outcome .cells ≡ cells
+  pub sameImage : d .image ≡ image
+  pub noSteps : d .transitions ≡ []
+
+unfoldable pub Refusals : Type 0
+Refusals =
+    (program image cells : List ℕ) (c : Call) (n : ℕ) → ask program image cells c ≡ No n
+    → Unchanged image cells c n (called program image cells c)
+
 -- "the image at the buffer's front; its further bytes keep their values"
 pub record Written (image before after : List ℕ) : Type 0 where
   pub size : length after ≡ length before
   pub front : (i : ℕ) → i < length image → getElem? after i ≡ getElem? image i
   pub further : (i : ℕ) → length image ≤ i → getElem? after i ≡ getElem? before i
 
+-- "steps done, ending (0 limit reached, or stop 11 to 15)", of so many transitions: the last one is the stop, if there is one
+pub data Ended (limit steps ending count : ℕ) : Type 0 where
+  limitReached : steps ≡ limit → count ≡ limit → ending ≡ 0 → Ended limit steps ending count
+  stopped : steps < limit → count ≡ suc steps → 11 ≤ ending → ending ≤ 15 → Ended limit steps ending count
+
+pub record RanAs (c : Call) (d : Called) : Type 0 where
+  pub steps : ℕ
+  pub ending : ℕ
+  pub answer : d .outcome .answer ≡ Ran steps ending
+  pub ended : Ended (c .limit) steps ending (length (d .transitions))
+  pub written : Written (d .image) (c .buffer) (d .outcome .buffer)
+
 -- of every call that is not refused
-unfoldable pub Front : Type 0
-Front =
+unfoldable pub Completed : Type 0
+Completed =
     (program image cells : List ℕ) (c : Call) (m : Machine) → ask program image cells c ≡ Start m
-    → Written (called program image cells c .image) (c .buffer) (called program image cells c .outcome .buffer)
+    → RanAs c (called program image cells c)
+
+-- "limit 0: no step, same image"
+pub record NoStep (image cells : List ℕ) (d : Called) : Type 0 where
+  pub noSteps : d .transitions ≡ []
+  pub sameImage : d .image ≡ image
+  pub sameCells : d .outcome .cells ≡ cells
+
+unfoldable pub LimitZero : Type 0
+LimitZero =
+    (program image cells : List ℕ) (c : Call) (m : Machine) → ((i : ℕ) → getD image i 0 < 256) → ask program image cells c ≡ Start m
+    → c .limit ≡ 0 → NoStep image cells (called program image cells c)

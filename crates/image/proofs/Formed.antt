@@ -18,7 +18,7 @@ use Rattle.machine.specs.declared.Position.{Position}
 use Rattle.machine.specs.declared.Entry.{Entry}
 use Rattle.machine.proofs.Lists.{each-set}
 use Rattle.machine.proofs.Registers.{beyond-holds, holds-word}
-use Rattle.machine.proofs.Stack.{depth-most, flags-below}
+use Rattle.machine.proofs.Stack.{depth-most, service-below}
 use Rattle.image.specs.Questions.{allHeld, entriesFit, positionTests, numberTests, question3, setsFit, modesFit, question4, stackTests, question5, formTests, wellFormed}
 use Rattle.image.proofs.Tests.{implies-true, true-implies, Passed, no-more, _also_, all-passed, passed-all, below-true, true-below}
 
@@ -168,7 +168,7 @@ pub stacked-depth : {es : List Entry} → Stacked es → length es ≤ 12
 stacked-depth {es} s = depth-most es (stacked-distinct s)
 
 pub stacked-flags : {es : List Entry} → Stacked es → serviceFlags es < 2 ^ 12
-stacked-flags {es} s = flags-below es (stacked-distinct s)
+stacked-flags {es} s = service-below es (stacked-distinct s)
 
 stacked : (es : List Entry) → entriesFit es ≡ true → modesFit es ≡ true → distinctBelow 12 (sourcesOf es) ≡ true → Stacked es
 unfolding entriesFit modesFit distinctBelow sourcesOf

@@ -128,10 +128,10 @@ machine-asked x m c e =
     (cc, questions-formed x c (q₃ .0) (q₄ .0) (q₅ .0))
 
 -- the numbers of an image with its sections
-record Sectioned (image : List ℕ) : Type 0 where
-  counted : Counted (numbersOf image)
-  exact : length image ≡ 516 + 16 * getD (numbersOf image) DEPTH 0
-  words : length (numbersOf image) ≡ 129 + 4 * getD (numbersOf image) DEPTH 0
+pub record Sectioned (image : List ℕ) : Type 0 where
+  pub counted : Counted (numbersOf image)
+  pub exact : length image ≡ 516 + 16 * getD (numbersOf image) DEPTH 0
+  pub words : length (numbersOf image) ≡ 129 + 4 * getD (numbersOf image) DEPTH 0
 
 sectioned : (image : List ℕ) → Passed (sectionTests (length image) (numbersOf image)) → Sectioned image
 unfolding sectionTests
@@ -144,12 +144,12 @@ sectioned image (exact also depth also set1 also set2 also conditions also contr
     }
 
 -- an image read as a machine
-record Read-as (image : List ℕ) (m : Machine) : Type 0 where
-  sections : Sectioned image
-  machine : machineOf (numbersOf image) ≡ m
-  formed : WellFormed m
+pub record ReadAs (image : List ℕ) (m : Machine) : Type 0 where
+  pub sections : Sectioned image
+  pub machine : machineOf (numbersOf image) ≡ m
+  pub formed : WellFormed m
 
-accepted : (image : List ℕ) (m : Machine) → readImage image ≡ Accepted m → Read-as image m
+pub accepted : (image : List ℕ) (m : Machine) → readImage image ≡ Accepted m → ReadAs image m
 unfolding readImage question2
 accepted image m e =
     let x = machineOf (numbersOf image) in

@@ -24,9 +24,9 @@ module _ (es : List Entry) (d : distinctBelow 12 (sourcesOf es) ≡ true) where
   pub depth-most : length es ≤ 12
   depth-most = omega (arith, length-sources es, length-most 12 (sourcesOf es) d)
 
-  pub flags-below : serviceFlags es < 2 ^ 12
+  pub service-below : serviceFlags es < 2 ^ 12
   unfolding serviceFlags
-  flags-below = flags-below-all 12 (sourcesOf es) d
+  service-below = flags-below-all 12 (sourcesOf es) d
 
   -- as many entries as INT_SERV has ones
   pub ones-depth : onesOf 12 (serviceFlags es) ≡ length es

@@ -10,8 +10,8 @@ ghost use Rattle.machine.specs.Machine.{psr, setBy, withRegister, withPs
 ghost use Rattle.machine.specs.Control.{registerAt, controlAt, largest, keptBy, isWritable, storedControl, within, INT-SERV};
 ghost use Rattle.machine.specs.Stack.{popped, sourcesOf, serviceFlags, shownTop, showTop, withStack};
 ghost use Rattle.machine.specs.Words.{WORDS, startBy, machineOf};
-
-use word::{with_flag, without_flag};
+use word::with_flag;
+use word::without_flag;
 
 // The program position (01 "Machine image"): six numbers.
 pub struct Position {
@@ -34,21 +34,29 @@ pub struct Entry {
     pub c0: u32,
 }
 
-// Where the sections' numbers begin, each just after its count, and where single numbers lie.
+// Where the numbers lie (01 "Machine image"). Register set 1:
 const SET1: usize = 1;
 
+// Register set 2, and its PSR:
 const SET2: usize = 34;
 
 const PSR: usize = 63;
 
+// Condition registers:
 const CONDITIONS: usize = 67;
 
+// The control block, and the registers of it that show the stack:
 const CONTROL: usize = 76;
+
 const INT_SERV: usize = 95;
+
 const RETI_ADDR: usize = 116;
+
 const RETI_PSR: usize = 117;
+
 const RETI_CR0: usize = 118;
-// The program position.
+
+// The program position:
 const PC: usize = 122;
 
 const SLOT: usize = 123;
@@ -60,15 +68,11 @@ const HELD: usize = 125;
 const HIGH: usize = 126;
 
 const LOW: usize = 127;
-// The count of stack entries, and the entries, the top last.
+
+// The count of stack entries, and the entries, four words each, the top last:
 const DEPTH: usize = 128;
 
 const ENTRIES: usize = 129;
-
-// The number of words of the longest image.
-pub fn words() -> usize {
-    177
-}
 
 // ---- registers
 
@@ -326,10 +330,20 @@ pub fn top(w: &[u32]) -> Entry
 {
     let n = depth(w) as usize;
     if n == 0 {
-        Entry { source: 0, address: 1, psr: 9, c0: 0 }
+        Entry {
+            source: 0,
+            address: 1,
+            psr: 9,
+            c0: 0,
+        }
     } else {
         let at = ENTRIES + 4 * (n - 1);
-        Entry { source: w[at], address: w[at + 1], psr: w[at + 2], c0: w[at + 3] }
+        Entry {
+            source: w[at],
+            address: w[at + 1],
+            psr: w[at + 2],
+            c0: w[at + 3],
+        }
     }
 }
 
@@ -346,7 +360,9 @@ fn show(w: &mut [u32], flags: u32, e: Entry)
 
 // An entry goes on the stack, and the control block shows it.
 pub fn push(w: &mut [u32], e: Entry)
-    requires { ⌜ (length (now w) ≡ WORDS) × (controlAt (machineOf (now w)) INT-SERV ≡ serviceFlags (machineOf (now w) .stack)) × (distinctBelow 12 (sourcesOf (e ∷ machineOf (now w) .stack)) ≡ true) ⌝ }
+    requires { ⌜ length (now w) ≡ WORDS ⌝ }
+    requires flags { ⌜ controlAt (machineOf (now w)) INT-SERV ≡ serviceFlags (machineOf (now w) .stack) ⌝ }
+    requires sources { ⌜ distinctBelow 12 (sourcesOf (e ∷ machineOf (now w) .stack)) ≡ true ⌝ }
     ensures { λ _. ⌜ machineOf (now (w .exit)) ≡ withStack (e ∷ machineOf (now (w .entry)) .stack) (machineOf (now (w .entry))) ⌝ }
 {
     let n = depth(w);
@@ -362,7 +378,10 @@ pub fn push(w: &mut [u32], e: Entry)
 
 // The top leaves the stack, and the control block shows the rest.
 pub fn pop(w: &mut [u32])
-    requires { ⌜ (length (now w) ≡ WORDS) × (controlAt (machineOf (now w)) INT-SERV ≡ serviceFlags (machineOf (now w) .stack)) × (distinctBelow 12 (sourcesOf (machineOf (now w) .stack)) ≡ true) × (0 < length (machineOf (now w) .stack)) ⌝ }
+    requires { ⌜ length (now w) ≡ WORDS ⌝ }
+    requires flags { ⌜ controlAt (machineOf (now w)) INT-SERV ≡ serviceFlags (machineOf (now w) .stack) ⌝ }
+    requires sources { ⌜ distinctBelow 12 (sourcesOf (machineOf (now w) .stack)) ≡ true ⌝ }
+    requires entry { ⌜ 0 < length (machineOf (now w) .stack) ⌝ }
     ensures { λ _. ⌜ machineOf (now (w .exit)) ≡ withStack (popped (machineOf (now (w .entry)) .stack)) (machineOf (now (w .entry))) ⌝ }
 {
     let n = depth(w);

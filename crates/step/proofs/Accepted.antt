@@ -5,7 +5,7 @@ use mathlib.Core.List.{List, [], _∷_}
 use mathlib.Core.Option.{Option, none, some}
 use Prim.Native.Nat.{ℕ, zero, suc, _<_}
 use native.Mathlib.Omega.{arith}
-use lib.Dec.{ltb, eqb}
+use lib.Dec.{eqb}
 use borrow.Author.Tests.{ltb-true, eqb-true}
 use Rattle.word.specs.Word.{bitAt}
 use Rattle.word.specs.Flags.{isAmong}
@@ -14,7 +14,7 @@ use Rattle.machine.specs.Machine.{Machine}
 use Rattle.machine.specs.Control.{controlAt, INT-MASK, INT-PEND}
 use Rattle.machine.specs.Stack.{sourcesOf}
 use Rattle.machine.specs.declared.Entry.{Entry}
-use Rattle.step.specs.View.{View}
+use Rattle.decide.specs.View.{View}
 use Rattle.step.specs.Interrupt.{priority, belowAll, eligible, before, candidate, mayAccept, acceptedSource}
 use Rattle.step.proofs.Safe.{if-holds}
 
@@ -30,7 +30,7 @@ pub urgent-new : (m : Machine) (n : ℕ) (es : List Entry) → belowAll m (prior
 unfolding belowAll sourcesOf isAmong
 urgent-new m n [] h = refl
 urgent-new m n (e ∷ es) h =
-    let t = and-parts (ltb (priority m n) (priority m (e .source))) (belowAll m (priority m n) es) h in
+    let t = and-parts _ (belowAll m (priority m n) es) h in
     other (eqb (e .source) n) refl (ltb-true _ _ (t .0)) (urgent-new m n es (t .1))
   where
     other : (b : Bool) → eqb (e .source) n ≡ b → priority m n < priority m (e .source) → isAmong n (sourcesOf es) ≡ false → b || isAmong n (sourcesOf es) ≡ false

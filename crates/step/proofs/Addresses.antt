@@ -13,9 +13,9 @@ use Rattle.word.proofs.Tests.{and-parts}
 use Rattle.word.proofs.Bounds.{word-below}
 use Rattle.machine.specs.Machine.{State, psr, userMode}
 use Rattle.machine.specs.Control.{controlAt, within, CCB-BASE, DMEM-BOUND-LO, DMEM-BOUND-HI}
-use Rattle.step.specs.View.{inBlock, placeAt, view}
-use Rattle.step.specs.declared.Place.{Place}
-use Rattle.step.specs.declared.Place.the-variants.{Block, Cell, Refused, Missing}
+use Rattle.decide.specs.View.{inBlock, placeAt, view}
+use Rattle.decide.specs.declared.Place.{Place}
+use Rattle.decide.specs.declared.Place.the-variants.{Block, Cell, Refused, Missing}
 use Rattle.step.proofs.Safe.{Reached, if-holds}
 
 open-in : (user b : Bool) → user && b ≡ false → user ≡ true → b ≡ false

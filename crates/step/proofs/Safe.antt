@@ -14,15 +14,15 @@ use Rattle.isa.specs.Condition.{Condition}
 use Rattle.isa.specs.Decode.{decode}
 use Rattle.isa.specs.declared.Instruction.{Instruction}
 use Rattle.machine.specs.Machine.{userMode, widthOf}
-use Rattle.step.specs.View.{View}
-use Rattle.step.specs.Execute.{checked, wrapped, product, loaded, stored, targetBy, jumped, branch, execute}
-use Rattle.step.specs.Decide.{perform, ifAvailable, instruction, fetchedThen, decide}
-use Rattle.step.specs.declared.Fetched.{Fetched}
-use Rattle.step.specs.declared.Fetched.the-variants.{Word, Fault, Absent}
-use Rattle.step.specs.declared.Place.{Place}
-use Rattle.step.specs.declared.Place.the-variants.{Block, Cell, Refused, Missing}
-use Rattle.step.specs.declared.Effect.{Effect}
-use Rattle.step.specs.declared.Effect.the-variants.{Stopped, Raised, Next, Result, ResultFlags, ResultProduct, Compare, Conditions, StoreControl, StoreCell, Jump, JumpLink, EnableInterrupts, SwitchWidth, SystemCall, InterruptReturn, UserReturn, SelectSets}
+use Rattle.decide.specs.View.{View}
+use Rattle.decide.specs.Execute.{checked, wrapped, product, loaded, stored, targetBy, jumped, branch, execute}
+use Rattle.decide.specs.Decide.{perform, ifAvailable, instruction, fetchedThen, decide}
+use Rattle.decide.specs.declared.Fetched.{Fetched}
+use Rattle.decide.specs.declared.Fetched.the-variants.{Word, Fault, Absent}
+use Rattle.decide.specs.declared.Place.{Place}
+use Rattle.decide.specs.declared.Place.the-variants.{Block, Cell, Refused, Missing}
+use Rattle.decide.specs.declared.Effect.{Effect}
+use Rattle.decide.specs.declared.Effect.the-variants.{Stopped, Raised, Next, Result, ResultFlags, ResultProduct, Compare, Conditions, StoreControl, StoreCell, Jump, JumpLink, EnableInterrupts, SwitchWidth, SystemCall, InterruptReturn, UserReturn, SelectSets}
 
 -- some data address names a place
 abbrev pub Reached : View → Place → Type 0

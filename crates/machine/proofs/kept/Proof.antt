@@ -1,5 +1,4 @@
 -- `machine::kept` meets its contract: the low bits by a mask. Assumes nothing.
-use mathlib.Core.Path.{_∙_}
 use native.Mathlib.Omega.{arith}
 use lib.Bits.{and-le-l}
 use Rattle.machine.specs.Control.{registers, registerAt}
@@ -19,7 +18,9 @@ unfolding registers registerAt
 returns c = rw (c .before .limit .ensures, c .if1 .taken) (mask-kept (registerAt 0) (c .before .before .args .x))
 
 returns-2 : tie.Need-returns-2
-returns-2 c = rw (c .before .limit .ensures) (mask-whole (registerAt (c .before .before .args .offset)) (c .before .before .args .x) (no-zeros (c .before .before .args .offset) (c .if1 .left)))
+returns-2 c =
+    let s = c .before .before in
+    rw (c .before .limit .ensures) (mask-whole (registerAt (s .args .offset)) (s .args .x) (no-zeros (s .args .offset) (c .if1 .left)))
 
 pub kept-spec : {M : Type 1} → statement M
 kept-spec = tie.close (tie.spec limit-requires mul-result returns returns-2)

@@ -1,14 +1,15 @@
 -- `machine::push` meets its contract: the entry past the last, the count, and what shows them. Assumes nothing.
-use mathlib.Core.Path.{_≡_, refl, sym, ap, _∙_}
+use mathlib.Core.Path.{refl, sym, ap, _∙_}
 use mathlib.Core.List.{_∷_}
 use Prim.Native.Nat.{_<_}
 use native.Mathlib.Omega.{arith}
-use lib.ListN.{length, getD, length-set}
+use lib.ListN.{length-set}
 use Rattle.word.specs.Flags.{withFlag}
 use Rattle.machine.specs.Stack.{shownTop}
 use Rattle.machine.specs.Words.{machineOf}
 use Rattle.machine.proofs.Flat.{depth-is, service-flags, pushed-to, stored-shown}
-use Rattle.machine.proofs.Service.{depth-most, flags-pushed, top-below}
+use Rattle.machine.proofs.Stack.{depth-most, flags-pushed}
+use Rattle.machine.proofs.Service.{top-below}
 use borrow.Author.Needs.{needs}
 use Rattle.machine.proofs.push.Statement.{statement}
 use Rattle.machine.proofs.push.Tie as tie
@@ -17,7 +18,7 @@ use Rattle.machine.proofs.push.Tie as tie
 room : (c : tie.After-with-flag) → c .before .before .depth .result < 12
 room c =
     let s = c .before .before .before .before .before in
-    omega (arith, c .before .before .depth .ensures, depth-most (s .args .e ∷ machineOf (s .args .w .now) .stack) (s .pre .2))
+    omega (arith, c .before .before .depth .ensures, depth-most (s .args .e ∷ machineOf (s .args .w .now) .stack) (s .pre .1 .1))
 
 depth-requires : tie.Need-depth-requires
 depth-requires c κs = search needs
@@ -27,7 +28,9 @@ slice-read-with-flag c = search needs
 
 with-flag-requires : tie.Need-with-flag-requires
 unfolding shownTop
-with-flag-requires c κs = let s = c .before .before .before .before in omega (arith, top-below (s .args .e ∷ machineOf (s .args .w .now) .stack) (s .pre .2) (omega arith))
+with-flag-requires c κs =
+    let s = c .before .before .before .before in
+    omega (arith, top-below (s .args .e ∷ machineOf (s .args .w .now) .stack) (s .pre .1 .1) (omega arith))
 
 cast-at : tie.Need-cast-at
 cast-at c = search needs
@@ -99,7 +102,7 @@ returns c =
     (flags .result)
     e
     (pushed-to w (n .result) e (s .pre .0) (room (c .before .before .before .before)) (sym (depth-is w) ∙ sym (n .ensures)))
-    (flags .ensures ∙ ap (withFlag (e .source)) (service-flags w ∙ s .pre .1) ∙ flags-pushed e (machineOf w .stack))
+    (flags .ensures ∙ ap (withFlag (e .source)) (service-flags w ∙ s .pre .1 .0) ∙ sym (flags-pushed e (machineOf w .stack)))
     refl
     (c .before .before .show .ensures)
 

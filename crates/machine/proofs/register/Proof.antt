@@ -1,8 +1,8 @@
--- `machine::register` meets its contract: an element of the set that the bit names. Assumes nothing.
-use mathlib.Core.Path.{sym, _∙_}
+-- `machine::register` meets its contract: it reads an element of the set that the bit names. Assumes nothing.
+use mathlib.Core.Path.{sym}
 use native.Mathlib.Omega.{arith}
-use Rattle.machine.proofs.Flat.{start-small, register-at}
 use borrow.Author.Needs.{needs}
+use Rattle.machine.proofs.Flat.{start-small, register-at}
 use Rattle.machine.proofs.register.Statement.{statement}
 use Rattle.machine.proofs.register.Tie as tie
 
@@ -16,7 +16,9 @@ shared-slice-read-result : tie.Need-shared-slice-read-result
 shared-slice-read-result c = omega (arith, start-small (c .before .before .before .args .second))
 
 returns : tie.Need-returns
-returns c = rw (c .before .place .ensures) (sym (register-at (c .before .before .before .args .w .now) (c .before .before .before .args .second) (c .before .before .before .args .n) (c .before .before .before .pre .1)))
+returns c =
+    let s = c .before .before .before in
+    rw (c .before .place .ensures) (sym (register-at (s .args .w .now) (s .args .second) (s .args .n) (s .pre .1)))
 
 pub register-spec : {M : Type 1} → statement M
 register-spec = tie.close (tie.spec place-requires mul-result shared-slice-read-result returns)

@@ -1,7 +1,7 @@
 -- `machine::set_register` meets its contract: it stores an element of the set that the bit names. Assumes nothing.
 use native.Mathlib.Omega.{arith}
-use Rattle.machine.proofs.Flat.{start-small, register-stored}
 use borrow.Author.Needs.{needs}
+use Rattle.machine.proofs.Flat.{start-small, register-stored}
 use Rattle.machine.proofs.set_register.Statement.{statement}
 use Rattle.machine.proofs.set_register.Tie as tie
 
@@ -18,7 +18,9 @@ same-length : tie.Need-same-length
 same-length c = search needs
 
 returns : tie.Need-returns
-returns c = rw (c .place .ensures) (register-stored (c .before .before .args .w .now) (c .before .before .args .x) (c .before .before .args .n) (c .before .before .args .second) (c .before .before .pre .1))
+returns c =
+    let s = c .before .before in
+    rw (c .place .ensures) (register-stored (s .args .w .now) (s .args .x) (s .args .n) (s .args .second) (s .pre .1))
 
 pub set-register-spec : {M : Type 1} → statement M
 set-register-spec = tie.close (tie.spec place-requires mul-w slice-write-w same-length returns)

@@ -1,11 +1,15 @@
 -- `machine::store_control` meets its contract: a writable register keeps what it can hold, and any other stays. Assumes nothing.
-use mathlib.Core.Path.{sym, ap, _∙_}
+use mathlib.Core.Path.{_≡_, sym, _∙_}
+use mathlib.Core.Bool.{true}
 use Rattle.machine.specs.Machine.{withControl}
-use Rattle.machine.specs.Control.{registerAt}
+use Rattle.machine.specs.Control.{registerAt, isWritable}
 use Rattle.machine.proofs.Widths.{writable-small, stored-writable, stored-ignored}
 use borrow.Author.Needs.{needs}
 use Rattle.machine.proofs.store_control.Statement.{statement}
 use Rattle.machine.proofs.store_control.Tie as tie
+
+is-writable : (c : tie.Then1) → isWritable (registerAt (c .before .before .before .args .offset) .access) ≡ true
+is-writable c = sym (c .before .writable .ensures) ∙ c .if1 .taken
 
 writable-requires : tie.Need-writable-requires
 writable-requires c κs = search needs
@@ -14,13 +18,15 @@ kept-requires : tie.Need-kept-requires
 kept-requires c κs = search needs
 
 set-control-requires : tie.Need-set-control-requires
-set-control-requires c κs = (search needs, writable-small (c .before .before .before .before .before .args .offset) (sym (c .before .before .before .writable .ensures) ∙ c .before .before .if1 .taken))
+set-control-requires c κs = (search needs, writable-small _ (is-writable (c .before .before)))
 
 same-length : tie.Need-same-length
 same-length c = search needs
 
 returns : tie.Need-returns
-returns c = rw (stored-writable _ _ _ (sym (c .before .before .before .before .before .before .writable .ensures) ∙ c .before .before .before .before .before .if1 .taken), ← (c .before .before .before .kept .ensures)) (c .before .before .set-control .ensures)
+returns c =
+    rw (stored-writable _ _ _ (is-writable (c .before .before .before .before .before)), ← (c .before .before .before .kept .ensures))
+    (c .before .before .set-control .ensures)
 
 returns-2 : tie.Need-returns-2
 unfolding withControl

@@ -60,7 +60,9 @@ shared-slice-read-t21 c = search needs
 
 returns : tie.Need-returns
 unfolding shownTop
-returns c = rw (stack-none (c .before .before .before .args .w .now) (sym (depth-is (c .before .before .before .args .w .now)) ∙ sym (c .before .depth .ensures) ∙ c .if1 .taken))
+returns c =
+    let w = c .before .before .before .args .w .now in
+    rw (stack-none w (sym (depth-is w) ∙ sym (c .before .depth .ensures) ∙ c .if1 .taken))
 
 returns-2 : tie.Need-returns-2
 unfolding shownTop
