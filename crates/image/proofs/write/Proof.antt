@@ -78,4 +78,3 @@ write-spec =
     same-length
     same-length-2
     returns)
-
