@@ -220,11 +220,7 @@ fn refusal(w: &[u32]) -> u32
     let modes = modes_fit(w);
     let stack = stack_fits(w);
     if numbers {
-        if modes {
-            if stack { 0 } else { 5 }
-        } else {
-            4
-        }
+        if modes { if stack { 0 } else { 5 } } else { 4 }
     } else {
         3
     }
