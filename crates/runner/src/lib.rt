@@ -14,7 +14,7 @@ use libc::STDOUT_FILENO;
 // ---- the report
 
 // The machine image at reset, at the front of the longest image's bytes.
-fn reset_image() -> [u8; 708]
+pub fn reset_image() -> [u8; 708]
     ensures { λ r. ⌜ take 516 r ≡ writeImage resetOf ⌝ }
 {
     let mut words = [0u32; 177];
@@ -35,7 +35,7 @@ fn pc(buffer: &[u8]) -> u32
 }
 
 // The line for an answer and the buffer that holds the new image.
-fn line(answer: Answer, buffer: &[u8]) -> Line
+pub fn line(answer: Answer, buffer: &[u8]) -> Line
     requires { ⌜ length (now buffer) ≡ 708 ⌝ }
     ensures { λ r. ⌜ r ≡ lineOf (answerText answer (now (buffer .entry))) ⌝ }
 {
@@ -81,7 +81,7 @@ fn load(path: &[u8], buffer: &mut [u8]) -> usize
 }
 
 // Prints a line.
-fn print(line: Line)
+pub fn print(line: Line)
     requires { ⌜ Counts (line .count) (line .bytes) ⌝ }
 {
     let n = line.count;
