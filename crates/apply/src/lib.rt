@@ -10,7 +10,7 @@ ghost use Rattle.apply.specs.Apply.{writeRegister, writeFlags, unpacked,
 use decide::Effect;
 use machine::Position;
 
-// What happened.
+// What a transition was.
 pub enum Kind {
     // An instruction, with none of the effects below.
     Ordinary,
@@ -117,7 +117,7 @@ fn next_pc(w: &[u32]) -> u32
     }
 }
 
-// PC takes an address; there is no slot and no product.
+// PC takes an address, with no slot and no product.
 fn go_to(w: &mut [u32], pc: u32)
     requires { ⌜ length (now w) ≡ WORDS ⌝ }
     ensures { λ _. ⌜ machineOf (now (w .exit)) ≡ withPosition (positionAt pc) (machineOf (now (w .entry))) ⌝ }
@@ -253,7 +253,7 @@ fn with_modes(psr: u32, wide: bool, enabled: bool) -> u32
     psr % 8 + 8 * wide as u32 + 16 * enabled as u32
 }
 
-// di and ei.
+// di and ei: IE is 0 or 1.
 fn enable_interrupts(w: &mut [u32], enabled: bool)
     requires { ⌜ length (now w) ≡ WORDS ⌝ }
     ensures { λ _. ⌜ machineOf (now (w .exit)) ≡ enableInterrupts enabled (machineOf (now (w .entry))) ⌝ }
@@ -263,7 +263,7 @@ fn enable_interrupts(w: &mut [u32], enabled: bool)
     machine::set_psr(w, with_modes(psr, word::has_flag(psr, IL), enabled));
 }
 
-// swm goes on three old-width words later.
+// swm: IL is 0 or 1; goes on three old-width words later.
 fn switch_width(w: &mut [u32], wide: bool)
     requires { ⌜ length (now w) ≡ WORDS ⌝ }
     ensures { λ _. ⌜ machineOf (now (w .exit)) ≡ switchWidth wide (machineOf (now (w .entry))) ⌝ }
@@ -296,7 +296,7 @@ fn store_cell(cells: &mut [u32], a: u32, x: u32)
     }
 }
 
-// An effect is carried out.
+// An effect is carried out; the answer is what it was.
 pub fn apply(e: Effect, w: &mut [u32], cells: &mut [u32]) -> Kind
     requires { ⌜ (length (now w) ≡ WORDS) × StackShown (machineOf (now w)) ⌝ }
     ensures { λ r. ⌜ transitionOf r (now (w .exit)) (now (cells .exit)) ≡ apply e (stateOf (now (w .entry)) (now (cells .entry))) ⌝ }
@@ -352,8 +352,8 @@ pub fn apply(e: Effect, w: &mut [u32], cells: &mut [u32]) -> Kind
             Kind::Ordinary
         }
         Effect::JumpLink(target) => {
-            let link = words_on(w, 2);
-            write_register(w, LINK, link);
+            let after_slot = words_on(w, 2);
+            write_register(w, LINK, after_slot);
             jump_to(w, target);
             Kind::Ordinary
         }

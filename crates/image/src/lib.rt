@@ -216,12 +216,11 @@ fn refusal(w: &[u32]) -> u32
     requires { ⌜ (length (now w) ≡ WORDS) × (length (machineOf (now w) .stack) ≤ 12) ⌝ }
     ensures { λ r. ⌜ readBy r (machineOf (now (w .entry))) ≡ askMachine (machineOf (now (w .entry))) ⌝ }
 {
-    if numbers_fit(w) {
-        if modes_fit(w) {
-            if stack_fits(w) { 0 } else { 5 }
-        } else {
-            4
-        }
+    let numbers = numbers_fit(w);
+    let modes = modes_fit(w);
+    let stack = stack_fits(w);
+    if numbers {
+        if modes { if stack { 0 } else { 5 } } else { 4 }
     } else {
         3
     }

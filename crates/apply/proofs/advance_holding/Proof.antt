@@ -19,10 +19,13 @@ same-length c = search needs
 returns : tie.Need-returns
 unfolding advanceHolding
 returns c =
-    let a = c .before .before .before .before .before .before .before .args in
+    let c1 = c .before .before in
+    let c2 = c1 .before .before in
+    let c3 = c2 .before .before .before in
+    let a = c3 .args in
     let h : a .high % 2 ^ 32 ≡ a .high = omega arith in
     let l : a .low % 2 ^ 32 ≡ a .low = omega arith in
-    rw (← (c .before .before .before .before .next-pc .ensures), h, l) (c .before .before .set-position .ensures)
+    rw (← (c2 .next-pc .ensures), h, l) (c1 .set-position .ensures)
 
 pub advance-holding-spec : {M : Type 1} → statement M
 advance-holding-spec =

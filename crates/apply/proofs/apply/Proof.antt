@@ -162,42 +162,67 @@ same-length-3 c = search needs
 
 returns-4 : tie.Need-returns-4
 unfolding apply machineOnly
-returns-4 c = rw (c .before .before .before .before .before .before .before .before .before .e3 .given .1, c .before .before .advance2 .ensures, c .before .before .before .before .before .before .write-register .ensures)
+returns-4 c =
+    let c1 = c .before .before in
+    let c2 = c1 .before .before .before .before in
+    let c3 = c2 .before .before .before in
+    rw (c3 .e3 .given .1, c1 .advance2 .ensures, c2 .write-register .ensures)
 
 same-length-4 : tie.Need-same-length-4
 same-length-4 c = search needs
 
 returns-5 : tie.Need-returns-5
 unfolding apply machineOnly
-returns-5 c = rw (c .before .before .before .before .before .before .before .before .before .before .before .before .before .e4 .given .1, c .before .before .advance3 .ensures, c .before .before .before .before .before .before .write-flags .ensures, c .before .before .before .before .before .before .before .before .before .before .write-register2 .ensures)
+returns-5 c =
+    let c1 = c .before .before in
+    let c2 = c1 .before .before .before .before in
+    let c3 = c2 .before .before .before .before in
+    let c4 = c3 .before .before .before in
+    rw (c4 .e4 .given .1, c1 .advance3 .ensures, c2 .write-flags .ensures, c3 .write-register2 .ensures)
 
 same-length-5 : tie.Need-same-length-5
 same-length-5 c = search needs
 
 returns-6 : tie.Need-returns-6
 unfolding apply machineOnly
-returns-6 c = rw (c .before .before .before .before .before .before .before .before .before .e5 .given .1, c .before .before .advance-holding .ensures, c .before .before .before .before .before .before .write-register3 .ensures)
+returns-6 c =
+    let c1 = c .before .before in
+    let c2 = c1 .before .before .before .before in
+    let c3 = c2 .before .before .before in
+    rw (c3 .e5 .given .1, c1 .advance-holding .ensures, c2 .write-register3 .ensures)
 
 same-length-6 : tie.Need-same-length-6
 same-length-6 c = search needs
 
 returns-7 : tie.Need-returns-7
 unfolding apply machineOnly
-returns-7 c = rw (c .before .before .before .before .before .before .before .before .before .e6 .given .1, c .before .before .advance4 .ensures, c .before .before .before .before .before .before .write-flags2 .ensures)
+returns-7 c =
+    let c1 = c .before .before in
+    let c2 = c1 .before .before .before .before in
+    let c3 = c2 .before .before .before in
+    rw (c3 .e6 .given .1, c1 .advance4 .ensures, c2 .write-flags2 .ensures)
 
 same-length-7 : tie.Need-same-length-7
 same-length-7 c = search needs
 
 returns-8 : tie.Need-returns-8
 unfolding apply machineOnly
-returns-8 c = rw (c .before .before .before .before .before .before .before .before .before .e7 .given .1, c .before .before .advance5 .ensures, c .before .before .before .before .before .before .unpack .ensures)
+returns-8 c =
+    let c1 = c .before .before in
+    let c2 = c1 .before .before .before .before in
+    let c3 = c2 .before .before .before in
+    rw (c3 .e7 .given .1, c1 .advance5 .ensures, c2 .unpack .ensures)
 
 same-length-8 : tie.Need-same-length-8
 same-length-8 c = search needs
 
 returns-9 : tie.Need-returns-9
 unfolding apply machineOnly
-returns-9 c = rw (c .before .before .before .before .before .before .before .before .before .e8 .given .1, c .before .before .advance6 .ensures, c .before .before .before .before .before .before .store-control .ensures)
+returns-9 c =
+    let c1 = c .before .before in
+    let c2 = c1 .before .before .before .before in
+    let c3 = c2 .before .before .before in
+    rw (c3 .e8 .given .1, c1 .advance6 .ensures, c2 .store-control .ensures)
 
 same-length-9 : tie.Need-same-length-9
 same-length-9 c = search needs
@@ -207,7 +232,11 @@ same-length-10 c = search needs
 
 returns-10 : tie.Need-returns-10
 unfolding apply storeCell
-returns-10 c = rw (c .before .before .before .before .before .before .before .before .before .e9 .given .1, c .before .before .advance7 .ensures, c .before .before .before .before .before .before .store-cell .ensures)
+returns-10 c =
+    let c1 = c .before .before in
+    let c2 = c1 .before .before .before .before in
+    let c3 = c2 .before .before .before in
+    rw (c3 .e9 .given .1, c1 .advance7 .ensures, c2 .store-cell .ensures)
 
 same-length-11 : tie.Need-same-length-11
 same-length-11 c = search needs
@@ -221,7 +250,12 @@ same-length-12 c = search needs
 
 returns-12 : tie.Need-returns-12
 unfolding apply machineOnly
-returns-12 c = rw (c .before .before .before .before .before .before .before .before .before .before .before .e11 .given .1, c .before .before .jump-to2 .ensures, c .before .before .before .before .before .before .write-register4 .ensures, c .before .before .before .before .before .before .before .before .words-on .ensures)
+returns-12 c =
+    let c1 = c .before .before in
+    let c2 = c1 .before .before .before .before in
+    let c3 = c2 .before .before in
+    let c4 = c3 .before .before .before in
+    rw (c4 .e11 .given .1, c1 .jump-to2 .ensures, c2 .write-register4 .ensures, c3 .words-on .ensures)
 
 same-length-13 : tie.Need-same-length-13
 same-length-13 c = search needs

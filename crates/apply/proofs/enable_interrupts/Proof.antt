@@ -25,7 +25,13 @@ same-length c = search needs
 
 returns : tie.Need-returns
 unfolding enableInterrupts wideWords
-returns c = rw (c .before .before .set-psr .ensures, c .before .before .before .with-modes .ensures, c .before .before .before .before .has-flag .ensures, c .before .before .before .before .before .before .before .before .advance .ensures, c .before .before .before .before .before .before .before .before .before .before .psr .ensures)
+returns c =
+    let c1 = c .before .before in
+    let c2 = c1 .before in
+    let c3 = c2 .before in
+    let c4 = c3 .before .before .before .before in
+    let c5 = c4 .before .before in
+    rw (c1 .set-psr .ensures, c2 .with-modes .ensures, c3 .has-flag .ensures, c4 .advance .ensures, c5 .psr .ensures)
 
 pub enable-interrupts-spec : {M : Type 1} → statement M
 enable-interrupts-spec =

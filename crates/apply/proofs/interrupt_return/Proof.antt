@@ -1,6 +1,6 @@
 -- `apply::interrupt_return` meets its contract: the top is read before it is popped. Assumes nothing.
 use Rattle.machine.specs.Stack.{withStack}
-use Rattle.machine.proofs.Service.{depth-most}
+use Rattle.machine.proofs.Stack.{depth-most}
 use Rattle.apply.specs.Apply.{interruptReturn}
 use borrow.Author.Needs.{needs}
 use Rattle.apply.proofs.interrupt_return.Statement.{statement}
@@ -26,7 +26,13 @@ same-length c = search needs
 
 returns : tie.Need-returns
 unfolding interruptReturn withStack
-returns c = rw (c .before .before .go-to .ensures, c .before .before .before .before .before .before .set-psr .ensures, c .before .before .before .before .before .before .before .before .before .before .set-condition .ensures, c .before .before .before .before .before .before .before .before .before .before .before .before .before .before .pop .ensures, c .before .before .before .before .before .before .before .before .before .before .before .before .before .before .before .before .top .ensures)
+returns c =
+    let c1 = c .before .before in
+    let c2 = c1 .before .before .before .before in
+    let c3 = c2 .before .before .before .before in
+    let c4 = c3 .before .before .before .before in
+    let c5 = c4 .before .before in
+    rw (c1 .go-to .ensures, c2 .set-psr .ensures, c3 .set-condition .ensures, c4 .pop .ensures, c5 .top .ensures)
 
 pub interrupt-return-spec : {M : Type 1} → statement M
 interrupt-return-spec =

@@ -19,9 +19,12 @@ same-length c = search needs
 returns : tie.Need-returns
 unfolding jumpTo
 returns c =
-    let a = c .before .before .before .before .before .before .before .args in
+    let c1 = c .before .before in
+    let c2 = c1 .before .before in
+    let c3 = c2 .before .before .before in
+    let a = c3 .args in
     let t : a .target % 2 ^ 32 ≡ a .target = omega arith in
-    rw (← (c .before .before .before .before .next-pc .ensures), t) (c .before .before .set-position .ensures)
+    rw (← (c2 .next-pc .ensures), t) (c1 .set-position .ensures)
 
 pub jump-to-spec : {M : Type 1} → statement M
 jump-to-spec = tie.close (tie.spec next-pc-requires set-position-requires same-length returns)

@@ -35,15 +35,23 @@ same-length c = search needs
 returns : tie.Need-returns
 unfolding raise withControl
 returns c =
+    let c1 = c .before .before in
+    let c2 = c1 .before .before .before .before in
+    let c3 = c2 .before .before .before .before in
+    let c4 = c3 .before .before .before .before in
+    let c5 = c4 .before .before .before .before in
+    let c6 = c5 .before .before in
+    let c7 = c6 .before .before in
+    let c8 = c7 .before .before in
     rw (
-      c .before .before .go-to .ensures,
-      c .before .before .before .before .before .before .set-psr .ensures,
-      c .before .before .before .before .before .before .before .before .before .before .set-control3 .ensures,
-      c .before .before .before .before .before .before .before .before .before .before .before .before .before .before .set-control2 .ensures,
-      c .before .before .before .before .before .before .before .before .before .before .before .before .before .before .before .before .before .before .set-control .ensures,
-      c .before .before .before .before .before .before .before .before .before .before .before .before .before .before .before .before .before .before .before .before .control .ensures,
-      c .before .before .before .before .before .before .before .before .before .before .before .before .before .before .before .before .before .before .before .before .before .before .psr .ensures,
-      c .before .before .before .before .before .before .before .before .before .before .before .before .before .before .before .before .before .before .before .before .before .before .before .before .pc .ensures,
+      c1 .go-to .ensures,
+      c2 .set-psr .ensures,
+      c3 .set-control3 .ensures,
+      c4 .set-control2 .ensures,
+      c5 .set-control .ensures,
+      c6 .control .ensures,
+      c7 .psr .ensures,
+      c8 .pc .ensures,
     )
 
 pub raise-spec : {M : Type 1} → statement M

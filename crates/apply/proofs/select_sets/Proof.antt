@@ -30,7 +30,11 @@ same-length c = search needs
 
 returns : tie.Need-returns
 unfolding selectSets
-returns c = rw (c .before .before .set-psr .ensures, c .before .before .before .before .before .before .advance .ensures, c .before .before .before .before .before .before .before .before .psr .ensures)
+returns c =
+    let c1 = c .before .before in
+    let c2 = c1 .before .before .before .before in
+    let c3 = c2 .before .before in
+    rw (c1 .set-psr .ensures, c2 .advance .ensures, c3 .psr .ensures)
 
 pub select-sets-spec : {M : Type 1} → statement M
 select-sets-spec =

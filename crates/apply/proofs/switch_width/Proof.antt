@@ -28,7 +28,14 @@ same-length c = search needs
 
 returns : tie.Need-returns
 unfolding switchWidth interruptsEnabled
-returns c = rw (c .before .before .set-psr .ensures, c .before .before .before .with-modes .ensures, c .before .before .before .before .has-flag .ensures, c .before .before .before .before .before .before .before .before .go-to .ensures, c .before .before .before .before .before .before .before .before .before .before .words-on .ensures, c .before .before .before .before .before .before .before .before .before .before .before .before .psr .ensures)
+returns c =
+    let c1 = c .before .before in
+    let c2 = c1 .before in
+    let c3 = c2 .before in
+    let c4 = c3 .before .before .before .before in
+    let c5 = c4 .before .before in
+    let c6 = c5 .before .before in
+    rw (c1 .set-psr .ensures, c2 .with-modes .ensures, c3 .has-flag .ensures, c4 .go-to .ensures, c5 .words-on .ensures, c6 .psr .ensures)
 
 pub switch-width-spec : {M : Type 1} → statement M
 switch-width-spec =

@@ -32,14 +32,21 @@ same-length c = search needs
 returns : tie.Need-returns
 unfolding systemCall withRegister withSet2
 returns c =
+    let c1 = c .before .before in
+    let c2 = c1 .before .before .before .before in
+    let c3 = c2 .before .before .before .before in
+    let c4 = c3 .before .before .before .before in
+    let c5 = c4 .before .before in
+    let c6 = c5 .before .before in
+    let c7 = c6 .before .before in
     rw (
-      c .before .before .go-to .ensures,
-      c .before .before .before .before .before .before .set-psr .ensures,
-      c .before .before .before .before .before .before .before .before .before .before .set-register2 .ensures,
-      c .before .before .before .before .before .before .before .before .before .before .before .before .before .before .set-register .ensures,
-      c .before .before .before .before .before .before .before .before .before .before .before .before .before .before .before .before .control .ensures,
-      c .before .before .before .before .before .before .before .before .before .before .before .before .before .before .before .before .before .before .psr .ensures,
-      c .before .before .before .before .before .before .before .before .before .before .before .before .before .before .before .before .before .before .before .before .words-on .ensures,
+      c1 .go-to .ensures,
+      c2 .set-psr .ensures,
+      c3 .set-register2 .ensures,
+      c4 .set-register .ensures,
+      c5 .control .ensures,
+      c6 .psr .ensures,
+      c7 .words-on .ensures,
     )
 
 pub system-call-spec : {M : Type 1} → statement M

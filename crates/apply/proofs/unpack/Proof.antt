@@ -36,16 +36,25 @@ same-length c = search needs
 returns : tie.Need-returns
 unfolding withConditions
 returns c =
-    let s = c .before .before .before .before .before .before .before .before .before .before .before .before .before .before .before .before .before .before .before .before .before .before .before .before .before .before .before .before .before .before .before .before .before in
+    let c1 = c .before .before in
+    let c2 = c1 .before .before .before .before in
+    let c3 = c2 .before .before .before .before in
+    let c4 = c3 .before .before .before .before in
+    let c5 = c4 .before .before .before .before in
+    let c6 = c5 .before .before .before .before in
+    let c7 = c6 .before .before .before .before in
+    let c8 = c7 .before .before .before .before in
+    let c9 = c8 .before .before .before in
+    let s = c9 in
     rw (
-      c .before .before .set-condition8 .ensures,
-      c .before .before .before .before .before .before .set-condition7 .ensures,
-      c .before .before .before .before .before .before .before .before .before .before .set-condition6 .ensures,
-      c .before .before .before .before .before .before .before .before .before .before .before .before .before .before .set-condition5 .ensures,
-      c .before .before .before .before .before .before .before .before .before .before .before .before .before .before .before .before .before .before .set-condition4 .ensures,
-      c .before .before .before .before .before .before .before .before .before .before .before .before .before .before .before .before .before .before .before .before .before .before .set-condition3 .ensures,
-      c .before .before .before .before .before .before .before .before .before .before .before .before .before .before .before .before .before .before .before .before .before .before .before .before .before .before .set-condition2 .ensures,
-      c .before .before .before .before .before .before .before .before .before .before .before .before .before .before .before .before .before .before .before .before .before .before .before .before .before .before .before .before .before .before .set-condition .ensures,
+      c1 .set-condition8 .ensures,
+      c2 .set-condition7 .ensures,
+      c3 .set-condition6 .ensures,
+      c4 .set-condition5 .ensures,
+      c5 .set-condition4 .ensures,
+      c6 .set-condition3 .ensures,
+      c7 .set-condition2 .ensures,
+      c8 .set-condition .ensures,
       ← all-unpacked (machineOf (s .args .w .now) .conditions) (s .args .x) (conditions-count (s .args .w .now) (s .pre)),
     )
 

@@ -27,7 +27,12 @@ same-length c = search needs
 
 returns : tie.Need-returns
 unfolding userReturn
-returns c = rw (c .before .before .go-to .ensures, c .before .before .before .before .before .before .set-psr .ensures, c .before .before .before .before .before .before .before .before .register22 .ensures, c .before .before .before .before .before .before .before .before .before .before .register2 .ensures)
+returns c =
+    let c1 = c .before .before in
+    let c2 = c1 .before .before .before .before in
+    let c3 = c2 .before .before in
+    let c4 = c3 .before .before in
+    rw (c1 .go-to .ensures, c2 .set-psr .ensures, c3 .register22 .ensures, c4 .register2 .ensures)
 
 pub user-return-spec : {M : Type 1} → statement M
 user-return-spec =

@@ -33,11 +33,21 @@ wrapping-add-u32-requires-2 c κs = search needs
 
 returns : tie.Need-returns
 unfolding wordsOn widthOf wideWords widthBy bytesOf
-returns c = rw (← (c .before .before .before .before .psr .ensures), ← (c .before .before .before .has-flag .ensures), c .before .before .if1 .taken, ← (c .before .pc .ensures)) (c .wrapping-add-u32 .ensures)
+returns c =
+    let c1 = c .before in
+    let c2 = c1 .before in
+    let c3 = c2 .before in
+    let c4 = c3 .before in
+    rw (← (c4 .psr .ensures), ← (c3 .has-flag .ensures), c2 .if1 .taken, ← (c1 .pc .ensures)) (c .wrapping-add-u32 .ensures)
 
 returns-2 : tie.Need-returns-2
 unfolding wordsOn widthOf wideWords widthBy bytesOf
-returns-2 c = rw (← (c .before .before .before .before .psr .ensures), ← (c .before .before .before .has-flag .ensures), c .before .before .if1 .left, ← (c .before .pc2 .ensures)) (c .wrapping-add-u322 .ensures)
+returns-2 c =
+    let c1 = c .before in
+    let c2 = c1 .before in
+    let c3 = c2 .before in
+    let c4 = c3 .before in
+    rw (← (c4 .psr .ensures), ← (c3 .has-flag .ensures), c2 .if1 .left, ← (c1 .pc2 .ensures)) (c .wrapping-add-u322 .ensures)
 
 pub words-on-spec : {M : Type 1} → statement M
 words-on-spec =

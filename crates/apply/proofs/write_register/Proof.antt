@@ -28,9 +28,15 @@ same-length c = search needs
 returns : tie.Need-returns
 unfolding writeRegister writesSet2 withRegister if_then_else_
 returns c =
-    let a = c .before .before .before .before .before .before .before .before .before .before .args in
+    let c1 = c .before .before in
+    let c2 = c1 .before .before in
+    let c3 = c2 .before in
+    let c4 = c3 .before in
+    let c5 = c4 .before in
+    let c6 = c5 .before .before .before in
+    let a = c6 .args in
     let x : a .x % 2 ^ 32 ≡ a .x = omega arith in
-    rw (← (c .before .before .before .before .before .before .before .psr .ensures), ← (c .before .before .before .before .before .before .has-flag .ensures), c .before .before .before .before .before .if1 .taken, ne-eqb _ _ (c .before .before .before .before .if2 .taken), x) (c .before .before .set-register .ensures)
+    rw (← (c5 .psr .ensures), ← (c4 .has-flag .ensures), c3 .if1 .taken, ne-eqb _ _ (c2 .if2 .taken), x) (c1 .set-register .ensures)
 
 same-length-2 : tie.Need-same-length-2
 same-length-2 c = search needs
@@ -45,9 +51,14 @@ same-length-3 c = search needs
 returns-3 : tie.Need-returns-3
 unfolding writeRegister writesSet2 withRegister if_then_else_
 returns-3 c =
-    let a = c .before .before .before .before .before .before .before .before .before .args in
+    let c1 = c .before .before in
+    let c2 = c1 .before .before in
+    let c3 = c2 .before in
+    let c4 = c3 .before in
+    let c5 = c4 .before .before .before in
+    let a = c5 .args in
     let x : a .x % 2 ^ 32 ≡ a .x = omega arith in
-    rw (← (c .before .before .before .before .before .before .psr .ensures), ← (c .before .before .before .before .before .has-flag .ensures), c .before .before .before .before .if1 .left, x) (c .before .before .set-register2 .ensures)
+    rw (← (c4 .psr .ensures), ← (c3 .has-flag .ensures), c2 .if1 .left, x) (c1 .set-register2 .ensures)
 
 pub write-register-spec : {M : Type 1} → statement M
 write-register-spec =

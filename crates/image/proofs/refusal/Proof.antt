@@ -1,7 +1,7 @@
--- `refusal` meets its contract: the questions are asked in their order. Assumes nothing.
+-- `refusal` meets its contract: the first no decides. Assumes nothing.
 use mathlib.Core.Path.{sym, _∙_}
 use borrow.Author.Needs.{needs}
-use Rattle.image.proofs.Reading.{refused-3, refused-4, refused-5, accepted}
+use Rattle.image.proofs.Reading.{refused-3, refused-4, refused-5, refused-none}
 use Rattle.image.proofs.refusal.Statement.{statement}
 use Rattle.image.proofs.refusal.Tie as tie
 
@@ -15,21 +15,22 @@ stack-fits-requires : tie.Need-stack-fits-requires
 stack-fits-requires c κs = search needs
 
 returns : tie.Need-returns
-returns c = accepted _ (sym (c .before .before .before .before .before .numbers-fit .ensures) ∙ c .before .before .before .before .if1 .taken)
-    (sym (c .before .before .before .modes-fit .ensures) ∙ c .before .before .if2 .taken)
-    (sym (c .before .stack-fits .ensures) ∙ c .if3 .taken)
+returns c = let asked = c .before .before .before in
+    refused-none _ (sym (asked .before .before .numbers-fit .ensures) ∙ c .before .before .if1 .taken)
+    (sym (asked .before .modes-fit .ensures) ∙ c .before .if2 .taken) (sym (asked .stack-fits .ensures) ∙ c .if3 .taken)
 
 returns-2 : tie.Need-returns-2
-returns-2 c = refused-5 _ (sym (c .before .before .before .before .before .numbers-fit .ensures) ∙ c .before .before .before .before .if1 .taken)
-    (sym (c .before .before .before .modes-fit .ensures) ∙ c .before .before .if2 .taken)
-    (sym (c .before .stack-fits .ensures) ∙ c .if3 .left)
+returns-2 c = let asked = c .before .before .before in
+    refused-5 _ (sym (asked .before .before .numbers-fit .ensures) ∙ c .before .before .if1 .taken)
+    (sym (asked .before .modes-fit .ensures) ∙ c .before .if2 .taken) (sym (asked .stack-fits .ensures) ∙ c .if3 .left)
 
 returns-3 : tie.Need-returns-3
-returns-3 c = refused-4 _ (sym (c .before .before .before .numbers-fit .ensures) ∙ c .before .before .if1 .taken)
-    (sym (c .before .modes-fit .ensures) ∙ c .if2 .left)
+returns-3 c = let asked = c .before .before in
+    refused-4 _ (sym (asked .before .before .numbers-fit .ensures) ∙ c .before .if1 .taken)
+    (sym (asked .before .modes-fit .ensures) ∙ c .if2 .left)
 
 returns-4 : tie.Need-returns-4
-returns-4 c = refused-3 _ (sym (c .before .numbers-fit .ensures) ∙ c .if1 .left)
+returns-4 c = refused-3 _ (sym (c .before .before .before .numbers-fit .ensures) ∙ c .if1 .left)
 
 pub refusal-spec : {M : Type 1} → statement M
 refusal-spec =
