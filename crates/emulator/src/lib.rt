@@ -1,12 +1,12 @@
-// The run call.
+// The run call: the questions in order, the steps, the new image.
 ghost use mathlib.Core.Path.{_≡_};
 ghost use mathlib.Core.Bool.{true};
 ghost use Prim.Native.Nat.{_≤_};
 ghost use lib.ListN.{length, getD};
 ghost use Rattle.machine.specs.Words.{WORDS, machineOf};
+ghost use Rattle.image.specs.Questions.{wellFormed};
 ghost use Rattle.apply.specs.Apply.{stateOf};
-ghost use Rattle.image.specs.Questions.{allBelow, wellFormed};
-ghost use Rattle.emulator.specs.Run.{stopNumber, resultFrom, outcome, runCall};
+ghost use Rattle.emulator.specs.Run.{stopNumber, resultFrom, resultBy, ask, askedBy, outcome, runCall};
 use apply::Kind;
 
 // What a run call answers.
@@ -24,41 +24,42 @@ pub struct Ended {
     pub ending: u32,
 }
 
+// The words of a machine with a full stack.
+const WORDS: usize = 177;
+
+// Bytes of the longest program, and cells of the largest data memory.
+const MOST_MEMORY: usize = 65_536;
+
+// The largest step limit.
+const MOST_STEPS: u32 = 1_000_000;
+
+// Bytes of the longest image.
+const IMAGE_ROOM: usize = 708;
+
 // ---- the questions
 
-// Question 6: every request is at most FFFh.
-fn requests_fit(requests: &[u32]) -> bool
-    ensures { λ r. ⌜ r ≡ allBelow 0x1000 (now (requests .entry)) ⌝ }
-{
-    let mut i = 0;
-    while i < requests.len() {
-        if 0xFFF < requests[i] {
-            return false;
-        }
-        i += 1;
-    }
-    true
-}
-
 // Questions 1 to 8 in order: the number of the first no, or 0, and then w holds the machine that the image says.
-fn refusal(program: &[u8], cells: &[u32], image: &[u8], requests: &[u32], limit: u32, buffer: &[u8], w: &mut [u32]) -> u32 {
-    if 65536 < program.len() {
+fn refusal(program: &[u8], cells: &[u32], image: &[u8], requests: &[u32], limit: u32, buffer: &[u8], w: &mut [u32]) -> u32
+    requires { ⌜ length (now w) ≡ WORDS ⌝ }
+    ensures { λ r. ⌜ askedBy r (machineOf (now (w .exit))) ≡ ask (now (program .entry)) (now (image .entry)) (now (cells .entry)) (record { requests = now (requests .entry); limit = limit; buffer = now (buffer .entry) }) ⌝ }
+{
+    if MOST_MEMORY < program.len() {
         return 1;
     }
-    if 65536 < cells.len() {
+    if MOST_MEMORY < cells.len() {
         return 1;
     }
     let read = image::read(image, w);
     if read != 0 {
         return read;
     }
-    if !requests_fit(requests) {
+    if !image::all_below(requests, 0x1000) {
         return 6;
     }
-    if 1_000_000 < limit {
+    if MOST_STEPS < limit {
         return 7;
     }
-    if buffer.len() < 708 {
+    if buffer.len() < IMAGE_ROOM {
         return 8;
     }
     0
@@ -81,22 +82,20 @@ fn stop_number(k: Kind) -> u32
 }
 
 // The requests of a step; a step past the list has none.
-fn request_at(requests: &[u32], n: u32) -> u32
+fn request_at(requests: &[u32], n: usize) -> u32
     ensures { λ r. ⌜ r ≡ getD (now (requests .entry)) n 0 ⌝ }
 {
-    if (n as usize) < requests.len() {
-        requests[n as usize]
-    } else {
-        0
-    }
+    if n < requests.len() { requests[n] } else { 0 }
 }
 
 // At most `limit` steps, or those before a stop.
-fn run_steps(program: &[u8], w: &mut [u32], cells: &mut [u32], requests: &[u32], limit: u32) -> Ended {
-    let mut done = 0;
+fn run_steps(program: &[u8], w: &mut [u32], cells: &mut [u32], requests: &[u32], limit: u32) -> Ended
+    requires { ⌜ (length (now w) ≡ WORDS) × (length (now program) ≤ 65536) × (wellFormed (machineOf (now w)) ≡ true) ⌝ }
+    ensures { λ r. ⌜ resultBy r (now (w .exit)) (now (cells .exit)) ≡ resultFrom (now (program .entry)) (now (requests .entry)) limit 0 (stateOf (now (w .entry)) (now (cells .entry))) ⌝ }
+{
+    let mut done: u32 = 0;
     while done < limit {
-        let requested = request_at(requests, done);
-        let kind = step::step(program, w, cells, requested);
+        let kind = step::step(program, w, cells, request_at(requests, done as usize));
         let stop = stop_number(kind);
         if stop != 0 {
             return Ended { steps: done, ending: stop };
@@ -113,7 +112,7 @@ fn run_steps(program: &[u8], w: &mut [u32], cells: &mut [u32], requests: &[u32],
 pub fn run(program: &[u8], cells: &mut [u32], image: &[u8], requests: &[u32], limit: u32, buffer: &mut [u8]) -> Answer
     ensures { λ r. ⌜ outcome r (now (buffer .exit)) (now (cells .exit)) ≡ runCall (now (program .entry)) (now (image .entry)) (now (cells .entry)) (record { requests = now (requests .entry); limit = limit; buffer = now (buffer .entry) }) ⌝ }
 {
-    let mut words = [0u32; 177];
+    let mut words = [0u32; WORDS];
     let no = refusal(program, cells, image, requests, limit, buffer, &mut words);
     if no != 0 {
         return Answer::Refusal(no);

@@ -91,7 +91,7 @@ fn entries_pass(t: Test, w: &[u32]) -> bool
 // ---- question 3
 
 // Whether every number is below a bound.
-fn all_below(numbers: &[u32], top: u32) -> bool
+pub fn all_below(numbers: &[u32], top: u32) -> bool
     ensures { λ r. ⌜ r ≡ allBelow top (now (numbers .entry)) ⌝ }
 {
     let mut i = 0;
