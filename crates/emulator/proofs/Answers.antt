@@ -6,7 +6,7 @@ use Prim.Native.Nat.{ℕ, zero, suc, _+_, _≤_, _<_}
 use native.Mathlib.Omega.{arith}
 use native.Mathlib.Nat.{le-of-suc-le-suc, zero-add}
 use lib.Dec.{leb, lit≤}
-use lib.ListN.{length, drop, getElem?, length-append, length-drop}
+use lib.ListN.{length, getD, drop, getElem?, length-append, length-drop}
 use lib.Seq.{drop-nil}
 use borrow.Author.Tests.{leb-true, not-false}
 use Rattle.word.specs.Choice.{if_then_else_}
@@ -14,12 +14,12 @@ use Rattle.codec.specs.Number.{over}
 use Rattle.machine.specs.Machine.{Machine, State}
 use Rattle.image.specs.Questions.{allBelow}
 use Rattle.image.specs.Image.{Read, Refused, Accepted, askMachine, readImage, writeImage}
-use Rattle.image.proofs.Image.{accepted-formed, writeImage-longest}
+use Rattle.image.proofs.Image.{accepted-formed, writeImage-longest, writeImage-readImage}
 use Rattle.decide.proofs.Safe.{if-holds}
 use Rattle.apply.specs.Apply.{Transition}
 use Rattle.step.specs.Step.{isStop, step}
-use Rattle.emulator.specs.Run.{Call, run, End, endFrom, Asked, No, Start, askCall, ask, stateOf, Called, calledBy, called}
-use Rattle.emulator.specs.Closure.{Unchanged, Refusals, Written, Ended, limitReached, stopped, Ran-as, Completed}
+use Rattle.emulator.specs.Run.{Call, run, End, endOf, endFrom, Asked, No, Start, askCall, ask, stateOf, outcome, Called, calledBy, called, runCall}
+use Rattle.emulator.specs.Closure.{Unchanged, Refusals, Written, Ended, limitReached, stopped, Ran-as, Completed, NoStep, LimitZero}
 use Rattle.emulator.specs.declared.Answer.{Answer}
 use Rattle.emulator.specs.declared.Answer.the-variants.{Refusal, Ran}
 use Rattle.emulator.proofs.Loop.{Runs, limit-reached, went-on, runs-by}
@@ -120,3 +120,25 @@ completed-by p image cells c m e =
 pub completed : Completed
 unfolding Completed called
 completed p image cells c m e = rw e (completed-by p image cells c m e)
+
+no-step-by : (p image cells : List ℕ) (c : Call) (m : Machine) → ((i : ℕ) → getD image i 0 < 256) → readImage image ≡ Accepted m → c .limit ≡ 0
+    → NoStep image cells (calledBy p image cells c (Start m))
+unfolding calledBy run endFrom endOf
+no-step-by p image cells c m b e z =
+    rw z (record { noSteps = refl; sameImage = writeImage-readImage image m b e; sameCells = refl })
+
+pub limit-zero : LimitZero
+unfolding LimitZero called
+limit-zero p image cells c m b e z = rw e (no-step-by p image cells c m b (asked-yes p image cells c m e .read) z)
+
+-- ---- the call, by what the questions say
+
+pub call-refused : (p image cells : List ℕ) (c : Call) (n : ℕ) → ask p image cells c ≡ No n → runCall p image cells c ≡ outcome (Refusal n) (c .buffer) cells
+unfolding runCall called calledBy
+call-refused p image cells c n e = ap (λ (a : Asked). calledBy p image cells c a .outcome) e
+
+pub call-started : (p image cells : List ℕ) (c : Call) (m : Machine) → ask p image cells c ≡ Start m
+    → let e = endFrom p (c .requests) (c .limit) 0 (stateOf m cells) in
+    runCall p image cells c ≡ outcome (Ran (e .steps) (e .ending)) (over (writeImage (e .after .machine)) (c .buffer)) (e .after .cells)
+unfolding runCall called calledBy
+call-started p image cells c m e = ap (λ (a : Asked). calledBy p image cells c a .outcome) e

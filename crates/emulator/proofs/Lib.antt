@@ -8,3 +8,4 @@ pub mod Stops
 pub mod Closed
 pub mod Answers
 pub mod Isolation
+pub mod Example

@@ -124,7 +124,6 @@ confined-psr x h p =
 
 -- ---- the small updates
 
-
 -- an update that is another one in user mode
 confined-as : {f g : Machine → Machine} → ((m : Machine) → User m → f m ≡ g m) → Confined g → Confined f
 confined-as e c =

@@ -91,3 +91,14 @@ unfoldable pub Completed : Type 0
 Completed =
     (program image cells : List ℕ) (c : Call) (m : Machine) → ask program image cells c ≡ Start m
     → Ran-as c (called program image cells c)
+
+-- "limit 0: no step, same image"
+pub record NoStep (image cells : List ℕ) (d : Called) : Type 0 where
+  pub noSteps : d .transitions ≡ []
+  pub sameImage : d .image ≡ image
+  pub sameCells : d .outcome .cells ≡ cells
+
+unfoldable pub LimitZero : Type 0
+LimitZero =
+    (program image cells : List ℕ) (c : Call) (m : Machine) → ((i : ℕ) → getD image i 0 < 256) → ask program image cells c ≡ Start m
+    → c .limit ≡ 0 → NoStep image cells (called program image cells c)

@@ -88,6 +88,9 @@ pub record Outcome : Type 0 where
   pub buffer : List ℕ
   pub cells : List ℕ
 
+abbrev pub outcome : Answer → (buffer cells : List ℕ) → Outcome
+outcome answer buffer cells = record { answer = answer; buffer = buffer; cells = cells }
+
 -- the same with what a list of calls goes on with
 pub record Called : Type 0 where
   pub outcome : Outcome
@@ -99,14 +102,13 @@ stateOf m cells = record { machine = m; cells = cells }
 
 -- "Every refusal .. changes no lent memory"; otherwise "the image at the buffer's front; its further bytes keep their values"
 unfoldable pub calledBy : (program image cells : List ℕ) → Call → Asked → Called
-calledBy program image cells c (No n) =
-    record { outcome = record { answer = Refusal n; buffer = c .buffer; cells = cells }; image = image; transitions = [] }
+calledBy program image cells c (No n) = record { outcome = outcome (Refusal n) (c .buffer) cells; image = image; transitions = [] }
 calledBy program image cells c (Start m) =
     let s = stateOf m cells in
     let e = endFrom program (c .requests) (c .limit) 0 s in
     let left = writeImage (e .after .machine) in
     record {
-      outcome = record { answer = Ran (e .steps) (e .ending); buffer = over left (c .buffer); cells = e .after .cells };
+      outcome = outcome (Ran (e .steps) (e .ending)) (over left (c .buffer)) (e .after .cells);
       image = left;
       transitions = run program (c .requests) (c .limit) 0 s;
     }

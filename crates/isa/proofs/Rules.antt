@@ -9,8 +9,7 @@ use lib.Dec.{leb, eqb}
 use lib.ListN.{length}
 use borrow.Author.Tests.{leb-true, le-leb, lt-leb, ne-eqb}
 use Rattle.word.specs.Choice.{if_then_else_}
-use Rattle.isa.specs.Operation.{Operation, operations, operationOf, Width, w16, w32, widthBy, Availability, anywhere, wideOnly, superOnly, nowhere, unavailable, Properties, properties}
-use Rattle.isa.specs.Decode.{codeOf}
+use Rattle.isa.specs.Operation.{Operation, operations, operationOf, Width, w16, w32, widthBy, Availability, anywhere, wideOnly, superOnly, nowhere, unavailable, codeOf, Properties, properties}
 use Rattle.isa.specs.Computed.{instructions}
 use Rattle.isa.proofs.Table.{values, agree, by-number}
 
@@ -18,7 +17,7 @@ use Rattle.isa.proofs.Table.{values, agree, by-number}
 abbrev pub between : (low high n : ℕ) → Bool
 between low high n = leb low n && leb n high
 
--- it is not, from high on
+-- it is not, past high
 outside : (low high n : ℕ) → high < n → between low high n ≡ false
 outside low high n h = rw (lt-leb n high h) (and-false (leb low n))
 

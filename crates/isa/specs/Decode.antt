@@ -1,7 +1,6 @@
 -- An instruction word taken apart. Assumes nothing.
 use mathlib.Core.Bool.{Bool, _&&_}
 use mathlib.Core.List.{List, [], _∷_}
-use mathlib.Core.Option.{Option, none, some}
 use Prim.Native.Nat.{ℕ, _+_}
 use lib.Dec.{eqb}
 use lib.IntN.{ℤ, pos}
@@ -12,6 +11,7 @@ use Rattle.isa.specs.Format.{fieldsWidth, fieldsOf, operationField, cond
 use Rattle.isa.specs.declared.Operands.{Operands}
 use Rattle.isa.specs.declared.Instruction.{Instruction}
 
+-- how many bytes a word is
 unfoldable pub bytesOf : Width → ℕ
 bytesOf w16 = 2
 bytesOf w32 = 4
@@ -43,6 +43,7 @@ operandsOf width form word =
 unfoldable pub opcodeOf : Width → (word : ℕ) → ℕ
 opcodeOf width word = fieldsOf (operationField width) word
 
+-- the instruction of a word. Bits that it does not use are ignored; bit 25 is, where the operation may not be conditional
 unfoldable pub decode : Width → (word : ℕ) → Instruction
 decode width word =
     let opcode = opcodeOf width word in
@@ -58,10 +59,3 @@ decode width word =
       sreg2 = o .sreg2;
       immediate = o .immediate;
     }
-
--- ---- answers
-
--- an exception's code as the answer of a function, 0 where there is none; code 00h is not among those asked
-unfoldable pub codeOf : Option ℕ → ℕ
-codeOf none = 0
-codeOf (some code) = code

@@ -39,7 +39,7 @@ conditionField w16 = []
 
 -- ---- operands
 
--- what an operand is for the operation
+-- what an operand is to the operation
 pub data Role : Type 0 where
   Dreg Sreg1 Sreg2 Creg Imm : Role
 
@@ -47,7 +47,7 @@ pub record Immediate : Type 0 where
   pub signed : Bool
   pub fields : List Field
 
--- the fields of the operands by role (creg's are cregField), and the operands in 002's order of writing
+-- the fields of the operands by role (creg's are cregField), and the operands in the order in which 002 writes them, each field once
 pub record Layout : Type 0 where
   pub dreg : List Field
   pub sreg1 : List Field
@@ -95,7 +95,7 @@ imm7 = bits 9 to 3 ∷ []
 abbrev low : ℕ → List Field
 low n = bits n - 1 to 0 ∷ []
 
--- dreg, sreg1, sreg2, immediate, and what is shown.
+-- dreg, sreg1, sreg2, immediate; shown.
 -- 16-bit: the first source is sr, the second is dr; with an immediate, but for ld and st, dr is source and target
 unfoldable pub layoutOf : Width → Form → Layout
 layoutOf w32 NoOperands = layout [] [] [] absent []

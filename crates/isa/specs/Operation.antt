@@ -60,7 +60,7 @@ pub data Form : Type 0 where
   Halfword : Form  -- dreg, sixteen bits
   Jump : Form  -- signed immediate
   Branch : Form  -- creg, signed immediate
-  Low : ℕ → Form  -- so many of the word's lowest bits
+  Low : ℕ → Form  -- so many of the word's lowest bits: of bits 4..0 swm uses one, chrs two, trap all five
 
 -- where an operation may be used
 pub data Availability : Type 0 where
@@ -74,6 +74,11 @@ unavailable wideOnly w32 user = none
 unavailable superOnly w true = some 0x02
 unavailable superOnly w false = none
 unavailable nowhere w user = some 0x01
+
+-- that code as a number, 0 where the operation may be used (00h is no code of this kind)
+unfoldable pub codeOf : Option ℕ → ℕ
+codeOf none = 0
+codeOf (some code) = code
 
 pub record Properties : Type 0 where
   pub number : ℕ

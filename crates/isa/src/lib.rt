@@ -3,9 +3,9 @@ ghost use mathlib.Core.Path.{_≡_};
 ghost use Prim.Native.Nat.{_<_, _≤_, _^_};
 ghost use lib.IntN.{pos};
 ghost use Rattle.word.specs.Word.{signedOf};
-ghost use Rattle.isa.specs.Operation.{operationOf, properties, Properties, w16, w32, widthBy, unavailable};
+ghost use Rattle.isa.specs.Operation.{operationOf, properties, Properties, w16, w32, widthBy, unavailable, codeOf};
 ghost use Rattle.isa.specs.Condition.{conditionOf, holds};
-ghost use Rattle.isa.specs.Decode.{opcodeOf, operandsOf, decode, codeOf};
+ghost use Rattle.isa.specs.Decode.{opcodeOf, operandsOf, decode};
 
 // The operands of an instruction; one that it does not have is 0.
 pub struct Operands {
@@ -53,7 +53,7 @@ pub fn is_transfer(op: u32) -> bool
     (36 <= op) & (op <= 50) | (op == 54)
 }
 
-// The code of the exception where an operation may not be used, or 0.
+// The code of the exception where an operation may not be used; 0 where it may.
 pub fn unavailability(op: u32, wide: bool, user: bool) -> u32
     ensures { λ r. ⌜ r ≡ codeOf (unavailable (properties (operationOf op) .availability) (widthBy wide) user) ⌝ }
 {
