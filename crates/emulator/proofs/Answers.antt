@@ -1,31 +1,25 @@
 -- The answer of a call, refused or not, and the lent buffer and data memory. Assumes nothing.
 use mathlib.Core.Path.{_≡_, refl, sym, ap, _∙_}
-use mathlib.Core.Bool.{Bool, true, false, not, _&&_}
 use mathlib.Core.List.{List, [], _∷_, _++_}
 use Prim.Native.Nat.{ℕ, zero, suc, _+_, _≤_, _<_}
 use native.Mathlib.Omega.{arith}
-use native.Mathlib.Nat.{le-of-suc-le-suc, zero-add}
-use lib.Dec.{leb, lit≤}
+use native.Mathlib.Nat.{le-of-suc-le-suc}
+use lib.Dec.{lit≤}
 use lib.ListN.{length, getD, drop, getElem?, length-append, length-drop}
 use lib.Seq.{drop-nil}
-use borrow.Author.Tests.{leb-true, not-false}
-use Rattle.word.specs.Choice.{if_then_else_}
 use Rattle.codec.specs.Number.{over}
 use Rattle.machine.specs.Machine.{Machine, State}
-use Rattle.image.specs.Questions.{allBelow}
 use Rattle.image.specs.Image.{Read, Refused, Accepted, askMachine, readImage, writeImage}
 use Rattle.image.proofs.Image.{accepted-formed, writeImage-longest, writeImage-readImage}
-use Rattle.decide.proofs.Safe.{if-holds}
+use Rattle.step.proofs.Safe.{if-holds}
 use Rattle.apply.specs.Apply.{Transition}
-use Rattle.step.specs.Step.{isStop, step}
-use Rattle.emulator.specs.Run.{Call, run, End, endOf, endFrom, Asked, No, Start, askCall, ask, stateOf, outcome, Called, calledBy, called, runCall}
-use Rattle.emulator.specs.Closure.{Unchanged, Refusals, Written, Ended, limitReached, stopped, Ran-as, Completed, NoStep, LimitZero}
-use Rattle.emulator.specs.declared.Answer.{Answer}
+use Rattle.emulator.specs.Run.{Call, run, RunResult, resultOf, resultFrom, Asked, No, Start, askCall, ask, stateOf, outcome, calledBy, called, runCall}
+use Rattle.emulator.specs.Closure.{Unchanged, Refusals, Written, Ended, limitReached, stopped, RanAs, Completed, NoStep, LimitZero}
 use Rattle.emulator.specs.declared.Answer.the-variants.{Refusal, Ran}
 use Rattle.emulator.proofs.Loop.{Runs, limit-reached, went-on, runs-by}
 use Rattle.emulator.proofs.Loop as loop
 use Rattle.emulator.proofs.Stops.{stop-number}
-use Rattle.emulator.proofs.Closed.{asked-yes, end-formed}
+use Rattle.emulator.proofs.Closed.{asked-yes, result-formed}
 
 -- ---- refusals
 
@@ -92,7 +86,7 @@ written image buffer h =
 -- ---- steps and ending
 
 module _ (p requests : List ℕ) where
-  runs-ended : {n done : ℕ} {s : State} {ts : List Transition} {e : End} → Runs p requests n done s ts e
+  runs-ended : {n done : ℕ} {s : State} {ts : List Transition} {e : RunResult} → Runs p requests n done s ts e
       → (limit count : ℕ) → limit ≡ done + n → count ≡ done + length ts → Ended limit (e .steps) (e .ending) count
   runs-ended limit-reached limit count h k = limitReached (omega arith) (omega arith) refl
   runs-ended (loop.stopped {done = d} {s = s} x) limit count h k =
@@ -102,13 +96,13 @@ module _ (p requests : List ℕ) where
 
 -- ---- a call that is not refused
 
-completed-by : (p image cells : List ℕ) (c : Call) (m : Machine) → ask p image cells c ≡ Start m → Ran-as c (calledBy p image cells c (Start m))
+completed-by : (p image cells : List ℕ) (c : Call) (m : Machine) → ask p image cells c ≡ Start m → RanAs c (calledBy p image cells c (Start m))
 unfolding calledBy
 completed-by p image cells c m e =
     let y = asked-yes p image cells c m e in
     let s = stateOf m cells in
-    let f = end-formed p (c .requests) (c .limit) s (accepted-formed image m (y .read)) in
-    let x = endFrom p (c .requests) (c .limit) 0 s in
+    let f = result-formed p (c .requests) (c .limit) s (accepted-formed image m (y .read)) in
+    let x = resultFrom p (c .requests) (c .limit) 0 s in
     record {
       steps = x .steps;
       ending = x .ending;
@@ -123,7 +117,7 @@ completed p image cells c m e = rw e (completed-by p image cells c m e)
 
 no-step-by : (p image cells : List ℕ) (c : Call) (m : Machine) → ((i : ℕ) → getD image i 0 < 256) → readImage image ≡ Accepted m → c .limit ≡ 0
     → NoStep image cells (calledBy p image cells c (Start m))
-unfolding calledBy run endFrom endOf
+unfolding calledBy run resultFrom resultOf
 no-step-by p image cells c m b e z =
     rw z (record { noSteps = refl; sameImage = writeImage-readImage image m b e; sameCells = refl })
 
@@ -138,7 +132,7 @@ unfolding runCall called calledBy
 call-refused p image cells c n e = ap (λ (a : Asked). calledBy p image cells c a .outcome) e
 
 pub call-started : (p image cells : List ℕ) (c : Call) (m : Machine) → ask p image cells c ≡ Start m
-    → let e = endFrom p (c .requests) (c .limit) 0 (stateOf m cells) in
+    → let e = resultFrom p (c .requests) (c .limit) 0 (stateOf m cells) in
     runCall p image cells c ≡ outcome (Ran (e .steps) (e .ending)) (over (writeImage (e .after .machine)) (c .buffer)) (e .after .cells)
 unfolding runCall called calledBy
 call-started p image cells c m e = ap (λ (a : Asked). calledBy p image cells c a .outcome) e

@@ -1,8 +1,8 @@
 -- What a call leaves: an image that the next call accepts, which says the machine after the last transition; and the buffer. Assumes nothing.
-use mathlib.Core.Path.{_≡_, refl, sym, ap, _∙_}
+use mathlib.Core.Path.{_≡_, refl, ap, _∙_}
 use mathlib.Core.Bool.{Bool, true, false, not, _&&_}
 use mathlib.Core.List.{List, [], _∷_, _++_}
-use Prim.Native.Nat.{ℕ, zero, suc, _≤_, suc-le-suc}
+use Prim.Native.Nat.{ℕ, _≤_, suc-le-suc}
 use native.Mathlib.Omega.{arith}
 use native.Mathlib.Nat.{le-of-suc-le-suc}
 use lib.Dec.{leb, lit<}
@@ -11,15 +11,14 @@ use lib.ListN.{length, getD}
 use Rattle.word.specs.Choice.{if_then_else_}
 use Rattle.word.proofs.Tests.{and-parts}
 use Rattle.machine.specs.Machine.{Machine, State}
-use Rattle.image.specs.Image.{Read, Refused, Accepted, readImage, writeImage}
+use Rattle.image.specs.Image.{Read, Refused, Accepted, readImage}
 use Rattle.image.proofs.Tests.{below-true, true-below}
 use Rattle.image.proofs.Formed.{WellFormed}
 use Rattle.image.proofs.Image.{readImage-writeImage, accepted-formed}
 use Rattle.apply.specs.Apply.{Transition}
-use Rattle.step.specs.Step.{isStop, step}
 use Rattle.step.proofs.Formed.{step-formed}
-use Rattle.emulator.specs.Run.{Call, run, End, endOf, endFrom, Asked, No, Start, askCall, ask, stateOf, Outcome, Called, calledBy, called, transitions}
-use Rattle.emulator.specs.Closure.{final, Steps, Left, Closure, Continuity, AllYes, Questions}
+use Rattle.emulator.specs.Run.{Call, run, RunResult, resultFrom, Asked, No, Start, askCall, ask, stateOf, calledBy, called, transitions}
+use Rattle.emulator.specs.Closure.{final, Steps, Closure, Continuity, AllYes, Questions}
 use Rattle.emulator.proofs.Loop.{Runs, limit-reached, stopped, went-on, runs-by}
 
 -- ---- the questions
@@ -87,21 +86,21 @@ steps-formed p s (t ∷ ts) a f = steps-formed p (t .after) ts (a .2) (rw (a .1)
 -- ---- those of a call
 
 module _ (p requests : List ℕ) where
-  runs-steps : {n done : ℕ} {s : State} {ts : List Transition} {e : End} → Runs p requests n done s ts e → Steps p s ts
+  runs-steps : {n done : ℕ} {s : State} {ts : List Transition} {e : RunResult} → Runs p requests n done s ts e → Steps p s ts
   unfolding Steps
   runs-steps limit-reached = tt
   runs-steps (stopped {done = k} h) = (getD requests k 0, refl, tt)
   runs-steps (went-on {done = k} h r) = (getD requests k 0, refl, runs-steps r)
 
-  runs-final : {n done : ℕ} {s : State} {ts : List Transition} {e : End} → Runs p requests n done s ts e → e .after ≡ final s ts
+  runs-final : {n done : ℕ} {s : State} {ts : List Transition} {e : RunResult} → Runs p requests n done s ts e → e .after ≡ final s ts
   unfolding final
   runs-final limit-reached = refl
   runs-final (stopped h) = refl
   runs-final (went-on h r) = runs-final r
 
 -- what a call that runs leaves is well formed
-pub end-formed : (p requests : List ℕ) (n : ℕ) (s : State) → WellFormed (s .machine) → WellFormed (endFrom p requests n 0 s .after .machine)
-end-formed p requests n s f =
+pub result-formed : (p requests : List ℕ) (n : ℕ) (s : State) → WellFormed (s .machine) → WellFormed (resultFrom p requests n 0 s .after .machine)
+result-formed p requests n s f =
     let r = runs-by p requests n 0 s in
     rw (runs-final p requests r) (steps-formed p s (run p requests n 0 s) (runs-steps p requests r) f)
 
@@ -119,7 +118,7 @@ left-by p image cells c m e (Start x) q =
     let r = runs-by p (c .requests) (c .limit) 0 s in
     let h = runs-final p (c .requests) r in
     rw g (
-      readImage-writeImage (end-formed p (c .requests) (c .limit) s (accepted-formed image x (asked-yes p image cells c x q .read))) ∙ ap (λ (t : State). Accepted (t .machine)) h,
+      readImage-writeImage (result-formed p (c .requests) (c .limit) s (accepted-formed image x (asked-yes p image cells c x q .read))) ∙ ap (λ (t : State). Accepted (t .machine)) h,
       ap (λ (t : State). t .cells) h,
       runs-steps p (c .requests) r,
     )

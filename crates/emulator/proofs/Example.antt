@@ -2,9 +2,9 @@
 -- cell and a protected program byte, and two lists of calls that differ in requests, limits, buffers and refusals. Both have four
 -- transitions, three in the segment and then the exception 07h. Assumes nothing.
 use mathlib.Core.Path.{_≡_, refl, sym, ap, _∙_}
-use mathlib.Core.Bool.{Bool, true, false, true≢false}
+use mathlib.Core.Bool.{false, true≢false}
 use mathlib.Core.List.{List, [], _∷_, map}
-use mathlib.Core.Option.{Option, some}
+use mathlib.Core.Option.{some}
 use Prim.Native.Nat.{ℕ, zero, suc, _+_, _*_, _^_, _<_}
 use native.Mathlib.Omega.{arith}
 use native.Mathlib.Nat.{le-of-suc-le-suc}
@@ -22,7 +22,7 @@ use Rattle.apply.specs.Apply.{Transition}
 use Rattle.apply.specs.declared.Kind.{Kind}
 use Rattle.apply.specs.declared.Kind.the-variants.{Ordinary, Exception}
 use Rattle.emulator.specs.Run.{Call}
-use Rattle.emulator.specs.Isolation.{transition, isPreemption, segment, Session, startOf, transitionsOf, UserStart, Integrity, SameStart, SameShown, SameTransition, Confidentiality, Isolation}
+use Rattle.emulator.specs.Isolation.{transition, isPreemption, segment, Session, startOf, transitionsOf, UserStart, Integrity, SameStart, SameTransition, Confidentiality, Isolation}
 use Rattle.emulator.specs.Computed.{runs}
 use Rattle.emulator.proofs.Isolation.{isolated}
 

@@ -2,7 +2,7 @@
 use mathlib.Core.Path.{_≡_, refl, sym, ap, _∙_}
 use mathlib.Core.Bool.{Bool, true, false, true≢false, _||_}
 use mathlib.Core.List.{List, [], _∷_}
-use mathlib.Core.Option.{Option, none, some}
+use mathlib.Core.Option.{none, some}
 use Prim.Native.Nat.{ℕ, zero, suc, _≤_, zero-le, suc-le-suc}
 use native.Mathlib.Omega.{arith}
 use native.Mathlib.Nat.{le-of-suc-le-suc}
@@ -10,13 +10,13 @@ use lib.Dec.{lit<}
 use lib.ListN.{length, getElem?}
 use Rattle.word.specs.Choice.{if_then_else_}
 use Rattle.word.proofs.Tests.{or-parts}
-use Rattle.machine.specs.Machine.{Machine, State}
+use Rattle.machine.specs.Machine.{State}
 use Rattle.machine.specs.Control.{controlAt, IMEM-BOUND-LO, IMEM-BOUND-HI}
 use Rattle.image.proofs.Image.{accepted-formed}
 use Rattle.apply.specs.Apply.{Transition}
 use Rattle.step.specs.Step.{step}
 use Rattle.emulator.specs.Closure.{Steps, Continuity}
-use Rattle.emulator.specs.Isolation.{transition, isExit, isPreemption, segment, InSegment, EarlierInSegment, Session, startOf, transitionsOf, UserStart, Kept, Integrity, SameStart, SameTransition, bothGoOn, bothExit, Confidentiality, Isolation}
+use Rattle.emulator.specs.Isolation.{transition, isExit, isPreemption, segment, InSegment, Session, startOf, transitionsOf, UserStart, Kept, Integrity, SameStart, SameTransition, bothGoOn, bothExit, Confidentiality, Isolation}
 use Rattle.emulator.proofs.States.{Mode, Low, kept-control, kept-trans}
 use Rattle.emulator.proofs.Views.{SameBytes}
 use Rattle.emulator.proofs.Unwinding.{On, Agree, goOn, exit, step-kept, step-agree}

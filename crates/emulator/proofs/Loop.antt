@@ -1,17 +1,16 @@
 -- The steps of a call, one at a time: how the definition goes on, stops and ends. Assumes nothing.
-use mathlib.Core.Path.{_≡_, refl, sym, ap, _∙_}
-use mathlib.Core.Bool.{Bool, true, false, true≢false}
+use mathlib.Core.Path.{_≡_, refl}
+use mathlib.Core.Bool.{Bool, true, false}
 use mathlib.Core.List.{List, [], _∷_}
-use Prim.Native.Nat.{ℕ, zero, suc, _+_, _-_, _≤_, _<_}
+use Prim.Native.Nat.{ℕ, zero, suc, _-_, _≤_, _<_}
 use native.Mathlib.Omega.{arith}
-use native.Mathlib.Nat.{sub-suc}
-use lib.ListN.{length, getD}
+use lib.ListN.{getD}
 use Rattle.word.specs.Choice.{if_then_else_}
 use Rattle.word.proofs.Tests.{if-true}
 use Rattle.machine.specs.Machine.{State}
 use Rattle.apply.specs.Apply.{Transition}
 use Rattle.step.specs.Step.{isStop, step}
-use Rattle.emulator.specs.Run.{run, End, stopNumber, endOf, endFrom}
+use Rattle.emulator.specs.Run.{run, RunResult, stopNumber, resultOf, resultFrom}
 
 -- a stop changes nothing
 pub stop-changes-nothing : (p : List ℕ) (s : State) (q : ℕ) → isStop (step p s q .kind) ≡ true → step p s q .after ≡ s
@@ -25,19 +24,19 @@ module _ (p requests : List ℕ) where
 
   -- ---- with n steps left
 
-  pub end-zero : (done : ℕ) (s : State) → endFrom p requests zero done s ≡ record { steps = done; ending = 0; after = s }
-  unfolding endFrom endOf run
-  end-zero done s = refl
+  pub result-zero : (done : ℕ) (s : State) → resultFrom p requests zero done s ≡ record { steps = done; ending = 0; after = s }
+  unfolding resultFrom resultOf run
+  result-zero done s = refl
 
-  pub end-stop : (n done : ℕ) (s : State) → isStop (next done s .kind) ≡ true
-      → endFrom p requests (suc n) done s ≡ record { steps = done; ending = stopNumber (next done s .kind); after = next done s .after }
-  unfolding endFrom endOf run if_then_else_
-  end-stop n done s e = rw e
+  pub result-stop : (n done : ℕ) (s : State) → isStop (next done s .kind) ≡ true
+      → resultFrom p requests (suc n) done s ≡ record { steps = done; ending = stopNumber (next done s .kind); after = next done s .after }
+  unfolding resultFrom resultOf run if_then_else_
+  result-stop n done s e = rw e
 
-  pub end-more : (n done : ℕ) (s : State) → isStop (next done s .kind) ≡ false
-      → endFrom p requests (suc n) done s ≡ endFrom p requests n (suc done) (next done s .after)
-  unfolding endFrom endOf run if_then_else_
-  end-more n done s e = rw e
+  pub result-more : (n done : ℕ) (s : State) → isStop (next done s .kind) ≡ false
+      → resultFrom p requests (suc n) done s ≡ resultFrom p requests n (suc done) (next done s .after)
+  unfolding resultFrom resultOf run if_then_else_
+  result-more n done s e = rw e
 
   pub run-stop : (n done : ℕ) (s : State) → isStop (next done s .kind) ≡ true → run p requests (suc n) done s ≡ next done s ∷ []
   unfolding run if_then_else_
@@ -50,38 +49,38 @@ module _ (p requests : List ℕ) where
 
   -- ---- by the steps done, for a loop that counts them up to the limit
 
-  pub at-end : (limit done : ℕ) (s : State) → limit ≤ done → endFrom p requests (limit - done) done s ≡ record { steps = done; ending = 0; after = s }
+  pub at-end : (limit done : ℕ) (s : State) → limit ≤ done → resultFrom p requests (limit - done) done s ≡ record { steps = done; ending = 0; after = s }
   at-end limit done s h =
       let e : limit - done ≡ 0 = omega arith in
-      rw e (end-zero done s)
+      rw e (result-zero done s)
 
   pub at-stop : (limit done : ℕ) (s : State) → done < limit → isStop (next done s .kind) ≡ true
-      → endFrom p requests (limit - done) done s ≡ record { steps = done; ending = stopNumber (next done s .kind); after = next done s .after }
+      → resultFrom p requests (limit - done) done s ≡ record { steps = done; ending = stopNumber (next done s .kind); after = next done s .after }
   at-stop limit done s h e =
       let l : limit - done ≡ suc (limit - suc done) = omega arith in
-      rw l (end-stop (limit - suc done) done s e)
+      rw l (result-stop (limit - suc done) done s e)
 
   pub at-more : (limit done : ℕ) (s : State) → done < limit → isStop (next done s .kind) ≡ false
-      → endFrom p requests (limit - done) done s ≡ endFrom p requests (limit - suc done) (suc done) (next done s .after)
+      → resultFrom p requests (limit - done) done s ≡ resultFrom p requests (limit - suc done) (suc done) (next done s .after)
   at-more limit done s h e =
       let l : limit - done ≡ suc (limit - suc done) = omega arith in
-      rw l (end-more (limit - suc done) done s e)
+      rw l (result-more (limit - suc done) done s e)
 
   -- ---- the three cases, with the transitions
 
-  pub data Runs : (left done : ℕ) → State → List Transition → End → Type 0 where
+  pub data Runs : (left done : ℕ) → State → List Transition → RunResult → Type 0 where
     limit-reached : {done : ℕ} {s : State} → Runs zero done s [] (record { steps = done; ending = 0; after = s })
     stopped : {n done : ℕ} {s : State} → isStop (next done s .kind) ≡ true
         → Runs (suc n) done s (next done s ∷ []) (record { steps = done; ending = stopNumber (next done s .kind); after = next done s .after })
-    went-on : {n done : ℕ} {s : State} {ts : List Transition} {e : End} → isStop (next done s .kind) ≡ false → Runs n (suc done) (next done s .after) ts e
+    went-on : {n done : ℕ} {s : State} {ts : List Transition} {e : RunResult} → isStop (next done s .kind) ≡ false → Runs n (suc done) (next done s .after) ts e
         → Runs (suc n) done s (next done s ∷ ts) e
 
-  one-runs : (n done : ℕ) (s : State) → Runs n (suc done) (next done s .after) (run p requests n (suc done) (next done s .after)) (endFrom p requests n (suc done) (next done s .after))
-      → (b : Bool) → isStop (next done s .kind) ≡ b → Runs (suc n) done s (run p requests (suc n) done s) (endFrom p requests (suc n) done s)
-  one-runs n done s r true e = rw (run-stop n done s e, end-stop n done s e) (stopped e)
-  one-runs n done s r false e = rw (run-more n done s e, end-more n done s e) (went-on e r)
+  one-runs : (n done : ℕ) (s : State) → Runs n (suc done) (next done s .after) (run p requests n (suc done) (next done s .after)) (resultFrom p requests n (suc done) (next done s .after))
+      → (b : Bool) → isStop (next done s .kind) ≡ b → Runs (suc n) done s (run p requests (suc n) done s) (resultFrom p requests (suc n) done s)
+  one-runs n done s r true e = rw (run-stop n done s e, result-stop n done s e) (stopped e)
+  one-runs n done s r false e = rw (run-more n done s e, result-more n done s e) (went-on e r)
 
-  pub runs-by : (n done : ℕ) (s : State) → Runs n done s (run p requests n done s) (endFrom p requests n done s)
+  pub runs-by : (n done : ℕ) (s : State) → Runs n done s (run p requests n done s) (resultFrom p requests n done s)
   unfolding run
-  runs-by zero done s = rw (end-zero done s) limit-reached
+  runs-by zero done s = rw (result-zero done s) limit-reached
   runs-by (suc n) done s = one-runs n done s (runs-by n (suc done) (next done s .after)) (isStop (next done s .kind)) refl

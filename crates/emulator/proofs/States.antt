@@ -1,13 +1,12 @@
 -- States in user mode: what is kept from one to the next, and what two of them agree on. Assumes nothing.
 use mathlib.Core.Path.{_≡_, refl, sym, ap, _∙_}
 use mathlib.Core.Logic.{_≢_}
-use mathlib.Core.Bool.{Bool, true, false}
-use mathlib.Core.List.{List}
+use mathlib.Core.Bool.{true, false}
 use Prim.Native.Nat.{ℕ, _+_, _%_, _^_, _≤_}
 use native.Mathlib.Omega.{arith}
 use lib.ListN.{length, getElem?}
 use Rattle.word.specs.Arithmetic.{orOf}
-use Rattle.machine.specs.Machine.{Machine, State, psr, withControl}
+use Rattle.machine.specs.Machine.{State, psr, withControl}
 use Rattle.machine.specs.Control.{controlAt, protectedCell, CCB-BASE, INT-PEND, DMEM-BOUND-LO, DMEM-BOUND-HI, IMEM-BOUND-LO, IMEM-BOUND-HI}
 use Rattle.machine.proofs.Lists.{at-set-other, same-getD}
 use Rattle.decide.specs.View.{nestedBy}

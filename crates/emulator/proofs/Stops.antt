@@ -1,5 +1,5 @@
 -- The numbers of stops: 11 to 15 (01 "One step"). Assumes nothing.
-use mathlib.Core.Path.{_≡_, refl, sym, ap, _∙_}
+use mathlib.Core.Path.{_≡_, refl, sym}
 use mathlib.Core.Bool.{Bool, true, false, true≢false, _&&_}
 use mathlib.Core.List.{List}
 use mathlib.Core.Option.{Option, none, some}
@@ -26,11 +26,12 @@ use Rattle.decide.specs.declared.Place.{Place}
 use Rattle.decide.specs.declared.Place.the-variants.{Block, Cell, Refused, Missing}
 use Rattle.decide.specs.declared.Effect.{Effect}
 use Rattle.decide.specs.declared.Effect.the-variants.{Jump, JumpLink}
-use Rattle.apply.specs.Apply.{Transition, machineOnly, storeCell, apply}
+use Rattle.apply.specs.Apply.{machineOnly, storeCell, apply}
 use Rattle.apply.specs.declared.Kind.{Kind}
 use Rattle.apply.specs.declared.Kind.the-variants.{Ordinary, Interrupt, SystemCall, InterruptReturn, Exception, Stop}
 use Rattle.step.specs.Interrupt.{withRequests, acceptedSource}
 use Rattle.step.specs.Step.{isStop, interruptOr, step}
+use Rattle.step.proofs.Safe.{if-holds}
 use Rattle.emulator.specs.Run.{stopNumber}
 
 -- a stop's number is one of the five
@@ -48,9 +49,7 @@ Fits e = (s : State) → fits (apply e s .kind) ≡ true
 -- ---- what operations do
 
 if-fits : (b : Bool) (x y : Effect) → Fits x → Fits y → Fits (if_then_else_ b x y)
-unfolding if_then_else_
-if-fits true x y f g = f
-if-fits false x y f g = g
+if-fits b x y f g = if-holds Fits b (λ _. f) (λ _. g)
 
 checked-fits : (d : ℕ) (r : Sum) → Fits (checked d r)
 unfolding checked apply machineOnly fits

@@ -1,12 +1,11 @@
 -- One transition in user mode: it keeps what is protected, and two machines that agree on the rest make the same one. Assumes nothing.
 use mathlib.Core.Path.{_≡_, refl, sym, ap, _∙_}
-use mathlib.Core.Logic.{_⊎_, inl, inr}
-use mathlib.Core.Bool.{Bool, true, false, true≢false}
+use mathlib.Core.Bool.{true, false, true≢false}
 use mathlib.Core.List.{List}
 use mathlib.Core.Option.{Option, none, some}
 use Prim.Native.Nat.{ℕ, _%_, _^_}
 use native.Mathlib.Omega.{arith}
-use lib.ListN.{length, set, getElem?, length-set}
+use lib.ListN.{length-set}
 use Rattle.word.specs.Choice.{if_then_else_}
 use Rattle.word.proofs.Tests.{if-false}
 use Rattle.machine.specs.Machine.{Machine, State, LINK, psr, userMode}
@@ -16,9 +15,9 @@ use Rattle.decide.specs.View.{View, view}
 use Rattle.decide.specs.Decide.{decide}
 use Rattle.decide.specs.declared.Effect.{Effect}
 use Rattle.decide.specs.declared.Effect.the-variants.{Stopped, Raised, Next, Result, ResultFlags, ResultProduct, Compare, Conditions, StoreControl, StoreCell, Jump, JumpLink, EnableInterrupts, SwitchWidth, SystemCall, InterruptReturn, UserReturn, SelectSets}
-use Rattle.decide.proofs.Safe.{Safe, decide-safe}
-use Rattle.decide.proofs.Addresses.{reached-cell, reached-block}
-use Rattle.apply.specs.Apply.{wordsOn, advance, Transition, machineOnly, storeCell, apply, unpacked}
+use Rattle.step.proofs.Safe.{Safe, decide-safe}
+use Rattle.step.proofs.Addresses.{reached-cell, reached-block}
+use Rattle.apply.specs.Apply.{wordsOn, Transition, machineOnly, storeCell, apply, unpacked}
 use Rattle.apply.specs.declared.Kind.{Kind}
 use Rattle.apply.specs.declared.Kind.the-variants as kind
 use Rattle.step.specs.Interrupt.{withRequests, acceptedSource}

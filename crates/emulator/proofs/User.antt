@@ -3,11 +3,10 @@ use mathlib.Core.Path.{_≡_, refl, sym, ap, _∙_}
 use mathlib.Core.Logic.{_≢_}
 use mathlib.Core.Bool.{Bool, true, false}
 use mathlib.Core.List.{List}
-use Prim.Native.Nat.{ℕ, _+_, _*_, _/_, _%_, _^_, _<_}
+use Prim.Native.Nat.{ℕ, _/_, _%_, _^_, _<_}
 use native.Mathlib.Omega.{arith}
 use lib.ListN.{length, set, getElem?, length-set}
 use lib.Seq.{getD-set-same}
-use Rattle.word.specs.Choice.{if_then_else_}
 use Rattle.machine.specs.Machine.{Machine, PSR, psr, userMode, readsSet2, writesSet2, wideWords, interruptsEnabled, withModes, positionAt, withSet1, withSet2, withConditions, withPosition, withPsr}
 use Rattle.machine.specs.declared.Position.{Position}
 use Rattle.word.proofs.Tests.{if-false}

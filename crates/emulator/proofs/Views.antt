@@ -1,6 +1,6 @@
 -- In user mode what a decision may use is the same on two machines that agree on what is not protected. Assumes nothing.
 use mathlib.Core.Path.{_≡_, refl, sym, ap, _∙_, fun-ext}
-use mathlib.Core.Bool.{Bool, true, false, true≢false, not, _&&_}
+use mathlib.Core.Bool.{Bool, true, false, true≢false, _&&_}
 use mathlib.Core.List.{List}
 use Prim.Native.Nat.{ℕ, zero, suc, _+_, _*_, _≤_}
 use native.Mathlib.Omega.{arith}
@@ -8,18 +8,16 @@ use lib.ListN.{length, getD, getElem?}
 use lib.Dec.{leb}
 use lib.IntN.{ℤ}
 use borrow.Author.Tests.{le-leb, leb-true}
-use Rattle.word.specs.Choice.{if_then_else_}
 use Rattle.word.specs.Word.{wordOf}
 use Rattle.word.proofs.Tests.{and-parts, and-both, or-parts, false-unless, if-false, if-else}
 use Rattle.isa.specs.Decode.{bytesOf}
 use Rattle.machine.specs.Machine.{Machine, State, psr, userMode, widthOf, setBy}
 use Rattle.machine.specs.Control.{controlAt, within, CCB-BASE, DMEM-BOUND-LO, DMEM-BOUND-HI, IMEM-BOUND-LO, IMEM-BOUND-HI}
-use Rattle.machine.specs.declared.Position.{Position}
 use Rattle.machine.proofs.Lists.{same-getD}
-use Rattle.decide.specs.View.{anyWithin, byteThen, bytesAt, fetchAt, inBlock, placeAt, heldAt, View, view}
+use Rattle.decide.specs.View.{anyWithin, byteThen, bytesAt, fetchAt, inBlock, placeAt, heldAt, view}
 use Rattle.decide.specs.declared.Place.{Place}
 use Rattle.decide.specs.declared.Place.the-variants.{Block, Cell, Refused, Missing}
-use Rattle.decide.proofs.Addresses.{place-cell, place-block}
+use Rattle.step.proofs.Addresses.{place-cell, place-block}
 use Rattle.emulator.proofs.User.{user-bit, read-bit, write-bit}
 use Rattle.emulator.proofs.States.{Mode, Low}
 

@@ -5,11 +5,10 @@ use mathlib.Core.List.{List, [], _∷_}
 use Prim.Native.Nat.{ℕ, suc, _≤_, _<_}
 use lib.ListN.{length, getD, getElem?}
 use Rattle.machine.specs.Machine.{Machine, State}
-use Rattle.image.specs.Image.{Read, Accepted, readImage}
+use Rattle.image.specs.Image.{Accepted, readImage}
 use Rattle.apply.specs.Apply.{Transition}
 use Rattle.step.specs.Step.{step}
-use Rattle.emulator.specs.Run.{Call, Asked, No, Start, ask, stateOf, Outcome, Called, called, transitions}
-use Rattle.emulator.specs.declared.Answer.{Answer}
+use Rattle.emulator.specs.Run.{Call, No, Start, ask, stateOf, Called, called, transitions}
 use Rattle.emulator.specs.declared.Answer.the-variants.{Refusal, Ran}
 
 -- the state after all of these
@@ -79,7 +78,7 @@ pub data Ended (limit steps ending count : ℕ) : Type 0 where
   limitReached : steps ≡ limit → count ≡ limit → ending ≡ 0 → Ended limit steps ending count
   stopped : steps < limit → count ≡ suc steps → 11 ≤ ending → ending ≤ 15 → Ended limit steps ending count
 
-pub record Ran-as (c : Call) (d : Called) : Type 0 where
+pub record RanAs (c : Call) (d : Called) : Type 0 where
   pub steps : ℕ
   pub ending : ℕ
   pub answer : d .outcome .answer ≡ Ran steps ending
@@ -90,7 +89,7 @@ pub record Ran-as (c : Call) (d : Called) : Type 0 where
 unfoldable pub Completed : Type 0
 Completed =
     (program image cells : List ℕ) (c : Call) (m : Machine) → ask program image cells c ≡ Start m
-    → Ran-as c (called program image cells c)
+    → RanAs c (called program image cells c)
 
 -- "limit 0: no step, same image"
 pub record NoStep (image cells : List ℕ) (d : Called) : Type 0 where

@@ -9,8 +9,7 @@ use lib.ListN.{length, getElem?}
 use Rattle.word.specs.Choice.{if_then_else_}
 use Rattle.machine.specs.Machine.{Machine, State, PSR, psr, userMode}
 use Rattle.machine.specs.Control.{controlAt, protectedCell, protectedByte, CCB-BASE, INT-PEND, DMEM-BOUND-LO, DMEM-BOUND-HI, IMEM-BOUND-LO, IMEM-BOUND-HI}
-use Rattle.machine.specs.declared.Position.{Position}
-use Rattle.image.specs.Image.{Read, Accepted, readImage}
+use Rattle.image.specs.Image.{Accepted, readImage}
 use Rattle.decide.specs.View.{nestedBy}
 use Rattle.apply.specs.Apply.{Transition}
 use Rattle.emulator.specs.Run.{Call, stateOf, transitions}

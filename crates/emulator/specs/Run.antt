@@ -1,5 +1,5 @@
 -- A run call, and lists of run calls on one machine (01 "Machine image", "The packer's stretch"). Assumes nothing.
-use mathlib.Core.Bool.{Bool, true, false, not, _&&_}
+use mathlib.Core.Bool.{not, _&&_}
 use mathlib.Core.List.{List, [], _∷_, _++_}
 use Prim.Native.Nat.{ℕ, zero, suc}
 use lib.ListN.{length, getD}
@@ -33,7 +33,7 @@ run program requests (suc limit) done s =
     t ∷ (if isStop (t .kind) then [] else ts)
 
 -- steps done; "ending (0 limit reached, or stop 11 to 15)"; the state that is left
-pub record End : Type 0 where
+pub record RunResult : Type 0 where
   pub steps : ℕ
   pub ending : ℕ
   pub after : State
@@ -48,15 +48,15 @@ stopNumber (Exception c) = 0
 stopNumber (Stop n) = n
 
 -- where transitions lead: a stop is not a step
-unfoldable pub endOf : (done : ℕ) → State → List Transition → End
-endOf done s [] = record { steps = done; ending = 0; after = s }
-endOf done s (t ∷ ts) =
-    let rest = endOf (suc done) (t .after) ts in
+unfoldable pub resultOf : (done : ℕ) → State → List Transition → RunResult
+resultOf done s [] = record { steps = done; ending = 0; after = s }
+resultOf done s (t ∷ ts) =
+    let rest = resultOf (suc done) (t .after) ts in
     if isStop (t .kind) then record { steps = done; ending = stopNumber (t .kind); after = t .after } else rest
 
 -- how a call ends that has done `done` steps and may do `left` more
-unfoldable pub endFrom : (program requests : List ℕ) (left done : ℕ) → State → End
-endFrom program requests left done s = endOf done s (run program requests left done s)
+unfoldable pub resultFrom : (program requests : List ℕ) (left done : ℕ) → State → RunResult
+resultFrom program requests left done s = resultOf done s (run program requests left done s)
 
 -- ---- the questions: "Asked in order; a no gives the number and does no step"
 
@@ -105,7 +105,7 @@ unfoldable pub calledBy : (program image cells : List ℕ) → Call → Asked �
 calledBy program image cells c (No n) = record { outcome = outcome (Refusal n) (c .buffer) cells; image = image; transitions = [] }
 calledBy program image cells c (Start m) =
     let s = stateOf m cells in
-    let e = endFrom program (c .requests) (c .limit) 0 s in
+    let e = resultFrom program (c .requests) (c .limit) 0 s in
     let left = writeImage (e .after .machine) in
     record {
       outcome = outcome (Ran (e .steps) (e .ending)) (over left (c .buffer)) (e .after .cells);

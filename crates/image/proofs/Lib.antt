@@ -3,3 +3,6 @@ pub mod Tests
 pub mod Formed
 pub mod Sections
 pub mod Image
+pub mod Distinct
+pub mod Reading
+pub mod Writing

@@ -77,6 +77,24 @@ fill-apart w start vs m n e = split-apart start (length vs) m n e (fill-short w 
 
 -- ---- the machine
 
+-- its sections are whole
+module _ (w : List ℕ) (h : length w ≡ WORDS) where
+  pub set1-length : length (machineOf w .set1) ≡ 32
+  unfolding machineOf
+  set1-length = section-length w SET1 32 (omega arith)
+
+  pub set2-length : length (machineOf w .set2) ≡ 32
+  unfolding machineOf
+  set2-length = section-length w SET2 32 (omega arith)
+
+  pub conditions-length : length (machineOf w .conditions) ≡ 8
+  unfolding machineOf
+  conditions-length = section-length w CONDITIONS 8 (omega arith)
+
+  pub control-length : length (machineOf w .control) ≡ 45
+  unfolding machineOf
+  control-length = section-length w CONTROL 45 (omega arith)
+
 -- stores below the stack's count leave the stack
 stack-below : (w : List ℕ) (i : ℕ) (vs : List ℕ) → i + length vs ≤ DEPTH → machineOf (sets w i vs) .stack ≡ machineOf w .stack
 unfolding machineOf
@@ -122,13 +140,13 @@ register-stored w v n false h = set1-stored w v n h
 
 -- a load beyond its registers
 pub control-beyond : (w : List ℕ) (n : ℕ) → length w ≡ WORDS → 45 ≤ n → controlAt (machineOf w) n ≡ 0
-unfolding machineOf
-control-beyond w n h l = List·getD-eq-default (section CONTROL 45 w) 0 (rw (section-length w CONTROL 45 (omega arith)) l)
+control-beyond w n h l = List·getD-eq-default (machineOf w .control) 0 (rw (control-length w h) l)
 
 -- ---- the position
 
 -- the six numbers in their order
-pub position-filled : (w : List ℕ) (p : Position) → length w ≡ WORDS → machineOf (sets w POSITION (p .pc ∷ p .slot ∷ p .target ∷ p .held ∷ p .high ∷ p .low ∷ [])) ≡ withPosition p (machineOf w)
+pub position-filled : (w : List ℕ) (p : Position) → length w ≡ WORDS
+    → machineOf (sets w POSITION (p .pc ∷ p .slot ∷ p .target ∷ p .held ∷ p .high ∷ p .low ∷ [])) ≡ withPosition p (machineOf w)
 unfolding machineOf withPosition positionOf
 position-filled w p h =
     let vs = p .pc ∷ p .slot ∷ p .target ∷ p .held ∷ p .high ∷ p .low ∷ [] in
@@ -234,20 +252,26 @@ in-row w i a b c d =
     rw (p, q, r)
 
 -- four words past the last entry, and a count one above, push an entry
-pub pushed-to : (w : List ℕ) (n : ℕ) (e : Entry) → length w ≡ WORDS → n < 12 → getD w DEPTH 0 ≡ n
-    → let i = ENTRIES + 4 * n in
-    machineOf (set (set (set (set (set w i (e .source)) (i + 1) (e .address)) (i + 2) (e .psr)) (i + 3) (e .c0)) DEPTH (n + 1))
-    ≡ withEntries (e ∷ machineOf w .stack) (machineOf w)
-pushed-to w n e h l q =
-    let i = ENTRIES + 4 * n in
-    let vs = e .source ∷ e .address ∷ e .psr ∷ e .c0 ∷ [] in
-    let k = sets w i vs in
-    let stack : stackOf (suc n) k ≡ e ∷ machineOf w .stack =
-    rw (stack-top n k, fill-in w i vs (omega arith), stack-by n w k (fill-past w ENTRIES (4 * n) i vs (omega arith)), stack-as w n q) in
-    rw (in-row w i (e .source) (e .address) (e .psr) (e .c0), add-one n)
-    (depth-stored k (suc n) (length-sets w i vs ∙ h)
-    ∙ ap (λ es. withEntries es (machineOf k)) stack
-    ∙ fill-entries w i vs (e ∷ machineOf w .stack) (omega arith))
+module _ (w : List ℕ) (n : ℕ) (e : Entry) (h : length w ≡ WORDS) (room : n < 12) (q : getD w DEPTH 0 ≡ n) where
+  abbrev words : List ℕ
+  words = e .source ∷ e .address ∷ e .psr ∷ e .c0 ∷ []
+
+  abbrev after : List ℕ
+  after = sets w (ENTRIES + 4 * n) words
+
+  stack-pushed : stackOf (suc n) after ≡ e ∷ machineOf w .stack
+  stack-pushed =
+      rw (stack-top n after, fill-in w (ENTRIES + 4 * n) words (omega arith))
+      (ap (λ es. e ∷ es) (stack-by n w after (fill-past w ENTRIES (4 * n) (ENTRIES + 4 * n) words (omega arith)) ∙ sym (stack-as w n q)))
+
+  pub pushed-to : let i = ENTRIES + 4 * n in
+      machineOf (set (set (set (set (set w i (e .source)) (i + 1) (e .address)) (i + 2) (e .psr)) (i + 3) (e .c0)) DEPTH (n + 1))
+      ≡ withEntries (e ∷ machineOf w .stack) (machineOf w)
+  pushed-to =
+      rw (in-row w (ENTRIES + 4 * n) (e .source) (e .address) (e .psr) (e .c0), add-one n)
+      (depth-stored after (suc n) (length-sets w (ENTRIES + 4 * n) words ∙ h)
+      ∙ ap (λ es. withEntries es (machineOf after)) stack-pushed
+      ∙ fill-entries w (ENTRIES + 4 * n) words (e ∷ machineOf w .stack) (omega arith))
 
 -- a count one below pops an entry
 pub popped-to : (w : List ℕ) (n : ℕ) → length w ≡ WORDS → getD w DEPTH 0 ≡ suc n → machineOf (set w DEPTH n) ≡ withEntries (popped (machineOf w .stack)) (machineOf w)
@@ -264,7 +288,8 @@ shown-stored w flags top =
     let a = set w (CONTROL + INT-SERV) flags in
     let b = set a (CONTROL + RETI-ADDR) (top .address) in
     let c = set b (CONTROL + RETI-PSR) (top .psr) in
-    rw (control-stored c (top .c0) RETI-CR0 (lit< tt), control-stored b (top .psr) RETI-PSR (lit< tt), control-stored a (top .address) RETI-ADDR (lit< tt), control-stored w flags INT-SERV (lit< tt))
+    rw (control-stored c (top .c0) RETI-CR0 (lit< tt), control-stored b (top .psr) RETI-PSR (lit< tt))
+    (rw (control-stored a (top .address) RETI-ADDR (lit< tt), control-stored w flags INT-SERV (lit< tt)))
 
 pub service-flags : (w : List ℕ) → getD w (CONTROL + INT-SERV) 0 ≡ controlAt (machineOf w) INT-SERV
 unfolding machineOf

@@ -5,13 +5,14 @@ use mathlib.Core.List.{List, [], _∷_}
 use Prim.Native.Nat.{ℕ, zero, suc, _-_, _*_, _/_, _^_, _≤_, _<_}
 use native.Mathlib.Omega.{arith}
 use native.Mathlib.Nat.{not-suc-le-zero}
-use lib.Dec.{ltb, eqb}
+use lib.Dec.{leb, ltb, eqb}
+use lib.Pow.{pow-pos}
 use lib.ListN.{set, List·getD-eq-default}
 use lib.Bits.{bitAnd, and-mask}
-use borrow.Author.Tests.{ltb-true, ltb-false, eqb-true, le-ltb, ne-eqb}
+use borrow.Author.Tests.{ltb-true, ltb-false, eqb-true, le-leb, lt-leb, le-ltb, ne-eqb}
 use Rattle.word.specs.Choice.{if_then_else_}
 use Rattle.word.specs.Flags.{isAmong}
-use Rattle.machine.specs.Control.{Register, registers, registerAt, largest, keptBy, isWritable, storedControl}
+use Rattle.machine.specs.Control.{Register, registers, registerAt, largest, holdsAs, keptBy, isWritable, storedControl}
 
 -- ---- a test of the numbers below k
 
@@ -63,7 +64,10 @@ short = 0x2A ∷ 0x29 ∷ 0x22 ∷ 0x21 ∷ 0x1E ∷ 0x19 ∷ 0x17 ∷ 0x16 ∷ 
 
 pub wide : (n : ℕ) → Avoids short n → 0xFFFF_FFFF ≡ largest (registerAt n)
 unfolding holdsBelow isAmong registerAt registers largest
-wide n h = sym (eqb-true _ _ (otherwise short (λ n. eqb (largest (registerAt n)) 0xFFFF_FFFF) refl (λ n l. ap (λ r. eqb (largest r) 0xFFFF_FFFF) (beyond n l)) n h))
+wide n h =
+    sym
+    (eqb-true _ _
+    (otherwise short (λ n. eqb (largest (registerAt n)) 0xFFFF_FFFF) refl (λ n l. ap (λ r. eqb (largest r) 0xFFFF_FFFF) (beyond n l)) n h))
 
 -- the read-only registers below 28h, the last first
 abbrev pub readOnlys : List ℕ
@@ -86,6 +90,11 @@ writable-below n h = same _ _ (otherwise readOnlys (λ n. Bool·beq (ltb n 0x28)
 pub no-zeros : (n : ℕ) → (n ≡ 0 → ⊥) → registerAt n .zeros ≡ 0
 unfolding holdsBelow isAmong registerAt registers
 no-zeros n h = eqb-true _ _ (otherwise (0 ∷ []) (λ n. eqb (registerAt n .zeros) 0) refl (λ n l. ap (λ r. eqb (r .zeros) 0) (beyond n l)) n (tt, h))
+
+-- no register below FPU_STATUS is a constant
+pub not-constant : (n x : ℕ) → n < 0x2B → holdsAs (registerAt n .access) (registerAt n .reset) x ≡ true
+unfolding holdsBelow registerAt registers holdsAs
+not-constant n x h = holds-at (λ n. holdsAs (registerAt n .access) (registerAt n .reset) x) 0x2B n refl h
 
 -- ---- stores
 
@@ -112,3 +121,14 @@ stored-writable n x l h = rw h
 pub stored-ignored : (n x : ℕ) (l : List ℕ) → isWritable (registerAt n .access) ≡ false → storedControl n x l ≡ l
 unfolding storedControl if_then_else_
 stored-ignored n x l h = rw h
+
+-- ---- question 3
+
+-- x has no more bits than a register
+pub limit-below : (r : Register) (x : ℕ) → leb x (largest r) ≡ ltb x (2 ^ r .width)
+unfolding largest
+limit-below r x = go (ltb x (2 ^ r .width)) refl (pow-pos (r .width))
+  where
+    go : (b : Bool) → ltb x (2 ^ r .width) ≡ b → 0 < 2 ^ r .width → leb x (2 ^ r .width - 1) ≡ b
+    go true e p = let l : x < 2 ^ r .width = ltb-true _ _ e in le-leb x (2 ^ r .width - 1) (omega arith)
+    go false e p = let l : 2 ^ r .width ≤ x = ltb-false _ _ e in lt-leb x (2 ^ r .width - 1) (omega arith)

@@ -74,11 +74,6 @@ const DEPTH: usize = 128;
 
 const ENTRIES: usize = 129;
 
-// The number of words of the longest image.
-pub fn words() -> usize {
-    177
-}
-
 // ---- registers
 
 // Register n of set 1.

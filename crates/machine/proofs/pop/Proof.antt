@@ -8,7 +8,8 @@ use Rattle.machine.specs.Machine.{Machine}
 use Rattle.machine.specs.Stack.{popped, serviceFlags, shownTop}
 use Rattle.machine.specs.Words.{DEPTH, machineOf}
 use Rattle.machine.proofs.Flat.{withEntries, depth-is, service-flags, popped-to, stored-shown}
-use Rattle.machine.proofs.Service.{depth-most, top-below, flags-popped, length-popped}
+use Rattle.machine.proofs.Stack.{depth-most}
+use Rattle.machine.proofs.Service.{top-below, top-cleared, length-popped}
 use borrow.Author.Needs.{needs}
 use Rattle.machine.proofs.pop.Statement.{statement}
 use Rattle.machine.proofs.pop.Tie as tie
@@ -76,7 +77,7 @@ returns c =
     (flags .ensures
     ∙ ap (withoutFlag (e .result .source)) (service-flags w ∙ s .pre .1 .0)
     ∙ ap (λ e. withoutFlag (e .source) (serviceFlags es)) (e .ensures)
-    ∙ flags-popped es (s .pre .1 .1 .0) (s .pre .1 .1 .1))
+    ∙ top-cleared es (s .pre .1 .1 .0) (s .pre .1 .1 .1))
     (rest .ensures ∙ ap (λ (m : Machine). shownTop (m .stack)) k)
     (c .before .before .show .ensures)
 

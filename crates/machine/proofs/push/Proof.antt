@@ -8,7 +8,8 @@ use Rattle.word.specs.Flags.{withFlag}
 use Rattle.machine.specs.Stack.{shownTop}
 use Rattle.machine.specs.Words.{machineOf}
 use Rattle.machine.proofs.Flat.{depth-is, service-flags, pushed-to, stored-shown}
-use Rattle.machine.proofs.Service.{depth-most, flags-pushed, top-below}
+use Rattle.machine.proofs.Stack.{depth-most, flags-pushed}
+use Rattle.machine.proofs.Service.{top-below}
 use borrow.Author.Needs.{needs}
 use Rattle.machine.proofs.push.Statement.{statement}
 use Rattle.machine.proofs.push.Tie as tie
@@ -101,7 +102,7 @@ returns c =
     (flags .result)
     e
     (pushed-to w (n .result) e (s .pre .0) (room (c .before .before .before .before)) (sym (depth-is w) ∙ sym (n .ensures)))
-    (flags .ensures ∙ ap (withFlag (e .source)) (service-flags w ∙ s .pre .1 .0) ∙ flags-pushed e (machineOf w .stack))
+    (flags .ensures ∙ ap (withFlag (e .source)) (service-flags w ∙ s .pre .1 .0) ∙ sym (flags-pushed e (machineOf w .stack)))
     refl
     (c .before .before .show .ensures)
 

@@ -1,0 +1,32 @@
+-- `apply::advance_holding` meets its contract: the halves are words. Assumes nothing.
+use mathlib.Core.Path.{_≡_}
+use Prim.Native.Nat.{_%_, _^_}
+use native.Mathlib.Omega.{arith}
+use Rattle.apply.specs.Apply.{advanceHolding}
+use borrow.Author.Needs.{needs}
+use Rattle.apply.proofs.advance_holding.Statement.{statement}
+use Rattle.apply.proofs.advance_holding.Tie as tie
+
+next-pc-requires : tie.Need-next-pc-requires
+next-pc-requires c κs = search needs
+
+set-position-requires : tie.Need-set-position-requires
+set-position-requires c κs = search needs
+
+same-length : tie.Need-same-length
+same-length c = search needs
+
+returns : tie.Need-returns
+unfolding advanceHolding
+returns c =
+    let c1 = c .before .before in
+    let c2 = c1 .before .before in
+    let c3 = c2 .before .before .before in
+    let a = c3 .args in
+    let h : a .high % 2 ^ 32 ≡ a .high = omega arith in
+    let l : a .low % 2 ^ 32 ≡ a .low = omega arith in
+    rw (← (c2 .next-pc .ensures), h, l) (c1 .set-position .ensures)
+
+pub advance-holding-spec : {M : Type 1} → statement M
+advance-holding-spec =
+    tie.close (tie.spec next-pc-requires set-position-requires same-length returns)

@@ -1,0 +1,47 @@
+-- `apply::interrupt_return` meets its contract: the top is read before it is popped. Assumes nothing.
+use Rattle.machine.specs.Stack.{withStack}
+use Rattle.machine.proofs.Service.{depth-most}
+use Rattle.apply.specs.Apply.{interruptReturn}
+use borrow.Author.Needs.{needs}
+use Rattle.apply.proofs.interrupt_return.Statement.{statement}
+use Rattle.apply.proofs.interrupt_return.Tie as tie
+
+top-requires : tie.Need-top-requires
+top-requires c κs = (search needs, depth-most _ (c .before .before .pre .1 .distinct))
+
+pop-requires : tie.Need-pop-requires
+pop-requires c κs = search needs
+
+set-condition-requires : tie.Need-set-condition-requires
+set-condition-requires c κs = search needs
+
+set-psr-requires : tie.Need-set-psr-requires
+set-psr-requires c κs = search needs
+
+go-to-requires : tie.Need-go-to-requires
+go-to-requires c κs = search needs
+
+same-length : tie.Need-same-length
+same-length c = search needs
+
+returns : tie.Need-returns
+unfolding interruptReturn withStack
+returns c =
+    let c1 = c .before .before in
+    let c2 = c1 .before .before .before .before in
+    let c3 = c2 .before .before .before .before in
+    let c4 = c3 .before .before .before .before in
+    let c5 = c4 .before .before in
+    rw (c1 .go-to .ensures, c2 .set-psr .ensures, c3 .set-condition .ensures, c4 .pop .ensures, c5 .top .ensures)
+
+pub interrupt-return-spec : {M : Type 1} → statement M
+interrupt-return-spec =
+    tie.close
+    (tie.spec
+    top-requires
+    pop-requires
+    set-condition-requires
+    set-psr-requires
+    go-to-requires
+    same-length
+    returns)

@@ -1,0 +1,30 @@
+-- `apply::jump_to` meets its contract: the target is a word. Assumes nothing.
+use mathlib.Core.Path.{_≡_}
+use Prim.Native.Nat.{_%_, _^_}
+use native.Mathlib.Omega.{arith}
+use Rattle.apply.specs.Apply.{jumpTo}
+use borrow.Author.Needs.{needs}
+use Rattle.apply.proofs.jump_to.Statement.{statement}
+use Rattle.apply.proofs.jump_to.Tie as tie
+
+next-pc-requires : tie.Need-next-pc-requires
+next-pc-requires c κs = search needs
+
+set-position-requires : tie.Need-set-position-requires
+set-position-requires c κs = search needs
+
+same-length : tie.Need-same-length
+same-length c = search needs
+
+returns : tie.Need-returns
+unfolding jumpTo
+returns c =
+    let c1 = c .before .before in
+    let c2 = c1 .before .before in
+    let c3 = c2 .before .before .before in
+    let a = c3 .args in
+    let t : a .target % 2 ^ 32 ≡ a .target = omega arith in
+    rw (← (c2 .next-pc .ensures), t) (c1 .set-position .ensures)
+
+pub jump-to-spec : {M : Type 1} → statement M
+jump-to-spec = tie.close (tie.spec next-pc-requires set-position-requires same-length returns)

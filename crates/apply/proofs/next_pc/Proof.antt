@@ -1,0 +1,26 @@
+-- `apply::next_pc` meets its contract. Assumes nothing.
+use mathlib.Core.Path.{sym, _∙_}
+use Rattle.machine.specs.Words.{machineOf}
+use Rattle.apply.proofs.Position.{in-slot, no-slot}
+use borrow.Author.Needs.{needs}
+use Rattle.apply.proofs.next_pc.Statement.{statement}
+use Rattle.apply.proofs.next_pc.Tie as tie
+
+slot-requires : tie.Need-slot-requires
+slot-requires c κs = search needs
+
+target-requires : tie.Need-target-requires
+target-requires c κs = search needs
+
+words-on-requires : tie.Need-words-on-requires
+words-on-requires c κs = search needs
+
+returns : tie.Need-returns
+returns c = let m = machineOf (c .before .before .before .before .args .w .now) in c .target .ensures ∙ sym (in-slot m (sym (c .before .before .slot .ensures) ∙ c .before .if1 .taken))
+
+returns-2 : tie.Need-returns-2
+returns-2 c = let m = machineOf (c .before .before .before .before .args .w .now) in c .words-on .ensures ∙ sym (no-slot m (λ e. c .before .if1 .left (c .before .before .slot .ensures ∙ e)))
+
+pub next-pc-spec : {M : Type 1} → statement M
+next-pc-spec =
+    tie.close (tie.spec slot-requires target-requires words-on-requires returns returns-2)

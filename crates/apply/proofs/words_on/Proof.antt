@@ -1,0 +1,65 @@
+-- `apply::words_on` meets its contract, by the words' length. Assumes nothing.
+use Rattle.isa.specs.Operation.{widthBy}
+use Rattle.isa.specs.Decode.{bytesOf}
+use Rattle.machine.specs.Machine.{wideWords, widthOf}
+use Rattle.apply.specs.Apply.{wordsOn}
+use borrow.Author.Needs.{needs}
+use Rattle.apply.proofs.words_on.Statement.{statement}
+use Rattle.apply.proofs.words_on.Tie as tie
+
+psr-requires : tie.Need-psr-requires
+psr-requires c κs = search needs
+
+has-flag-requires : tie.Need-has-flag-requires
+has-flag-requires c κs = search needs
+
+pc-requires : tie.Need-pc-requires
+pc-requires c κs = search needs
+
+mul-wrapping-add-u32 : tie.Need-mul-wrapping-add-u32
+mul-wrapping-add-u32 c = search needs
+
+wrapping-add-u32-requires : tie.Need-wrapping-add-u32-requires
+wrapping-add-u32-requires c κs = search needs
+
+pc-requires-2 : tie.Need-pc-requires-2
+pc-requires-2 c κs = search needs
+
+mul-wrapping-add-u32-2 : tie.Need-mul-wrapping-add-u32-2
+mul-wrapping-add-u32-2 c = search needs
+
+wrapping-add-u32-requires-2 : tie.Need-wrapping-add-u32-requires-2
+wrapping-add-u32-requires-2 c κs = search needs
+
+returns : tie.Need-returns
+unfolding wordsOn widthOf wideWords widthBy bytesOf
+returns c =
+    let c1 = c .before in
+    let c2 = c1 .before in
+    let c3 = c2 .before in
+    let c4 = c3 .before in
+    rw (← (c4 .psr .ensures), ← (c3 .has-flag .ensures), c2 .if1 .taken, ← (c1 .pc .ensures)) (c .wrapping-add-u32 .ensures)
+
+returns-2 : tie.Need-returns-2
+unfolding wordsOn widthOf wideWords widthBy bytesOf
+returns-2 c =
+    let c1 = c .before in
+    let c2 = c1 .before in
+    let c3 = c2 .before in
+    let c4 = c3 .before in
+    rw (← (c4 .psr .ensures), ← (c3 .has-flag .ensures), c2 .if1 .left, ← (c1 .pc2 .ensures)) (c .wrapping-add-u322 .ensures)
+
+pub words-on-spec : {M : Type 1} → statement M
+words-on-spec =
+    tie.close
+    (tie.spec
+    psr-requires
+    has-flag-requires
+    pc-requires
+    mul-wrapping-add-u32
+    wrapping-add-u32-requires
+    pc-requires-2
+    mul-wrapping-add-u32-2
+    wrapping-add-u32-requires-2
+    returns
+    returns-2)

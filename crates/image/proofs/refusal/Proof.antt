@@ -1,0 +1,46 @@
+-- `refusal` meets its contract: the first no decides. Assumes nothing.
+use mathlib.Core.Path.{sym, _∙_}
+use borrow.Author.Needs.{needs}
+use Rattle.image.proofs.Reading.{refused-3, refused-4, refused-5, accepted}
+use Rattle.image.proofs.refusal.Statement.{statement}
+use Rattle.image.proofs.refusal.Tie as tie
+
+numbers-fit-requires : tie.Need-numbers-fit-requires
+numbers-fit-requires c κs = search needs
+
+modes-fit-requires : tie.Need-modes-fit-requires
+modes-fit-requires c κs = search needs
+
+stack-fits-requires : tie.Need-stack-fits-requires
+stack-fits-requires c κs = search needs
+
+returns : tie.Need-returns
+returns c = let asked = c .before .before .before in
+    accepted _ (sym (asked .before .before .numbers-fit .ensures) ∙ c .before .before .if1 .taken)
+    (sym (asked .before .modes-fit .ensures) ∙ c .before .if2 .taken) (sym (asked .stack-fits .ensures) ∙ c .if3 .taken)
+
+returns-2 : tie.Need-returns-2
+returns-2 c = let asked = c .before .before .before in
+    refused-5 _ (sym (asked .before .before .numbers-fit .ensures) ∙ c .before .before .if1 .taken)
+    (sym (asked .before .modes-fit .ensures) ∙ c .before .if2 .taken) (sym (asked .stack-fits .ensures) ∙ c .if3 .left)
+
+returns-3 : tie.Need-returns-3
+returns-3 c = let asked = c .before .before in
+    refused-4 _ (sym (asked .before .before .numbers-fit .ensures) ∙ c .before .if1 .taken)
+    (sym (asked .before .modes-fit .ensures) ∙ c .if2 .left)
+
+returns-4 : tie.Need-returns-4
+returns-4 c = refused-3 _ (sym (c .before .before .before .numbers-fit .ensures) ∙ c .if1 .left)
+
+pub refusal-spec : {M : Type 1} → statement M
+refusal-spec =
+    tie.close
+    (tie.spec
+    numbers-fit-requires
+    modes-fit-requires
+    stack-fits-requires
+    returns
+    returns-2
+    returns-3
+    returns-4)
+
