@@ -9,3 +9,4 @@ pub mod Formed
 pub mod Urgency
 pub mod Requests
 pub mod Entered
+pub mod Transitions

@@ -1,19 +1,32 @@
 // One step: requests, an interrupt accepted, or an instruction.
 ghost use mathlib.Core.Path.{_≡_};
 ghost use mathlib.Core.Bool.{true, false};
-ghost use Prim.Native.Nat.{_≤_, _<_};
+ghost use mathlib.Core.List.{List};
+ghost use Prim.Native.Nat.{ℕ, _≤_, _<_};
 ghost use lib.ListN.{length};
 ghost use Rattle.word.specs.Flags.{isAmong};
-ghost use Rattle.machine.specs.Control.{controlAt, INT-SERV};
+ghost use Rattle.machine.specs.Machine.{psr, widthOf};
 ghost use Rattle.machine.specs.Stack.{sourcesOf};
 ghost use Rattle.machine.specs.Words.{WORDS, machineOf};
 ghost use Rattle.image.specs.Questions.{wellFormed};
-ghost use Rattle.step.specs.Interrupt.{addRequests, priority, candidate, servicePsr, entryFor, accept};
-ghost use Rattle.step.specs.Step.{isStop};
+ghost use Rattle.decide.specs.View.{viewOf};
+ghost use Rattle.decide.specs.Decide.{decide};
+ghost use Rattle.apply.specs.Apply.{stateOf, transitionOf};
+ghost use Rattle.step.specs.Interrupt.{addRequests, priority, candidate, isMulhi, mayAccept, acceptedSource, servicePsr, entryFor, accept};
+ghost use Rattle.step.specs.Step.{isStop, step};
 ghost use Rattle.step.specs.Search.{sourceNumber, waiting, mostUrgent, serviceFloor};
 use apply::Kind;
+use decide::Fetched;
 use machine::Entry;
 use machine::Position;
+
+// Bits of PSR (002 section 2.4): 32-bit words, interrupts enabled.
+const IL: u32 = 3;
+
+const IE: u32 = 4;
+
+// The operation mulhi.
+const MULHI: u32 = 31;
 
 // The control registers that a step names, by their offsets.
 const INT_VECTORS: u32 = 0x04;
@@ -106,6 +119,70 @@ fn candidate(w: &[u32]) -> u32
     most_urgent(w, waiting(w), service_floor(w))
 }
 
+// ---- when one is accepted
+
+//STUB
+fn fetch(program: &[u8], w: &[u32]) -> decide::Fetched
+    requires { ⌜ length (now w) ≡ WORDS ⌝ }
+    ensures { λ r. ⌜ ((cells : List ℕ) → r ≡ viewOf (now (program .entry)) (now (w .entry)) cells .fetched) ⌝ }
+{
+    decide::Fetched::Absent
+}
+
+//STUB
+fn decide(program: &[u8], w: &[u32], cells: &[u32]) -> decide::Effect
+    requires { ⌜ (length (now w) ≡ WORDS) × (length (now program) ≤ 65536) ⌝ }
+    ensures { λ r. ⌜ r ≡ decide (viewOf (now (program .entry)) (now (w .entry)) (now (cells .entry))) ⌝ }
+{
+    decide::Effect::Next
+}
+//STUBEND
+
+// The next word, with no 05h, 00h or stop 11 for it, is mulhi.
+fn next_is_mulhi(program: &[u8], w: &[u32]) -> bool
+    requires { ⌜ length (now w) ≡ WORDS ⌝ }
+    ensures { λ r. ⌜ ((cells : List ℕ) → r ≡ isMulhi (widthOf (psr (machineOf (now (w .entry))))) (viewOf (now (program .entry)) (now (w .entry)) cells .fetched)) ⌝ }
+{
+    let fetched = fetch(program, w);
+    match fetched {
+        Fetched::Word(word) => isa::opcode(word, word::has_flag(machine::psr(w), IL)) == MULHI,
+        Fetched::Fault(_) => false,
+        Fetched::Absent => false,
+    }
+}
+
+// IE is 1, no branch slot waits, and not (a product is held and the next word is mulhi).
+fn may_accept(program: &[u8], w: &[u32]) -> bool
+    requires { ⌜ length (now w) ≡ WORDS ⌝ }
+    ensures { λ r. ⌜ ((cells : List ℕ) → r ≡ mayAccept (viewOf (now (program .entry)) (now (w .entry)) cells)) ⌝ }
+{
+    if word::has_flag(machine::psr(w), IE) {
+        if machine::slot(w) == 1 {
+            false
+        } else if machine::held(w) == 1 {
+            !next_is_mulhi(program, w)
+        } else {
+            true
+        }
+    } else {
+        false
+    }
+}
+
+// The source accepted in this step.
+fn accepted_source(program: &[u8], w: &[u32]) -> u32
+    requires { ⌜ (length (now w) ≡ WORDS) × (wellFormed (machineOf (now w)) ≡ true) ⌝ }
+    ensures { λ r. ⌜ ((cells : List ℕ) → r ≡ sourceNumber (acceptedSource (viewOf (now (program .entry)) (now (w .entry)) cells) (machineOf (now (w .entry))))) ⌝ }
+{
+    if waiting(w) == 0 {
+        SOURCES
+    } else if may_accept(program, w) {
+        candidate(w)
+    } else {
+        SOURCES
+    }
+}
+
 // ---- acceptance
 
 // PSR of a service routine: IE 0; IL and UM by the mode registers; both set bits 1 for super user, else 0.
@@ -174,4 +251,24 @@ fn is_stop(k: Kind) -> bool
         Kind::Exception(_) => false,
         Kind::Stop(_) => true,
     }
+}
+
+// One step with its requests; or a stop, which leaves everything as before it.
+pub fn step(program: &[u8], w: &mut [u32], cells: &mut [u32], requests: u32) -> Kind
+    requires { ⌜ (length (now w) ≡ WORDS) × (length (now program) ≤ 65536) × (wellFormed (machineOf (now w)) ≡ true) ⌝ }
+    ensures { λ r. ⌜ transitionOf r (now (w .exit)) (now (cells .exit)) ≡ step (now (program .entry)) (stateOf (now (w .entry)) (now (cells .entry))) requests ⌝ }
+{
+    let pending = machine::control(w, INT_PEND);
+    add_requests(w, requests);
+    let n = accepted_source(program, w);
+    if n < SOURCES {
+        accept(w, n);
+        return Kind::Interrupt;
+    }
+    let e = decide(program, w, cells);
+    let k = apply::apply(e, w, cells);
+    if is_stop(k) {
+        machine::set_control(w, INT_PEND, pending);
+    }
+    k
 }
