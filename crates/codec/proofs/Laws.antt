@@ -183,7 +183,7 @@ four-stores s at a b c d h =
     rw (e1, e2, e3) (sets-eq (a ∷ b ∷ c ∷ d ∷ []) s at h)
 
 -- what is stored just after a front lengthens it
-stored-over : (front s t : List ℕ) (at : ℕ) → length front ≡ at → stored (over front s) at t ≡ over (front ++ t) s
+pub stored-over : (front s t : List ℕ) (at : ℕ) → length front ≡ at → stored (over front s) at t ≡ over (front ++ t) s
 stored-over front s t at e =
     ap (λ (k : ℕ). stored (over front s) k t) (sym e)
     ∙ ap (λ (u : List ℕ). u ++ t ++ drop (length front + length t) (over front s)) (take-over front s)

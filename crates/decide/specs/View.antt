@@ -12,6 +12,7 @@ use Rattle.isa.specs.Operation.{Width}
 use Rattle.isa.specs.Decode.{bytesOf}
 use Rattle.machine.specs.Machine.{Machine, State, psr, userMode, readsSet2, writesSet2, widthOf, setBy}
 use Rattle.machine.specs.Control.{controlAt, within, CCB-BASE, DMEM-BOUND-LO, DMEM-BOUND-HI, IMEM-BOUND-LO, IMEM-BOUND-HI}
+use Rattle.machine.specs.Words.{machineOf}
 use Rattle.machine.specs.declared.Position.{Position}
 use Rattle.decide.specs.declared.Fetched.{Fetched}
 use Rattle.decide.specs.declared.Fetched.the-variants.{Word, Fault, Absent}
@@ -100,3 +101,7 @@ view program s =
       load = λ a. heldAt s (place a);
       closed = λ a. userMode q && anyWithin (controlAt m IMEM-BOUND-LO) (controlAt m IMEM-BOUND-HI) a n;
     }
+
+-- the view of the machine that words hold
+abbrev pub viewOf : (program words cells : List ℕ) → View
+viewOf program words cells = view program (record { machine = machineOf words; cells = cells })

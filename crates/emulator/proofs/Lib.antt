@@ -1,11 +1,15 @@
 -- Laws of the run call.
+
+-- isolation, layer by layer: updates in user mode, states, views, one transition
 pub mod User
 pub mod States
 pub mod Views
 pub mod Unwinding
+-- the run call: its loop, the numbers of stops, what it leaves, what it answers
 pub mod Loop
 pub mod Stops
 pub mod Closed
 pub mod Answers
+-- isolation, and a worked pair that it applies to
 pub mod Isolation
 pub mod Example

@@ -6,7 +6,7 @@ use Prim.Native.Nat.{ℕ, _+_, _%_, _^_, _≤_}
 use native.Mathlib.Omega.{arith}
 use lib.ListN.{length, getElem?}
 use Rattle.word.specs.Arithmetic.{orOf}
-use Rattle.machine.specs.Machine.{State, psr, withControl}
+use Rattle.machine.specs.Machine.{State, psr, userMode, withControl}
 use Rattle.machine.specs.Control.{controlAt, protectedCell, CCB-BASE, INT-PEND, DMEM-BOUND-LO, DMEM-BOUND-HI, IMEM-BOUND-LO, IMEM-BOUND-HI}
 use Rattle.machine.proofs.Lists.{at-set-other, same-getD}
 use Rattle.decide.specs.View.{nestedBy}
@@ -19,6 +19,9 @@ pub record Mode (s : State) : Type 0 where
   pub user : User (s .machine)
   pub blockLow : controlAt (s .machine) DMEM-BOUND-LO ≤ controlAt (s .machine) CCB-BASE
   pub blockHigh : controlAt (s .machine) CCB-BASE + 255 ≤ controlAt (s .machine) DMEM-BOUND-HI
+
+pub mode-user : {s : State} → Mode s → userMode (psr (s .machine)) ≡ true
+mode-user {s} i = user-bit (psr (s .machine)) (i .user .status)
 
 -- ---- what is kept
 
@@ -110,7 +113,7 @@ requests-kept q s i =
       control = λ n h. at-set-other (s .machine .control) INT-PEND n (orOf (controlAt (s .machine) INT-PEND) q % 2 ^ 12) h;
       stack = refl;
       cells = λ a h. refl;
-      user = user-bit (psr (s .machine)) (i .user .status);
+      user = mode-user i;
     }
 
 pub requests-mode : (q : ℕ) (s : State) → Mode s → Mode (withRequests q s)

@@ -8,7 +8,7 @@ use native.Mathlib.Omega.{arith}
 use lib.ListN.{length-set}
 use Rattle.word.specs.Choice.{if_then_else_}
 use Rattle.word.proofs.Tests.{if-false}
-use Rattle.machine.specs.Machine.{Machine, State, LINK, psr, userMode}
+use Rattle.machine.specs.Machine.{Machine, State, LINK, userMode}
 use Rattle.machine.specs.Control.{controlAt, within, protectedCell, DMEM-BOUND-LO, DMEM-BOUND-HI, IMEM-BOUND-LO, IMEM-BOUND-HI}
 use Rattle.machine.proofs.Lists.{at-set-other, at-set-same}
 use Rattle.decide.specs.View.{View, view}
@@ -23,8 +23,8 @@ use Rattle.apply.specs.declared.Kind.the-variants as kind
 use Rattle.step.specs.Interrupt.{withRequests, acceptedSource}
 use Rattle.step.specs.Step.{isStop, interruptOr, step}
 use Rattle.emulator.specs.Isolation.{Kept, isExit, isPreemption}
-use Rattle.emulator.proofs.User.{Confined, user-bit, confined-then, confined-conditions, register-confined, flags-confined, words-public, advance-confined, holding-confined, jump-confined, enable-confined, switch-confined}
-use Rattle.emulator.proofs.States.{Mode, Low, kept-control, kept-trans, guarded-kept, mode-later, low-alike, low-later, requests-kept, requests-mode, requests-low}
+use Rattle.emulator.proofs.User.{Confined, confined-then, confined-conditions, register-confined, result-confined, flags-confined, words-public, advance-confined, holding-confined, jump-confined, enable-confined, switch-confined}
+use Rattle.emulator.proofs.States.{Mode, Low, mode-user, kept-control, kept-trans, guarded-kept, mode-later, low-alike, low-later, requests-kept, requests-mode, requests-low}
 use Rattle.emulator.proofs.Views.{SameBytes, no-block, view-same}
 
 -- ---- what an effect is in user mode
@@ -37,24 +37,24 @@ data Course (low high : ℕ) (e : Effect) : Type 0 where
 
 no-super : (p : List ℕ) (s : State) → Mode s → userMode (view p s .status) ≡ false → ⊥
 unfolding view
-no-super p s i e = true≢false (sym (user-bit (psr (s .machine)) (i .user .status)) ∙ e)
+no-super p s i e = true≢false (sym (mode-user i) ∙ e)
 
 course : (p : List ℕ) (s : State) → Mode s → (e : Effect) → Safe (view p s) e → Course (controlAt (s .machine) DMEM-BOUND-LO) (controlAt (s .machine) DMEM-BOUND-HI) e
 unfolding apply isExit machineOnly
 course p s i (Stopped n) h = exits (kind.Stop n) refl (λ s. refl)
 course p s i (Raised c) h = exits (kind.Exception c) refl (λ s. refl)
 course p s i Next h = updates advance-confined (λ s. refl)
-course p s i (Result d x) h = updates (confined-then (register-confined d (λ m. x) (λ m n u v a. refl)) advance-confined) (λ s. refl)
+course p s i (Result d x) h = updates (confined-then (result-confined d x) advance-confined) (λ s. refl)
 course p s i (ResultFlags d x f) h =
-    updates (confined-then (confined-then (register-confined d (λ m. x) (λ m n u v a. refl)) (flags-confined 0 f)) advance-confined) (λ s. refl)
-course p s i (ResultProduct d hi lo) h = updates (confined-then (register-confined d (λ m. lo) (λ m n u v a. refl)) (holding-confined hi lo)) (λ s. refl)
+    updates (confined-then (confined-then (result-confined d x) (flags-confined 0 f)) advance-confined) (λ s. refl)
+course p s i (ResultProduct d hi lo) h = updates (confined-then (result-confined d lo) (holding-confined hi lo)) (λ s. refl)
 course p s i (Compare c f) h = updates (confined-then (flags-confined c f) advance-confined) (λ s. refl)
 course p s i (Conditions x) h = updates (confined-then (confined-conditions (λ m. unpacked 8 x) (λ m n u v a. refl)) advance-confined) (λ s. refl)
 course p s i (StoreControl n x) h =
     let b = reached-block p s n h in
-    absurd (no-block _ _ _ n (i .blockLow) (i .blockHigh) (b .offset) (b .unprotected (user-bit (psr (s .machine)) (i .user .status))))
+    absurd (no-block _ _ _ n (i .blockLow) (i .blockHigh) (b .offset) (b .unprotected (mode-user i)))
 course p s i (StoreCell a x) h =
-    stores a x (reached-cell p s a h .unprotected (user-bit (psr (s .machine)) (i .user .status))) (λ s. refl)
+    stores a x (reached-cell p s a h .unprotected (mode-user i)) (λ s. refl)
 course p s i (Jump t) h = updates (jump-confined t) (λ s. refl)
 course p s i (JumpLink t) h = updates (confined-then (register-confined LINK (wordsOn 2) (words-public 2)) (jump-confined t)) (λ s. refl)
 course p s i (EnableInterrupts e) h = updates (enable-confined e) (λ s. refl)

@@ -138,6 +138,9 @@ register-confined d x p =
     confined-as (λ m u. if-false _ _ _ (write-bit (psr m) (u .status)))
     (confined-set1 (λ m. set (m .set1) (d % 32) (x m % 2 ^ 32)) (λ m n u v a. cc (a .set1, p m n u v a)))
 
+pub result-confined : (d x : ℕ) → Confined (writeRegister d x)
+result-confined d x = register-confined d (λ m. x) (λ m n u v a. refl)
+
 pub flags-confined : (c flags : ℕ) → Confined (writeFlags c flags)
 unfolding writeFlags
 flags-confined c flags = confined-conditions (λ m. set (m .conditions) (c % 8) (flags % 8)) (λ m n u v a. ap (λ l. set l (c % 8) (flags % 8)) (a .conditions))

@@ -18,8 +18,8 @@ use Rattle.decide.specs.View.{anyWithin, byteThen, bytesAt, fetchAt, inBlock, p
 use Rattle.decide.specs.declared.Place.{Place}
 use Rattle.decide.specs.declared.Place.the-variants.{Block, Cell, Refused, Missing}
 use Rattle.step.proofs.Addresses.{place-cell, place-block}
-use Rattle.emulator.proofs.User.{user-bit, read-bit, write-bit}
-use Rattle.emulator.proofs.States.{Mode, Low}
+use Rattle.emulator.proofs.User.{read-bit, write-bit}
+use Rattle.emulator.proofs.States.{Mode, Low, mode-user}
 
 -- ---- program memory
 
@@ -93,8 +93,8 @@ unfolding view
 view-same p q s t i j l h =
     let m = s .machine in
     let n = t .machine in
-    let um : userMode (psr m) ≡ true = user-bit (psr m) (i .user .status) in
-    let un : userMode (psr n) ≡ true = user-bit (psr n) (j .user .status) in
+    let um : userMode (psr m) ≡ true = mode-user i in
+    let un : userMode (psr n) ≡ true = mode-user j in
     let fetched : view p s .fetched ≡ view q t .fetched =
     cc (fetch-same _ _ p q h (bytesOf (widthOf (psr m))) (m .position .pc), um, un, l .shown .status, l .imemLow, l .imemHigh, l .shown .position) in
     let source : (x : ℕ) → view p s .source x ≡ view q t .source x = λ x.

@@ -1,0 +1,83 @@
+-- `ran_line` meets its contract: each number is written just after those before it. Assumes nothing.
+use Prim.Native.Nat.{_≤_}
+use native.Mathlib.Omega.{arith}
+use Rattle.console.proofs.Digits.{places-few}
+use Rattle.console.proofs.Lines.{ran-line}
+use borrow.Author.Needs.{needs}
+use Rattle.console.proofs.ran_line.Statement.{statement}
+use Rattle.console.proofs.ran_line.Tie as tie
+
+-- no number has more than ten digits
+few : (c : tie.After-places2) → (c .before .places .result ≤ 10) × (c .places2 .result ≤ 10)
+few c =
+    let start = c .before .before in (
+      omega (arith, c .before .places .ensures, places-few (start .args .steps) (start .fits .steps .fits)),
+      omega (arith, c .places2 .ensures, places-few (start .args .ending) (start .fits .ending .fits)),
+    )
+
+places-requires : tie.Need-places-requires
+places-requires c κs = search needs
+
+places-requires-2 : tie.Need-places-requires-2
+places-requires-2 c κs = search needs
+
+slice-aggregate-put-number : tie.Need-slice-aggregate-put-number
+slice-aggregate-put-number c = search needs
+
+put-number-requires : tie.Need-put-number-requires
+put-number-requires c κs = omega (arith, few (c .before))
+
+slice-aggregate-put-number-2 : tie.Need-slice-aggregate-put-number-2
+slice-aggregate-put-number-2 c = search needs
+
+add-put-number : tie.Need-add-put-number
+add-put-number c = omega (arith, few (c .before .before .before .before))
+
+put-number-requires-2 : tie.Need-put-number-requires-2
+put-number-requires-2 c κs = omega (arith, few (c .before .before .before .before))
+
+slice-aggregate-put-number-3 : tie.Need-slice-aggregate-put-number-3
+slice-aggregate-put-number-3 c = search needs
+
+add-put-number-2 : tie.Need-add-put-number-2
+add-put-number-2 c = omega (arith, few (c .before .before .before .before .before .before .before))
+
+add-put-number-3 : tie.Need-add-put-number-3
+add-put-number-3 c = omega (arith, few (c .before .before .before .before .before .before .before))
+
+put-number-requires-3 : tie.Need-put-number-requires-3
+put-number-requires-3 c κs = omega (arith, few (c .before .before .before .before .before .before .before))
+
+add-t12 : tie.Need-add-t12
+add-t12 c = omega (arith, few (c .before .before .before .before .before .before .before .before .before))
+
+add-t15 : tie.Need-add-t15
+add-t15 c = omega (arith, few (c .before .before .before .before .before .before .before .before .before))
+
+returns : tie.Need-returns
+returns c =
+    let counted = c .before .before .before .before .before .before .before .before .before in
+    let args = counted .before .before .args in
+    ran-line (c .before .before .before .before .before .before .before .put-number .last .0) (c .before .before .before .before .put-number2 .last .0) (c .before .put-number3 .last .0)
+    (counted .before .places .result) (counted .places2 .result) (args .steps) (args .ending) (args .pc)
+    (counted .before .places .ensures) (counted .places2 .ensures)
+    (c .before .before .before .before .before .before .before .put-number .ensures) (c .before .before .before .before .put-number2 .ensures) (c .before .put-number3 .ensures)
+
+pub ran-line-spec : {M : Type 1} → statement M
+ran-line-spec =
+    tie.close
+    (tie.spec
+    places-requires
+    places-requires-2
+    slice-aggregate-put-number
+    put-number-requires
+    slice-aggregate-put-number-2
+    add-put-number
+    put-number-requires-2
+    slice-aggregate-put-number-3
+    add-put-number-2
+    add-put-number-3
+    put-number-requires-3
+    add-t12
+    add-t15
+    returns)

@@ -1,0 +1,4 @@
+-- The text of the run program.
+pub mod Digits
+pub mod Limit
+pub mod Line

@@ -1,0 +1,155 @@
+-- The bytes of an instruction word: which are protected, which are there. Assumes nothing.
+use mathlib.Core.Path.{_≡_, refl, sym}
+use mathlib.Core.Bool.{Bool, true, false, not, _&&_, _||_}
+use mathlib.Core.List.{List, [], _∷_}
+use mathlib.Core.Option.{Option, none, some}
+use Prim.Native.Nat.{ℕ, zero, suc, _+_, _-_, _*_, _%_, _^_, _≤_, _<_}
+use native.Mathlib.Nat.{zero-mul, zero-add}
+use native.Mathlib.Numerals.{towards-suc}
+use native.Mathlib.Omega.{arith}
+use lib.Dec.{leb, ltb, eqb}
+use lib.ListN.{length, getD, getElem?}
+use borrow.Author.Tests.{leb-true, leb-false, le-leb, lt-leb, ltb-true, ltb-false}
+use Rattle.word.specs.Choice.{if_then_else_}
+use Rattle.codec.specs.Number.{numberAt}
+use Rattle.isa.specs.Operation.{Width, w16, w32}
+use Rattle.isa.specs.Decode.{bytesOf}
+use Rattle.machine.specs.Control.{within}
+use Rattle.decide.specs.View.{anyWithin, byteThen, bytesAt, fetchAt}
+use Rattle.decide.specs.declared.Fetched.{Fetched}
+use Rattle.decide.specs.declared.Fetched.the-variants.{Word, Fault, Absent}
+
+-- ---- protection
+
+-- the addresses from a to a + n meet the bounds
+some-within : (low high a n : ℕ) → low ≤ high → low ≤ a + n → a ≤ high → anyWithin low high a (suc n) ≡ true
+unfolding anyWithin within
+some-within low high a zero h l k = let e : low ≤ a = omega arith in simp (le-leb low a e, le-leb a high k)
+some-within low high a (suc n) h l k = go (leb low a) refl (some-within low high (suc a) n h)
+  where
+    go : (b : Bool) → leb low a ≡ b → (low ≤ suc a + n → suc a ≤ high → anyWithin low high (suc a) (suc n) ≡ true) → anyWithin low high a (suc (suc n)) ≡ true
+    go true e later = simp (e, le-leb a high k)
+    go false e later = let f : a < low = leb-false low a e in rw e (later (omega arith) (omega arith))
+
+-- none of them is within the bounds
+none-within : (low high a n : ℕ) → ((x : ℕ) → a ≤ x → x < a + n → within low high x ≡ false) → anyWithin low high a n ≡ false
+unfolding anyWithin
+none-within low high a zero f = refl
+none-within low high a (suc n) f =
+    rw (f a (omega arith) (omega arith)) (none-within low high (suc a) n (λ x l h. f x (omega arith) (omega arith)))
+
+below-bounds : (low high x : ℕ) → x < low → within low high x ≡ false
+unfolding within
+below-bounds low high x h = rw (lt-leb low x h)
+
+above-bounds : (low high x : ℕ) → high < x → within low high x ≡ false
+unfolding within
+above-bounds low high x h = rw (lt-leb x high h) (either (leb low x))
+  where
+    either : (b : Bool) → b && false ≡ false
+    either true = refl
+    either false = refl
+
+-- one of n addresses is within bounds exactly where the two ranges overlap
+pub overlap : (low high a n : ℕ) → 0 < n → (leb low high && leb low (a + (n - 1))) && leb a high ≡ anyWithin low high a n
+overlap low high a zero p = absurd (omega arith)
+overlap low high a (suc n) p = go (leb low high) refl (leb low (a + (suc n - 1))) refl (leb a high) refl
+  where
+    go : (b : Bool) → leb low high ≡ b → (c : Bool) → leb low (a + (suc n - 1)) ≡ c → (d : Bool) → leb a high ≡ d
+        → (b && c) && d ≡ anyWithin low high a (suc n)
+    go true e true f true g =
+        let h = leb-true low high e in
+        let l = leb-true low (a + (suc n - 1)) f in
+        sym (some-within low high a n h (omega arith) (leb-true a high g))
+    go true e true f false g =
+        let h = leb-false a high g in
+        sym (none-within low high a (suc n) (λ x l k. above-bounds low high x (omega arith)))
+    go true e false f d g =
+        let h = leb-false low (a + (suc n - 1)) f in
+        sym (none-within low high a (suc n) (λ x l k. below-bounds low high x (omega arith)))
+    go false e c f d g =
+        let h = leb-false low high e in
+        sym (none-within low high a (suc n) (λ x l k. apart x (ltb x low) refl))
+      where
+        apart : (x : ℕ) (b : Bool) → ltb x low ≡ b → within low high x ≡ false
+        apart x true t = below-bounds low high x (ltb-true x low t)
+        apart x false t = let k = ltb-false x low t in let h = leb-false low high e in above-bounds low high x (omega arith)
+
+-- ---- presence
+
+element-there : (l : List ℕ) (i : ℕ) → i < length l → getElem? l i ≡ some (getD l i 0)
+element-there [] i h = absurd (omega arith)
+element-there (x ∷ l) zero h = refl
+element-there (x ∷ l) (suc i) h = element-there l i (omega arith)
+
+element-absent : (l : List ℕ) (i : ℕ) → length l ≤ i → getElem? l i ≡ none
+element-absent [] i h = refl
+element-absent (x ∷ l) zero h = absurd (omega arith)
+element-absent (x ∷ l) (suc i) h = element-absent l i (omega arith)
+
+-- the number of n bytes from a on, below those of w
+unfoldable pub bytesFrom : (program : List ℕ) (n a w : ℕ) → ℕ
+bytesFrom program zero a w = w
+bytesFrom program (suc n) a w = bytesFrom program n (suc a) (w * 256 + getD program a 0)
+
+-- all bytes are there
+pub bytes-there : (program : List ℕ) (n a w : ℕ) → a + n ≤ length program → bytesAt program n a w ≡ Word (bytesFrom program n a w)
+unfolding bytesAt byteThen bytesFrom
+bytes-there program zero a w h = refl
+bytes-there program (suc n) a w h =
+    rw (element-there program a (omega arith)) (bytes-there program n (suc a) (w * 256 + getD program a 0) (omega arith))
+
+-- one is absent
+pub bytes-absent : (program : List ℕ) (n a w : ℕ) → 0 < n → length program < a + n → bytesAt program n a w ≡ Absent
+unfolding bytesAt byteThen
+bytes-absent program zero a w p h = absurd (omega arith)
+bytes-absent program (suc n) a w p h = go (ltb a (length program)) refl (bytes-absent program n (suc a) (w * 256 + getD program a 0))
+  where
+    go : (b : Bool) → ltb a (length program) ≡ b
+        → (0 < n → length program < suc a + n → bytesAt program n (suc a) (w * 256 + getD program a 0) ≡ Absent)
+        → bytesAt program (suc n) a w ≡ Absent
+    go true t later = let l = ltb-true a (length program) t in rw (element-there program a l) (later (omega arith) (omega arith))
+    go false t later = rw (element-absent program a (ltb-false a (length program) t))
+
+-- a word is fetched only where all bytes are there
+not-fetched : (b c : Bool) (f : Fetched) (w : ℕ) → f ≡ Absent → (if b then Fault 0x05 else if c then Fault 0x00 else f) ≡ Word w → ⊥
+unfolding if_then_else_
+not-fetched true c f w a e = let z : _≡_ {A = ℕ} 0 1 = cc in omega arith
+not-fetched false true f w a e = let z : _≡_ {A = ℕ} 0 1 = cc in omega arith
+not-fetched false false f w a e = let z : _≡_ {A = ℕ} 0 1 = cc in omega arith
+
+pub fetched-inside : (program : List ℕ) (low high : ℕ) (user : Bool) (n pc w : ℕ) → 0 < n
+    → fetchAt program low high user n pc ≡ Word w → pc + n ≤ length program
+unfolding fetchAt
+fetched-inside program low high user n pc w p e = go (leb (pc + n) (length program)) refl
+  where
+    go : (b : Bool) → leb (pc + n) (length program) ≡ b → pc + n ≤ length program
+    go true t = leb-true (pc + n) (length program) t
+    go false t = absurd (not-fetched _ _ _ w (bytes-absent program n pc 0 p (leb-false (pc + n) (length program) t)) e)
+
+-- words of 32 and of 16 bits
+pub four-bytes : (program : List ℕ) (a : ℕ) → a + 4 ≤ length program → bytesAt program 4 a 0 ≡ Word (numberAt program a)
+unfolding bytesFrom
+four-bytes program a h = rw (bytes-there program 4 a 0 h) (simp (zero-mul, zero-add, towards-suc))
+
+pub two-bytes : (program : List ℕ) (a : ℕ) → a + 2 ≤ length program → bytesAt program 2 a 0 ≡ Word (getD program a 0 * 256 + getD program (a + 1) 0)
+unfolding bytesFrom
+two-bytes program a h = rw (bytes-there program 2 a 0 h) (simp (zero-mul, zero-add, towards-suc))
+
+-- ---- lengths
+
+pub bytes-positive : (width : Width) → 0 < bytesOf width
+unfolding bytesOf
+bytes-positive w16 = omega arith
+bytes-positive w32 = omega arith
+
+pub bytes-most : (width : Width) → bytesOf width ≤ 4
+unfolding bytesOf
+bytes-most w16 = omega arith
+bytes-most w32 = omega arith
+
+-- a word at an aligned address lies below 2 ^ 32
+pub aligned-fits : (width : Width) (n a : ℕ) → n ≡ bytesOf width → a < 2 ^ 32 → a % n ≡ 0 → a + n ≤ 2 ^ 32
+unfolding bytesOf
+aligned-fits w16 n a e h z = rw e (let t : a % 2 ≡ 0 = rw e at z in omega arith)
+aligned-fits w32 n a e h z = rw e (let t : a % 4 ≡ 0 = rw e at z in omega arith)

@@ -1,0 +1,8 @@
+-- Laws of what the next instruction does.
+pub mod Ranges
+pub mod Bytes
+pub mod Bounds
+pub mod Groups
+pub mod Values
+pub mod Signed
+pub mod Order

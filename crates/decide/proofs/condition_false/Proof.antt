@@ -1,0 +1,23 @@
+-- `decide::condition_false` meets its contract: by the conditional bit. Assumes nothing.
+use borrow.Author.Needs.{needs}
+use Rattle.decide.specs.Decide.{conditionFalse}
+use Rattle.decide.specs.View.{view}
+use Rattle.decide.proofs.condition_false.Statement.{statement}
+use Rattle.decide.proofs.condition_false.Tie as tie
+
+condition-requires : tie.Need-condition-requires
+condition-requires c κs = search needs
+
+holds-requires : tie.Need-holds-requires
+holds-requires c κs = search needs
+
+returns : tie.Need-returns
+unfolding view conditionFalse
+returns c q cells = rw (c .before .before .if1 .taken, c .holds .ensures, c .before .condition .ensures)
+
+returns-2 : tie.Need-returns-2
+unfolding view conditionFalse
+returns-2 c q cells = rw (c .if1 .left)
+
+pub condition-false-spec : {M : Type 1} → statement M
+condition-false-spec = tie.close (tie.spec condition-requires holds-requires returns returns-2)

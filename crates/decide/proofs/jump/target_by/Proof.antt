@@ -1,0 +1,37 @@
+-- `decide::jump::target_by` meets its contract: the slot's address fits. Assumes nothing.
+use native.Mathlib.Omega.{arith}
+use mir.Syntax.{w32, w64}
+use borrow.Author.Needs.{needs}
+use Rattle.word.proofs.Integers.{back}
+use Rattle.isa.specs.Operation.{widthBy}
+use Rattle.machine.specs.Machine.{wideWords, widthOf}
+use Rattle.decide.specs.Execute.{afterThis, targetBy}
+use Rattle.decide.specs.View.{view}
+use Rattle.decide.proofs.Bytes.{bytes-most}
+use Rattle.decide.proofs.jump.target_by.Statement.{statement}
+use Rattle.decide.proofs.jump.target_by.Tie as tie
+
+psr-requires : tie.Need-psr-requires
+psr-requires c κs = search needs
+
+has-flag-requires : tie.Need-has-flag-requires
+has-flag-requires c κs = search needs
+
+word-bytes-requires : tie.Need-word-bytes-requires
+word-bytes-requires c κs = search needs
+
+pc-requires : tie.Need-pc-requires
+pc-requires c κs = search needs
+
+add-jump-target : tie.Need-add-jump-target
+add-jump-target c = omega (arith, c .pc .ensures, c .before .word-bytes .ensures, bytes-most (widthBy (c .before .before .has-flag .result)))
+
+jump-target-requires : tie.Need-jump-target-requires
+jump-target-requires c κs = search needs
+
+returns : tie.Need-returns
+unfolding wideWords widthOf view afterThis targetBy
+returns c q cells = rw (back w64 (c .jump-target .result) (c .jump-target .ok), c .jump-target .ensures, back w32 (c .before .before .before .before .before .before .args .immediate) (c .before .before .before .before .before .before .fits .immediate .sfits), c .before .pc .ensures, c .before .before .word-bytes .ensures, c .before .before .before .has-flag .ensures, c .before .before .before .before .psr .ensures)
+
+pub target-by-spec : {M : Type 1} → statement M
+target-by-spec = tie.close (tie.spec psr-requires has-flag-requires word-bytes-requires pc-requires add-jump-target jump-target-requires returns)

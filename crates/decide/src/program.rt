@@ -1,0 +1,77 @@
+// Program memory: its protection, and the fetch of an instruction word.
+ghost use mathlib.Core.Path.{_≡_};
+ghost use mathlib.Core.Bool.{_&&_};
+ghost use mathlib.Core.List.{List};
+ghost use Prim.Native.Nat.{ℕ, _+_, _^_, _≤_, _<_};
+ghost use lib.ListN.{length};
+ghost use Rattle.isa.specs.Operation.{widthBy};
+ghost use Rattle.isa.specs.Decode.{bytesOf};
+ghost use Rattle.machine.specs.Control.{controlAt, IMEM-BOUND-LO, IMEM-BOUND-HI};
+ghost use Rattle.machine.specs.Words.{WORDS, machineOf};
+ghost use Rattle.decide.specs.View.{View, anyWithin, bytesAt, viewOf};
+use crate::Fetched;
+use crate::IL;
+use crate::UM;
+
+// The length in bytes of an instruction word.
+pub fn word_bytes(wide: bool) -> u32
+    ensures { λ r. ⌜ r ≡ bytesOf (widthBy wide) ⌝ }
+{
+    if wide { 4 } else { 2 }
+}
+
+// Whether one of the n addresses from a on is within bounds: the two ranges overlap.
+fn any_within(low: u32, high: u32, a: u32, n: u32) -> bool
+    requires { ⌜ (0 < n) × (a + n ≤ 2 ^ 32) ⌝ }
+    ensures { λ r. ⌜ r ≡ anyWithin low high a n ⌝ }
+{
+    (low <= high) & (low <= a + (n - 1)) & (a <= high)
+}
+
+// Whether one of the n program bytes from a on is protected from the mode.
+pub fn closed(w: &[u32], user: bool, a: u32, n: u32) -> bool
+    requires { ⌜ (length (now w) ≡ WORDS) × (0 < n) × (a + n ≤ 2 ^ 32) ⌝ }
+    ensures { λ r. ⌜ r ≡ user && anyWithin (controlAt (machineOf (now (w .entry))) IMEM-BOUND-LO) (controlAt (machineOf (now (w .entry))) IMEM-BOUND-HI) a n ⌝ }
+{
+    if user {
+        any_within(machine::control(w, 0x1C), machine::control(w, 0x1D), a, n)
+    } else {
+        false
+    }
+}
+
+// The bytes of the instruction word at an address, if all are there.
+fn word_at(program: &[u8], wide: bool, a: u32) -> Fetched
+    ensures { λ r. ⌜ r ≡ bytesAt (now (program .entry)) (bytesOf (widthBy wide)) a 0 ⌝ }
+{
+    let at = a as usize;
+    if wide {
+        if at + 4 <= program.len() {
+            Fetched::Word(codec::number_at(program, at))
+        } else {
+            Fetched::Absent
+        }
+    } else if at + 2 <= program.len() {
+        Fetched::Word(program[at] as u32 * 256 + program[at + 1] as u32)
+    } else {
+        Fetched::Absent
+    }
+}
+
+// The next instruction word: misaligned, protected, absent, or there.
+pub fn fetch(program: &[u8], w: &[u32]) -> Fetched
+    requires { ⌜ length (now w) ≡ WORDS ⌝ }
+    ensures { λ r. ⌜ ((cells : List ℕ) → r ≡ viewOf (now (program .entry)) (now (w .entry)) cells .fetched) ⌝ }
+{
+    let psr = machine::psr(w);
+    let pc = machine::pc(w);
+    let wide = word::has_flag(psr, IL);
+    let n = word_bytes(wide);
+    if pc % n != 0 {
+        Fetched::Fault(0x05)
+    } else if closed(w, word::has_flag(psr, UM), pc, n) {
+        Fetched::Fault(0x00)
+    } else {
+        word_at(program, wide, pc)
+    }
+}
