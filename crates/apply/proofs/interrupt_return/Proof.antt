@@ -1,6 +1,6 @@
 -- `apply::interrupt_return` meets its contract: the top is read before it is popped. Assumes nothing.
 use Rattle.machine.specs.Stack.{withStack}
-use Rattle.machine.proofs.Service.{depth-most}
+use Rattle.machine.proofs.Stack.{depth-most}
 use Rattle.apply.specs.Apply.{interruptReturn}
 use borrow.Author.Needs.{needs}
 use Rattle.apply.proofs.interrupt_return.Statement.{statement}

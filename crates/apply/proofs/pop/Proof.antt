@@ -13,7 +13,7 @@ depth-requires c κs = search needs
 pop-requires : tie.Need-pop-requires
 pop-requires c κs =
     let s = c .before .before .before .before .before in
-    (search needs, shown-served (s .args .w .now) (s .pre .0) (s .pre .1), s .pre .1 .distinct, omega (arith, c .before .before .depth .ensures))
+    (search needs, (shown-served (s .args .w .now) (s .pre .0) (s .pre .1), (s .pre .1 .distinct, omega (arith, c .before .before .depth .ensures))))
 
 same-length : tie.Need-same-length
 same-length c = search needs
