@@ -2,34 +2,21 @@
 use mathlib.Core.Path.{_≡_, refl, sym, ap, _∙_}
 use mathlib.Core.Bool.{true, false, true≢false}
 use mathlib.Core.List.{List}
-use mathlib.Core.Option.{Option, none, some}
-use Prim.Native.Nat.{ℕ}
-use lib.ListN.{set}
-use lib.Seq.{set-getD}
+use mathlib.Core.Option.{none, some}
+use Prim.Native.Nat.{ℕ, _%_, _^_}
 use Rattle.word.specs.Choice.{if_then_else_}
-use Rattle.machine.specs.Machine.{Machine, State, withControl}
+use Rattle.word.specs.Arithmetic.{orOf}
+use Rattle.machine.specs.Machine.{State}
 use Rattle.machine.specs.Control.{controlAt, INT-PEND}
-use Rattle.machine.specs.Stack.{showStack}
-use Rattle.image.proofs.Formed.{stacked-distinct, WellFormed}
-use Rattle.decide.specs.View.{View, view}
+use Rattle.decide.specs.View.{view}
 use Rattle.decide.specs.Decide.{decide}
 use Rattle.decide.specs.declared.Effect.{Effect}
 use Rattle.decide.specs.declared.Effect.the-variants.{Stopped, Raised, Next, Result, ResultFlags, ResultProduct, Compare, Conditions, StoreControl, StoreCell, Jump, JumpLink, EnableInterrupts, SwitchWidth, SystemCall, InterruptReturn, UserReturn, SelectSets}
-use Rattle.apply.specs.Apply.{Transition, machineOnly, storeCell, apply, StackShown}
-use Rattle.apply.specs.declared.Kind.{Kind}
+use Rattle.apply.specs.Apply.{Transition, machineOnly, storeCell, apply}
 use Rattle.apply.specs.declared.Kind.the-variants.{Interrupt}
 use Rattle.step.specs.Interrupt.{withPending, withRequests, acceptedSource, accept}
 use Rattle.step.specs.Step.{isStop, interruptOr, step}
 use Rattle.step.proofs.Requests.{pending-back}
-
--- what `apply` requires of a machine
-pub stack-shown : {m : Machine} → WellFormed m → StackShown m
-unfolding showStack
-stack-shown {m} f =
-    record {
-      shown = rw (← (f .served), ← (f .return-address), ← (f .return-status), ← (f .return-flags)) (simp set-getD);
-      distinct = stacked-distinct (f .stack);
-    }
 
 -- an effect that stops changes nothing
 pub stopped-same : (e : Effect) (s : State) → isStop (apply e s .kind) ≡ true → apply e s .after ≡ s
@@ -53,22 +40,30 @@ stopped-same InterruptReturn s h = absurd (true≢false (sym h))
 stopped-same UserReturn s h = absurd (true≢false (sym h))
 stopped-same (SelectSets n) s h = absurd (true≢false (sym h))
 
-module _ (program : List ℕ) (s : State) (requests : ℕ) where
-  abbrev requested : State
-  requested = withRequests requests s
+requests-back : (requests : ℕ) (s : State)
+    → record { machine = withPending (controlAt (s .machine) INT-PEND) (withRequests requests s .machine); cells = withRequests requests s .cells } ≡ s
+unfolding withRequests
+requests-back requests s = rw (pending-back (s .machine) (orOf (controlAt (s .machine) INT-PEND) requests % 2 ^ 12))
 
-  abbrev source : Option ℕ
-  source = acceptedSource (view program requested) (requested .machine)
-
-  pub step-accepts : (n : ℕ) → source ≡ some n → record { kind = Interrupt; after = record { machine = accept n (requested .machine); cells = requested .cells } } ≡ step program s requests
+-- r is the state with the requests added
+module _ (program : List ℕ) (s : State) (requests : ℕ) (r : State) (added : r ≡ withRequests requests s) where
+  pub step-accepts : (n : ℕ) → acceptedSource (view program r) (r .machine) ≡ some n
+      → record { kind = Interrupt; after = record { machine = accept n (r .machine); cells = r .cells } } ≡ step program s requests
   unfolding step interruptOr machineOnly isStop if_then_else_
-  step-accepts n e = rw e
+  step-accepts n e = rw (← added, e)
 
-  pub step-goes-on : (t : Transition) → source ≡ none → t ≡ apply (decide (view program requested)) requested → isStop (t .kind) ≡ false → t ≡ step program s requests
+  pub step-goes-on : (t : Transition) → acceptedSource (view program r) (r .machine) ≡ none → t ≡ apply (decide (view program r)) r
+      → isStop (t .kind) ≡ false → t ≡ step program s requests
   unfolding step interruptOr if_then_else_
-  step-goes-on t e a g = rw (e, ← a, g)
+  step-goes-on t e a g = rw (← added, e, ← a, g)
 
-  pub step-stops : (t : Transition) → source ≡ none → t ≡ apply (decide (view program requested)) requested → isStop (t .kind) ≡ true
-      → record { kind = t .kind; after = record { machine = withPending (controlAt (s .machine) INT-PEND) (t .after .machine); cells = t .after .cells } } ≡ step program s requests
-  unfolding step interruptOr if_then_else_ withRequests
-  step-stops t e a g = ?
+  -- INT_PEND is put back
+  pub step-stops : (t : Transition) → acceptedSource (view program r) (r .machine) ≡ none → t ≡ apply (decide (view program r)) r
+      → isStop (t .kind) ≡ true
+      → record { kind = t .kind; after = record { machine = withPending (controlAt (s .machine) INT-PEND) (t .after .machine); cells = t .after .cells } }
+      ≡ step program s requests
+  unfolding step interruptOr if_then_else_
+  step-stops t e a g =
+      let stop = ap (λ (u : Transition). isStop (u .kind)) (sym a) ∙ g in
+      let same : t .after ≡ r = ap (λ (u : Transition). u .after) a ∙ stopped-same (decide (view program r)) r stop in
+      rw (← added, e, ← a, g, same) (rw added (ap (λ (u : State). record { kind = t .kind; after = u }) (requests-back requests s)))

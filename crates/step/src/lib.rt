@@ -10,7 +10,6 @@ ghost use Rattle.machine.specs.Stack.{sourcesOf};
 ghost use Rattle.machine.specs.Words.{WORDS, machineOf};
 ghost use Rattle.image.specs.Questions.{wellFormed};
 ghost use Rattle.decide.specs.View.{viewOf};
-ghost use Rattle.decide.specs.Decide.{decide};
 ghost use Rattle.apply.specs.Apply.{stateOf, transitionOf};
 ghost use Rattle.step.specs.Interrupt.{addRequests, priority, candidate, isMulhi, mayAccept, acceptedSource, servicePsr, entryFor, accept};
 ghost use Rattle.step.specs.Step.{isStop, step};
@@ -121,29 +120,12 @@ fn candidate(w: &[u32]) -> u32
 
 // ---- when one is accepted
 
-//STUB
-fn fetch(program: &[u8], w: &[u32]) -> decide::Fetched
-    requires { ⌜ length (now w) ≡ WORDS ⌝ }
-    ensures { λ r. ⌜ ((cells : List ℕ) → r ≡ viewOf (now (program .entry)) (now (w .entry)) cells .fetched) ⌝ }
-{
-    decide::Fetched::Absent
-}
-
-//STUB
-fn decide(program: &[u8], w: &[u32], cells: &[u32]) -> decide::Effect
-    requires { ⌜ (length (now w) ≡ WORDS) × (length (now program) ≤ 65536) ⌝ }
-    ensures { λ r. ⌜ r ≡ decide (viewOf (now (program .entry)) (now (w .entry)) (now (cells .entry))) ⌝ }
-{
-    decide::Effect::Next
-}
-//STUBEND
-
 // The next word, with no 05h, 00h or stop 11 for it, is mulhi.
 fn next_is_mulhi(program: &[u8], w: &[u32]) -> bool
     requires { ⌜ length (now w) ≡ WORDS ⌝ }
     ensures { λ r. ⌜ ((cells : List ℕ) → r ≡ isMulhi (widthOf (psr (machineOf (now (w .entry))))) (viewOf (now (program .entry)) (now (w .entry)) cells .fetched)) ⌝ }
 {
-    let fetched = fetch(program, w);
+    let fetched = decide::fetch(program, w);
     match fetched {
         Fetched::Word(word) => isa::opcode(word, word::has_flag(machine::psr(w), IL)) == MULHI,
         Fetched::Fault(_) => false,
@@ -265,7 +247,7 @@ pub fn step(program: &[u8], w: &mut [u32], cells: &mut [u32], requests: u32) -> 
         accept(w, n);
         return Kind::Interrupt;
     }
-    let e = decide(program, w, cells);
+    let e = decide::decide(program, w, cells);
     let k = apply::apply(e, w, cells);
     if is_stop(k) {
         machine::set_control(w, INT_PEND, pending);
