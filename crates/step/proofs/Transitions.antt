@@ -50,20 +50,20 @@ module _ (program : List ℕ) (s : State) (requests : ℕ) (r : State) (added : 
   pub step-accepts : (n : ℕ) → acceptedSource (view program r) (r .machine) ≡ some n
       → record { kind = Interrupt; after = record { machine = accept n (r .machine); cells = r .cells } } ≡ step program s requests
   unfolding step interruptOr machineOnly isStop if_then_else_
-  step-accepts n e = rw (← added, e)
+  step-accepts n o = rw (← added, o)
 
-  pub step-goes-on : (t : Transition) → acceptedSource (view program r) (r .machine) ≡ none → t ≡ apply (decide (view program r)) r
-      → isStop (t .kind) ≡ false → t ≡ step program s requests
-  unfolding step interruptOr if_then_else_
-  step-goes-on t e a g = rw (← added, e, ← a, g)
+  -- no source is accepted: an effect is decided and carried out
+  module _ (e : Effect) (t : Transition) (o : acceptedSource (view program r) (r .machine) ≡ none) (decided : e ≡ decide (view program r)) (applied : t ≡ apply e r) where
+    pub step-goes-on : isStop (t .kind) ≡ false → t ≡ step program s requests
+    unfolding step interruptOr if_then_else_
+    step-goes-on g = rw (← added, o, ← decided, ← applied, g)
 
-  -- INT_PEND is put back
-  pub step-stops : (t : Transition) → acceptedSource (view program r) (r .machine) ≡ none → t ≡ apply (decide (view program r)) r
-      → isStop (t .kind) ≡ true
-      → record { kind = t .kind; after = record { machine = withPending (controlAt (s .machine) INT-PEND) (t .after .machine); cells = t .after .cells } }
-      ≡ step program s requests
-  unfolding step interruptOr if_then_else_
-  step-stops t e a g =
-      let stop = ap (λ (u : Transition). isStop (u .kind)) (sym a) ∙ g in
-      let same : t .after ≡ r = ap (λ (u : Transition). u .after) a ∙ stopped-same (decide (view program r)) r stop in
-      rw (← added, e, ← a, g, same) (rw added (ap (λ (u : State). record { kind = t .kind; after = u }) (requests-back requests s)))
+    -- INT_PEND is put back
+    pub step-stops : isStop (t .kind) ≡ true
+        → record { kind = t .kind; after = record { machine = withPending (controlAt (s .machine) INT-PEND) (t .after .machine); cells = t .after .cells } }
+        ≡ step program s requests
+    unfolding step interruptOr if_then_else_
+    step-stops g =
+        let stop = ap (λ (u : Transition). isStop (u .kind)) (sym applied) ∙ g in
+        let same : t .after ≡ r = ap (λ (u : Transition). u .after) applied ∙ stopped-same e r stop in
+        rw (← added, o, ← decided, ← applied, g, same) (rw added (ap (λ (u : State). record { kind = t .kind; after = u }) (requests-back requests s)))

@@ -22,7 +22,8 @@ use Rattle.machine.specs.Control.{controlAt, INT-MASK, INT-SERV, INT-PEND, EXT-
 use Rattle.machine.specs.Stack.{sourcesOf, serviceFlags}
 use Rattle.machine.specs.declared.Entry.{Entry}
 use Rattle.image.proofs.Formed.{Stacked, empty, pushed, registers-below, WellFormed}
-use Rattle.step.specs.Interrupt.{priority, belowAll, eligible, before, candidate}
+use Rattle.decide.specs.View.{View}
+use Rattle.step.specs.Interrupt.{priority, belowAll, eligible, before, candidate, mayAccept, acceptedSource}
 use Rattle.step.specs.Search.{sourceNumber, waiting, priorityOr, mostUrgent, serviceFloor}
 use Rattle.step.proofs.Safe.{if-holds}
 use Rattle.step.proofs.Accepted.{none-some, candidate-eligible}
@@ -199,14 +200,21 @@ module _ (m : Machine) (f : WellFormed m) where
   candidate-found zero = refl
   candidate-found (suc k) = rw (← (candidate-found k), candidate-test k (candidate m k) refl)
 
+-- nothing waits
+pub none-waiting : (v : View) (m : Machine) → WellFormed m → waiting m ≡ 0 → acceptedSource v m ≡ none
+unfolding acceptedSource
+none-waiting v m f e =
+    let found : candidate m 12 ≡ none = candidate-found m f 12 ∙ rw e (none-urgent (serviceFloor m) m 12) in
+    if-holds (λ (o : Option ℕ). o ≡ none) (mayAccept v) (λ _. found) (λ _. refl)
+
 -- ---- sources by their numbers
 
-pub number-some : (o : Option ℕ) → sourceNumber o < 12 → o ≡ some (sourceNumber o)
+pub number-some : (o : Option ℕ) {n : ℕ} → n ≡ sourceNumber o → n < 12 → o ≡ some n
 unfolding sourceNumber
-number-some none h = absurd (omega arith)
-number-some (some n) h = refl
+number-some none e h = absurd (omega arith)
+number-some (some k) e h = ap some (sym e)
 
-pub number-none : (o : Option ℕ) → ((n : ℕ) → o ≡ some n → n < 12) → 12 ≤ sourceNumber o → o ≡ none
+pub number-none : (o : Option ℕ) {n : ℕ} → ((k : ℕ) → o ≡ some k → k < 12) → n ≡ sourceNumber o → 12 ≤ n → o ≡ none
 unfolding sourceNumber
-number-none none b h = refl
-number-none (some n) b h = let l : n < 12 = b n refl in absurd (omega arith)
+number-none none b e h = refl
+number-none (some k) b e h = let l : k < 12 = b k refl in absurd (omega arith)

@@ -1,35 +1,39 @@
+-- `accepted_source` meets its contract: with nothing waiting none is found. Assumes nothing.
+use mathlib.Core.Path.{sym, _∙_}
+use Rattle.word.specs.Choice.{if_then_else_}
+use Rattle.machine.specs.Words.{machineOf}
+use Rattle.image.proofs.Formed.{true-formed}
+use Rattle.decide.specs.View.{viewOf}
+use Rattle.step.specs.Interrupt.{acceptedSource}
+use Rattle.step.specs.Search.{sourceNumber}
+use Rattle.step.proofs.Urgency.{none-waiting}
 use borrow.Author.Needs.{needs}
 use Rattle.step.proofs.accepted_source.Statement.{statement}
 use Rattle.step.proofs.accepted_source.Tie as tie
-use Rattle.step.proofs.accepted_source.Reads as reads
-use Rattle.step.proofs.accepted_source.Lts as lts
-use Rattle.step.proofs.candidate.Reads as candidate-reads
-use Rattle.step.proofs.may_accept.Reads as may-accept-reads
-use Rattle.step.proofs.waiting.Reads as waiting-reads
 
--- src/lib.rt:159:8
 waiting-requires : tie.Need-waiting-requires
 waiting-requires c κs = search needs
 
--- src/lib.rt:161:15
 may-accept-requires : tie.Need-may-accept-requires
 may-accept-requires c κs = search needs
 
--- src/lib.rt:162:9
 candidate-requires : tie.Need-candidate-requires
 candidate-requires c κs = search needs
 
--- src/lib.rt:155:1
 returns : tie.Need-returns
-returns c = ?
+unfolding sourceNumber
+returns c cells =
+    let s = c .before .before .before .before in
+    let m = machineOf (s .args .w .now) in
+    rw (none-waiting (viewOf (s .args .program .now) (s .args .w .now) cells) m (true-formed m (s .pre .1)) (sym (c .before .waiting .ensures) ∙ c .if1 .taken))
 
--- src/lib.rt:155:1
 returns-2 : tie.Need-returns-2
-returns-2 c = ?
+unfolding acceptedSource if_then_else_
+returns-2 c cells = rw (sym (c .before .before .may-accept .ensures cells) ∙ c .before .if2 .taken) (c .candidate .ensures)
 
--- src/lib.rt:155:1
 returns-3 : tie.Need-returns-3
-returns-3 c = ?
+unfolding acceptedSource if_then_else_ sourceNumber
+returns-3 c cells = rw (sym (c .before .may-accept .ensures cells) ∙ c .if2 .left)
 
 pub accepted-source-spec : {M : Type 1} → statement M
 accepted-source-spec =

@@ -1,52 +1,50 @@
+-- `next_is_mulhi` meets its contract: case by case of what the fetch gives. Assumes nothing.
+use Rattle.isa.specs.Operation.{properties}
+use Rattle.machine.specs.Machine.{wideWords, widthOf}
+use Rattle.step.specs.Interrupt.{isMulhi}
 use borrow.Author.Needs.{needs}
 use Rattle.step.proofs.next_is_mulhi.Statement.{statement}
 use Rattle.step.proofs.next_is_mulhi.Tie as tie
-use Rattle.step.proofs.next_is_mulhi.Reads as reads
-use Rattle.step.proofs.next_is_mulhi.Lts as lts
-use Rattle.decide.proofs.fetch.Reads as fetch-reads
-use Rattle.isa.proofs.opcode.Reads as opcode-reads
-use Rattle.machine.proofs.psr.Reads as psr-reads
-use Rattle.word.proofs.has_flag.Reads as has-flag-reads
 
--- src/lib.rt:128:9
 fetch-requires : tie.Need-fetch-requires
 fetch-requires c κs = search needs
 
--- src/lib.rt:130:23
 enum-known-fetched : tie.Need-enum-known-fetched
 enum-known-fetched c = search needs
 
--- src/lib.rt:130:65
 psr-requires : tie.Need-psr-requires
 psr-requires c κs = search needs
 
--- src/lib.rt:130:50
 has-flag-requires : tie.Need-has-flag-requires
 has-flag-requires c κs = search needs
 
--- src/lib.rt:130:32
 opcode-requires : tie.Need-opcode-requires
 opcode-requires c κs = search needs
 
--- src/lib.rt:131:30
 enum-told : tie.Need-enum-told
 enum-told c = search needs
 
--- src/lib.rt:132:28
 enum-told-2 : tie.Need-enum-told-2
 enum-told-2 c = search needs
 
--- src/lib.rt:124:1
 returns : tie.Need-returns
-returns c = ?
+unfolding isMulhi properties widthOf wideWords
+returns c cells =
+    rw (
+      ← (c .before .before .before .before .before .before .fetch .ensures cells),
+      c .before .before .before .before .fetched .given .1,
+      c .opcode .ensures,
+      c .before .has-flag .ensures,
+      c .before .before .psr .ensures,
+    )
 
--- src/lib.rt:124:1
 returns-2 : tie.Need-returns-2
-returns-2 c = ?
+unfolding isMulhi
+returns-2 c cells = rw (← (c .before .before .fetch .ensures cells), c .enum-told .given .1)
 
--- src/lib.rt:124:1
 returns-3 : tie.Need-returns-3
-returns-3 c = ?
+unfolding isMulhi
+returns-3 c cells = rw (← (c .before .before .fetch .ensures cells), c .enum-told2 .given .1)
 
 pub next-is-mulhi-spec : {M : Type 1} → statement M
 next-is-mulhi-spec =

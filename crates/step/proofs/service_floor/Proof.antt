@@ -1,11 +1,7 @@
 -- `service_floor` meets its contract: the priority number of the most urgent in service. Assumes nothing.
-use mathlib.Core.Path.{_≡_, sym, ap, _∙_}
-use mathlib.Core.Option.{none, some}
-use Prim.Native.Nat.{_<_}
-use native.Mathlib.Omega.{arith}
+use mathlib.Core.Path.{_≡_}
 use Rattle.machine.specs.Control.{controlAt, INT-SERV}
 use Rattle.machine.specs.Words.{machineOf}
-use Rattle.step.specs.Interrupt.{priority}
 use Rattle.step.specs.Search.{sourceNumber, priorityOr, mostUrgent, serviceFloor}
 use Rattle.step.proofs.Urgency.{found-below, number-some, number-none}
 use borrow.Author.Needs.{needs}
@@ -29,16 +25,14 @@ returns : tie.Need-returns
 unfolding serviceFloor priorityOr
 returns c =
     let m = machineOf (c .before .before .before .before .before .args .w .now) in
-    let o = mostUrgent (controlAt m INT-SERV) 16 m 12 in
-    let h : sourceNumber o < 12 = rw (← (found (c .before .before))) (c .before .if1 .taken) in
-    c .priority .ensures ∙ ap (priority m) (found (c .before .before)) ∙ sym (ap (priorityOr 16 m) (number-some o h))
+    rw (number-some (mostUrgent (controlAt m INT-SERV) 16 m 12) (found (c .before .before)) (c .before .if1 .taken)) (c .priority .ensures)
 
 returns-2 : tie.Need-returns-2
 unfolding serviceFloor priorityOr
 returns-2 c =
     let m = machineOf (c .before .before .before .before .args .w .now) in
     let serving = controlAt m INT-SERV in
-    rw (number-none (mostUrgent serving 16 m 12) (found-below serving 16 m 12) (rw (← (found (c .before))) (c .if1 .left)))
+    rw (number-none (mostUrgent serving 16 m 12) (found-below serving 16 m 12) (found (c .before)) (c .if1 .left))
 
 pub service-floor-spec : {M : Type 1} → statement M
 service-floor-spec =
