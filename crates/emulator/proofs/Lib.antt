@@ -5,11 +5,13 @@ pub mod User
 pub mod States
 pub mod Views
 pub mod Unwinding
--- the run call: its loop, the numbers of stops, what it leaves, what it answers
+-- the run call: its loop, the numbers of stops, what it leaves, what it answers, how its code goes
 pub mod Loop
 pub mod Stops
 pub mod Closed
 pub mod Answers
+pub mod Asked
+pub mod Running
 -- isolation, and a worked pair that it applies to
 pub mod Isolation
 pub mod Example

@@ -7,12 +7,14 @@ use lib.Dec.{leb}
 use Rattle.word.specs.Choice.{if_then_else_}
 use Rattle.codec.specs.Number.{over}
 use Rattle.machine.specs.Machine.{Machine, State}
+use Rattle.machine.specs.Words.{machineOf}
 use Rattle.image.specs.Questions.{allBelow}
 use Rattle.image.specs.Image.{Read, Refused, Accepted, readImage, writeImage}
 use Rattle.apply.specs.Apply.{Transition}
 use Rattle.step.specs.Step.{isStop, step}
 use Rattle.apply.specs.declared.Kind.{Kind}
 use Rattle.apply.specs.declared.Kind.the-variants.{Ordinary, Interrupt, SystemCall, InterruptReturn, Exception, Stop}
+use Rattle.emulator.specs.declared.Ended.{Ended}
 use Rattle.emulator.specs.declared.Answer.{Answer}
 use Rattle.emulator.specs.declared.Answer.the-variants.{Refusal, Ran}
 
@@ -58,6 +60,10 @@ resultOf done s (t ∷ ts) =
 unfoldable pub resultFrom : (program requests : List ℕ) (left done : ℕ) → State → RunResult
 resultFrom program requests left done s = resultOf done s (run program requests left done s)
 
+-- what the code's count of steps and ending say, with the machine's words and the data memory after them
+abbrev pub resultBy : Ended → (words cells : List ℕ) → RunResult
+resultBy e words cells = record { steps = e .steps; ending = e .ending; after = record { machine = machineOf words; cells = cells } }
+
 -- ---- the questions: "Asked in order; a no gives the number and does no step"
 
 -- the number of the first no, or the machine that the call starts with
@@ -79,6 +85,11 @@ unfoldable pub ask : (program image cells : List ℕ) → Call → Asked
 ask program image cells c =
     if not (leb (length program) 65536 && leb (length cells) 65536) then No 1
     else askCall c (readImage image)
+
+-- what the questions say by an answer and the machine read: 0 starts with it
+unfoldable pub askedBy : (answer : ℕ) → Machine → Asked
+askedBy zero m = Start m
+askedBy (suc n) m = No (suc n)
 
 -- ---- the call
 

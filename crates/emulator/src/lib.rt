@@ -1,4 +1,13 @@
-// The run call.
+// The run call: the questions in order, the steps, the new image.
+ghost use mathlib.Core.Path.{_≡_};
+ghost use mathlib.Core.Bool.{true};
+ghost use Prim.Native.Nat.{_≤_};
+ghost use lib.ListN.{length, getD};
+ghost use Rattle.machine.specs.Words.{WORDS, machineOf};
+ghost use Rattle.image.specs.Questions.{wellFormed};
+ghost use Rattle.apply.specs.Apply.{stateOf};
+ghost use Rattle.emulator.specs.Run.{stopNumber, resultFrom, resultBy, ask, askedBy, outcome, runCall};
+use apply::Kind;
 
 // What a run call answers.
 pub enum Answer {
@@ -8,7 +17,107 @@ pub enum Answer {
     Ran(u32, u32),
 }
 
+// How the steps of a call ended.
+pub struct Ended {
+    pub steps: u32,
+    // 0 for the limit, or the number of a stop.
+    pub ending: u32,
+}
+
+// The words of a machine with a full stack.
+const WORDS: usize = 177;
+
+// Bytes of the longest program, and cells of the largest data memory.
+const MOST_MEMORY: usize = 65_536;
+
 // The largest step limit.
-pub fn largest_limit() -> u32 {
-    1000000
+const MOST_STEPS: u32 = 1_000_000;
+
+// Bytes of the longest image.
+const IMAGE_ROOM: usize = 708;
+
+// ---- the questions
+
+// Questions 1 to 8 in order: the number of the first no, or 0, and then w holds the machine that the image says.
+fn refusal(program: &[u8], cells: &[u32], image: &[u8], requests: &[u32], limit: u32, buffer: &[u8], w: &mut [u32]) -> u32
+    requires { ⌜ length (now w) ≡ WORDS ⌝ }
+    ensures { λ r. ⌜ askedBy r (machineOf (now (w .exit))) ≡ ask (now (program .entry)) (now (image .entry)) (now (cells .entry)) (record { requests = now (requests .entry); limit = limit; buffer = now (buffer .entry) }) ⌝ }
+{
+    if MOST_MEMORY < program.len() {
+        return 1;
+    }
+    if MOST_MEMORY < cells.len() {
+        return 1;
+    }
+    let read = image::read(image, w);
+    if read != 0 {
+        return read;
+    }
+    if !image::all_below(requests, 0x1000) {
+        return 6;
+    }
+    if MOST_STEPS < limit {
+        return 7;
+    }
+    if buffer.len() < IMAGE_ROOM {
+        return 8;
+    }
+    0
+}
+
+// ---- the steps
+
+// The number of a stop; 0 for a step.
+fn stop_number(k: Kind) -> u32
+    ensures { λ r. ⌜ r ≡ stopNumber k ⌝ }
+{
+    match k {
+        Kind::Ordinary => 0,
+        Kind::Interrupt => 0,
+        Kind::SystemCall => 0,
+        Kind::InterruptReturn => 0,
+        Kind::Exception(_) => 0,
+        Kind::Stop(n) => n,
+    }
+}
+
+// The requests of a step; a step past the list has none.
+fn request_at(requests: &[u32], n: usize) -> u32
+    ensures { λ r. ⌜ r ≡ getD (now (requests .entry)) n 0 ⌝ }
+{
+    if n < requests.len() { requests[n] } else { 0 }
+}
+
+// At most `limit` steps, or those before a stop.
+fn run_steps(program: &[u8], w: &mut [u32], cells: &mut [u32], requests: &[u32], limit: u32) -> Ended
+    requires { ⌜ (length (now w) ≡ WORDS) × (length (now program) ≤ 65536) × (wellFormed (machineOf (now w)) ≡ true) ⌝ }
+    ensures { λ r. ⌜ resultBy r (now (w .exit)) (now (cells .exit)) ≡ resultFrom (now (program .entry)) (now (requests .entry)) limit 0 (stateOf (now (w .entry)) (now (cells .entry))) ⌝ }
+{
+    let mut done: u32 = 0;
+    while done < limit {
+        let kind = step::step(program, w, cells, request_at(requests, done as usize));
+        let stop = stop_number(kind);
+        if stop != 0 {
+            return Ended { steps: done, ending: stop };
+        }
+        done += 1;
+    }
+    Ended { steps: done, ending: 0 }
+}
+
+// ---- the call
+
+// Runs a machine image for at most `limit` steps. A refusal leaves the data cells and the buffer as they were; otherwise the cells are
+// what the completed steps leave, and the new image is at the buffer's front.
+pub fn run(program: &[u8], cells: &mut [u32], image: &[u8], requests: &[u32], limit: u32, buffer: &mut [u8]) -> Answer
+    ensures { λ r. ⌜ outcome r (now (buffer .exit)) (now (cells .exit)) ≡ runCall (now (program .entry)) (now (image .entry)) (now (cells .entry)) (record { requests = now (requests .entry); limit = limit; buffer = now (buffer .entry) }) ⌝ }
+{
+    let mut words = [0u32; WORDS];
+    let no = refusal(program, cells, image, requests, limit, buffer, &mut words);
+    if no != 0 {
+        return Answer::Refusal(no);
+    }
+    let end = run_steps(program, &mut words, cells, requests, limit);
+    image::write(&mut words, buffer);
+    Answer::Ran(end.steps, end.ending)
 }

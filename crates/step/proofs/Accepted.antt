@@ -39,10 +39,10 @@ urgent-new m n (e ∷ es) h =
         absurd (omega arith)
     other false q l r = r
 
-none-some : {n : ℕ} → none ≡ some n → ⊥
+pub none-some : {n : ℕ} → none ≡ some n → ⊥
 none-some e = let z : _≡_ {A = ℕ} 0 1 = cc in omega arith
 
-candidate-eligible : (m : Machine) (k n : ℕ) → candidate m k ≡ some n → (n < k) × (eligible m n ≡ true)
+pub candidate-eligible : (m : Machine) (k n : ℕ) → candidate m k ≡ some n → (n < k) × (eligible m n ≡ true)
 unfolding candidate
 candidate-eligible m zero n = λ e. absurd (none-some e)
 candidate-eligible m (suc k) n =

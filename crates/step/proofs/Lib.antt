@@ -6,3 +6,7 @@ pub mod Stored
 pub mod Parts
 pub mod Accepted
 pub mod Formed
+pub mod Urgency
+pub mod Requests
+pub mod Entered
+pub mod Transitions

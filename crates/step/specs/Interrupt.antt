@@ -26,10 +26,11 @@ unfoldable pub withPending : (flags : ℕ) → Machine → Machine
 withPending flags m = withControl (set (m .control) INT-PEND flags) m
 
 -- the step's requests are added to INT_PEND
+abbrev pub addRequests : (requests : ℕ) → Machine → Machine
+addRequests requests m = withPending (orOf (controlAt m INT-PEND) requests % 2 ^ 12) m
+
 unfoldable pub withRequests : (requests : ℕ) → State → State
-withRequests requests s =
-    let m = s .machine in
-    record { machine = withPending (orOf (controlAt m INT-PEND) requests % 2 ^ 12) m; cells = s .cells }
+withRequests requests s = record { machine = addRequests requests (s .machine); cells = s .cells }
 
 -- ---- which source is accepted
 

@@ -1,5 +1,6 @@
--- One step: interrupts (Interrupt), the step itself (Step), and 01's worked examples (Worked).
+-- One step: interrupts (Interrupt), the step itself (Step), 01's worked examples (Worked), and the code's search for the source to accept (Search).
 pub mod Interrupt
 pub mod Step
+pub mod Search
 pub mod Worked
 pub mod Computed

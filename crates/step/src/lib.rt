@@ -1,6 +1,256 @@
 // One step: requests, an interrupt accepted, or an instruction.
+ghost use mathlib.Core.Path.{_≡_};
+ghost use mathlib.Core.Bool.{true, false};
+ghost use mathlib.Core.List.{List};
+ghost use Prim.Native.Nat.{ℕ, _≤_, _<_};
+ghost use lib.ListN.{length};
+ghost use Rattle.word.specs.Flags.{isAmong};
+ghost use Rattle.machine.specs.Machine.{psr, widthOf};
+ghost use Rattle.machine.specs.Stack.{sourcesOf};
+ghost use Rattle.machine.specs.Words.{WORDS, machineOf};
+ghost use Rattle.image.specs.Questions.{wellFormed};
+ghost use Rattle.decide.specs.View.{viewOf};
+ghost use Rattle.apply.specs.Apply.{stateOf, transitionOf};
+ghost use Rattle.step.specs.Interrupt.{addRequests, priority, candidate, isMulhi, mayAccept, acceptedSource, servicePsr, entryFor, accept};
+ghost use Rattle.step.specs.Step.{isStop, step};
+ghost use Rattle.step.specs.Search.{sourceNumber, waiting, mostUrgent, serviceFloor};
+use apply::Kind;
+use decide::Fetched;
+use machine::Entry;
+use machine::Position;
 
-// The number of interrupt sources.
-pub fn sources() -> u32 {
-    12
+// Bits of PSR (002 section 2.4): 32-bit words, interrupts enabled.
+const IL: u32 = 3;
+
+const IE: u32 = 4;
+
+// The operation mulhi.
+const MULHI: u32 = 31;
+
+// The control registers that a step names, by their offsets.
+const INT_VECTORS: u32 = 0x04;
+
+const INT_MODE_IL: u32 = 0x10;
+
+const INT_MODE_UM: u32 = 0x11;
+
+const INT_MASK: u32 = 0x12;
+
+const INT_SERV: u32 = 0x13;
+
+const INT_PEND: u32 = 0x14;
+
+const EXT_INT_PRI: u32 = 0x15;
+
+const COP_INT_PRI: u32 = 0x16;
+
+// The number of interrupt sources, and by it none of them.
+const SOURCES: u32 = 12;
+
+// ---- requests
+
+// The step's requests are added to INT_PEND.
+fn add_requests(w: &mut [u32], requests: u32)
+    requires { ⌜ (length (now w) ≡ WORDS) × (wellFormed (machineOf (now w)) ≡ true) ⌝ }
+    ensures { λ _. ⌜ machineOf (now (w .exit)) ≡ addRequests requests (machineOf (now (w .entry))) ⌝ }
+{
+    if requests != 0 {
+        let flags = word::or(machine::control(w, INT_PEND), requests);
+        machine::set_control(w, INT_PEND, flags % 4096);
+    }
+}
+
+// ---- which source is accepted
+
+// The priority number of a source.
+fn priority(w: &[u32], n: u32) -> u32
+    requires { ⌜ (length (now w) ≡ WORDS) × (n < 12) ⌝ }
+    ensures { λ r. ⌜ r ≡ priority (machineOf (now (w .entry))) n ⌝ }
+{
+    if n < 4 {
+        word::field(machine::control(w, COP_INT_PRI), 4 * n, 4)
+    } else {
+        word::field(machine::control(w, EXT_INT_PRI), 4 * (n - 4), 4)
+    }
+}
+
+// Of the sources whose flags are 1 the one with the smallest priority number below a bound; ties to the lower source.
+fn most_urgent(w: &[u32], flags: u32, bound: u32) -> u32
+    requires { ⌜ length (now w) ≡ WORDS ⌝ }
+    ensures { λ r. ⌜ r ≡ sourceNumber (mostUrgent flags bound (machineOf (now (w .entry))) 12) ⌝ }
+{
+    let mut best = SOURCES;
+    let mut floor = bound;
+    for n in 0..SOURCES {
+        if word::has_flag(flags, n) {
+            let p = priority(w, n);
+            if p < floor {
+                best = n;
+                floor = p;
+            }
+        }
+    }
+    best
+}
+
+// The smallest priority number in service; 16, above all, when nothing is.
+fn service_floor(w: &[u32]) -> u32
+    requires { ⌜ length (now w) ≡ WORDS ⌝ }
+    ensures { λ r. ⌜ r ≡ serviceFloor (machineOf (now (w .entry))) ⌝ }
+{
+    let n = most_urgent(w, machine::control(w, INT_SERV), 16);
+    if n < SOURCES { priority(w, n) } else { 16 }
+}
+
+// The flags of the sources that are pending and have INT_MASK 1.
+fn waiting(w: &[u32]) -> u32
+    requires { ⌜ length (now w) ≡ WORDS ⌝ }
+    ensures { λ r. ⌜ r ≡ waiting (machineOf (now (w .entry))) ⌝ }
+{
+    word::and(machine::control(w, INT_PEND), machine::control(w, INT_MASK))
+}
+
+// The source to accept: pending, INT_MASK 1, a priority number below all in service; smallest number first, ties to the lower source.
+fn candidate(w: &[u32]) -> u32
+    requires { ⌜ (length (now w) ≡ WORDS) × (wellFormed (machineOf (now w)) ≡ true) ⌝ }
+    ensures { λ r. ⌜ r ≡ sourceNumber (candidate (machineOf (now (w .entry))) 12) ⌝ }
+{
+    most_urgent(w, waiting(w), service_floor(w))
+}
+
+// ---- when one is accepted
+
+// The next word, with no 05h, 00h or stop 11 for it, is mulhi.
+fn next_is_mulhi(program: &[u8], w: &[u32]) -> bool
+    requires { ⌜ length (now w) ≡ WORDS ⌝ }
+    ensures { λ r. ⌜ ((cells : List ℕ) → r ≡ isMulhi (widthOf (psr (machineOf (now (w .entry))))) (viewOf (now (program .entry)) (now (w .entry)) cells .fetched)) ⌝ }
+{
+    let fetched = decide::fetch(program, w);
+    match fetched {
+        Fetched::Word(word) => isa::opcode(word, word::has_flag(machine::psr(w), IL)) == MULHI,
+        Fetched::Fault(_) => false,
+        Fetched::Absent => false,
+    }
+}
+
+// IE is 1, no branch slot waits, and not (a product is held and the next word is mulhi).
+fn may_accept(program: &[u8], w: &[u32]) -> bool
+    requires { ⌜ length (now w) ≡ WORDS ⌝ }
+    ensures { λ r. ⌜ ((cells : List ℕ) → r ≡ mayAccept (viewOf (now (program .entry)) (now (w .entry)) cells)) ⌝ }
+{
+    if word::has_flag(machine::psr(w), IE) {
+        if machine::slot(w) == 1 {
+            false
+        } else if machine::held(w) == 1 {
+            !next_is_mulhi(program, w)
+        } else {
+            true
+        }
+    } else {
+        false
+    }
+}
+
+// The source accepted in this step.
+fn accepted_source(program: &[u8], w: &[u32]) -> u32
+    requires { ⌜ (length (now w) ≡ WORDS) × (wellFormed (machineOf (now w)) ≡ true) ⌝ }
+    ensures { λ r. ⌜ ((cells : List ℕ) → r ≡ sourceNumber (acceptedSource (viewOf (now (program .entry)) (now (w .entry)) cells) (machineOf (now (w .entry))))) ⌝ }
+{
+    if waiting(w) == 0 {
+        SOURCES
+    } else if may_accept(program, w) {
+        candidate(w)
+    } else {
+        SOURCES
+    }
+}
+
+// ---- acceptance
+
+// PSR of a service routine: IE 0; IL and UM by the mode registers; both set bits 1 for super user, else 0.
+fn service_psr(w: &[u32], n: u32) -> u32
+    requires { ⌜ (length (now w) ≡ WORDS) × (n < 12) ⌝ }
+    ensures { λ r. ⌜ r ≡ servicePsr n (machineOf (now (w .entry))) ⌝ }
+{
+    let wide = word::has_flag(machine::control(w, INT_MODE_IL), n) as u32;
+    if word::has_flag(machine::control(w, INT_MODE_UM), n) {
+        1 + 8 * wide
+    } else {
+        6 + 8 * wide
+    }
+}
+
+// PC, PSR and C0 as they go on the stack.
+fn entry_for(w: &[u32], n: u32) -> Entry
+    requires { ⌜ length (now w) ≡ WORDS ⌝ }
+    ensures { λ r. ⌜ r ≡ entryFor n (machineOf (now (w .entry))) ⌝ }
+{
+    Entry {
+        source: n,
+        address: machine::pc(w),
+        psr: machine::psr(w),
+        c0: machine::condition(w, 0),
+    }
+}
+
+// Source n is accepted: its flag moves from pending to in service, PC, PSR and C0 go on the stack, PC takes the vector.
+fn accept(w: &mut [u32], n: u32)
+    requires { ⌜ (length (now w) ≡ WORDS) × (wellFormed (machineOf (now w)) ≡ true) ⌝ }
+    requires new { ⌜ (n < 12) × (isAmong n (sourcesOf (machineOf (now w) .stack)) ≡ false) ⌝ }
+    ensures { λ _. ⌜ machineOf (now (w .exit)) ≡ accept n (machineOf (now (w .entry))) ⌝ }
+{
+    let entry = entry_for(w, n);
+    let psr = service_psr(w, n);
+    let vector = machine::control(w, INT_VECTORS + n);
+    let pending = word::without_flag(machine::control(w, INT_PEND), n);
+    machine::set_control(w, INT_PEND, pending);
+    machine::push(w, entry);
+    machine::set_psr(w, psr);
+    machine::set_position(
+        w,
+        Position {
+            pc: vector,
+            slot: 0,
+            target: 0,
+            held: 0,
+            high: 0,
+            low: 0,
+        },
+    );
+}
+
+// ---- the step
+
+// Whether a transition is a stop.
+fn is_stop(k: Kind) -> bool
+    ensures { λ r. ⌜ r ≡ isStop k ⌝ }
+{
+    match k {
+        Kind::Ordinary => false,
+        Kind::Interrupt => false,
+        Kind::SystemCall => false,
+        Kind::InterruptReturn => false,
+        Kind::Exception(_) => false,
+        Kind::Stop(_) => true,
+    }
+}
+
+// One step with its requests; or a stop, which leaves everything as before it.
+pub fn step(program: &[u8], w: &mut [u32], cells: &mut [u32], requests: u32) -> Kind
+    requires { ⌜ (length (now w) ≡ WORDS) × (length (now program) ≤ 65536) × (wellFormed (machineOf (now w)) ≡ true) ⌝ }
+    ensures { λ r. ⌜ transitionOf r (now (w .exit)) (now (cells .exit)) ≡ step (now (program .entry)) (stateOf (now (w .entry)) (now (cells .entry))) requests ⌝ }
+{
+    let pending = machine::control(w, INT_PEND);
+    add_requests(w, requests);
+    let n = accepted_source(program, w);
+    if n < SOURCES {
+        accept(w, n);
+        return Kind::Interrupt;
+    }
+    let e = decide::decide(program, w, cells);
+    let k = apply::apply(e, w, cells);
+    if is_stop(k) {
+        machine::set_control(w, INT_PEND, pending);
+    }
+    k
 }

@@ -1,0 +1,106 @@
+-- The steps of a call and the call itself, by what its code does. Assumes nothing.
+use mathlib.Core.Path.{_≡_, refl, sym, ap, _∙_}
+use mathlib.Core.Bool.{true, false}
+use mathlib.Core.List.{List}
+use Prim.Native.Nat.{ℕ, zero, suc, _+_, _-_, _≤_, _<_}
+use native.Mathlib.Omega.{arith}
+use lib.ListN.{length, getD}
+use Rattle.word.proofs.Tests.{false-unless}
+use Rattle.codec.specs.Number.{over}
+use Rattle.machine.specs.Machine.{Machine}
+use Rattle.machine.specs.Words.{machineOf}
+use Rattle.image.specs.Questions.{wellFormed}
+use Rattle.image.specs.Image.{writeImage}
+use Rattle.image.proofs.Formed.{true-formed, formed-true, stacked-depth}
+use Rattle.image.proofs.Image.{accepted-formed}
+use Rattle.apply.specs.Apply.{Transition, stateOf, transitionOf}
+use Rattle.apply.specs.declared.Kind.{Kind}
+use Rattle.apply.specs.declared.Kind.the-variants.{Ordinary, Interrupt, SystemCall, InterruptReturn, Exception, Stop}
+use Rattle.step.specs.Step.{isStop, step}
+use Rattle.step.proofs.Formed.{step-formed}
+use Rattle.emulator.specs.Run.{Call, RunResult, stopNumber, resultFrom, resultBy, No, Start, ask, askedBy, outcome, runCall}
+use Rattle.emulator.specs.Closure.{AllYes}
+use Rattle.emulator.specs.declared.Ended.{Ended}
+use Rattle.emulator.specs.declared.Answer.the-variants.{Refusal, Ran}
+use Rattle.emulator.proofs.Loop.{at-stop, at-more}
+use Rattle.emulator.proofs.Stops.{stop-number}
+use Rattle.emulator.proofs.Closed.{asked-yes, result-formed}
+use Rattle.emulator.proofs.Answers.{call-refused, call-started}
+
+-- ---- one step of the loop
+
+-- a number other than 0 is a stop's
+numbered-stop : (k : Kind) → (stopNumber k ≡ 0 → ⊥) → isStop k ≡ true
+unfolding stopNumber isStop
+numbered-stop Ordinary h = absurd (h refl)
+numbered-stop Interrupt h = absurd (h refl)
+numbered-stop SystemCall h = absurd (h refl)
+numbered-stop InterruptReturn h = absurd (h refl)
+numbered-stop (Exception c) h = absurd (h refl)
+numbered-stop (Stop n) h = refl
+
+-- the words after a transition say a well-formed machine
+pub step-kept : (p : List ℕ) (q : ℕ) (k : Kind) (w d w₁ d₁ : List ℕ) → transitionOf k w₁ d₁ ≡ step p (stateOf w d) q
+    → wellFormed (machineOf w) ≡ true → wellFormed (machineOf w₁) ≡ true
+step-kept p q k w d w₁ d₁ e f = formed-true (rw (← e) at (step-formed p (stateOf w d) q (true-formed (machineOf w) f)))
+
+-- k is the kind of a transition with requests q, and n its stop's number
+module _ (p requests : List ℕ) (limit done q n : ℕ) (k : Kind) (w d w₁ d₁ : List ℕ) (r : q ≡ getD requests done 0)
+    (e : transitionOf k w₁ d₁ ≡ step p (stateOf w d) q) (s : n ≡ stopNumber k) where
+  abbrev next : Transition
+  next = step p (stateOf w d) (getD requests done 0)
+
+  same : transitionOf k w₁ d₁ ≡ next
+  same = e ∙ ap (step p (stateOf w d)) r
+
+  -- 0 is no stop's
+  goes-on : n ≡ 0 → isStop (next .kind) ≡ false
+  goes-on z = false-unless _ (λ b. let h = stop-number p (stateOf w d) (getD requests done 0) b in let y : stopNumber (next .kind) ≡ 0 = rw (← same) (sym s ∙ z) in omega arith)
+
+  pub step-more : done < limit → n ≡ 0
+      → resultFrom p requests (limit - (done + 1)) (done + 1) (stateOf w₁ d₁) ≡ resultFrom p requests (limit - done) done (stateOf w d)
+  step-more h z =
+      let o : done + 1 ≡ suc done = omega arith in
+      rw o (ap (λ (t : Transition). resultFrom p requests (limit - suc done) (suc done) (t .after)) same)
+      ∙ sym (at-more p requests limit done (stateOf w d) h (goes-on z))
+
+  pub step-stop : done < limit → (n ≡ 0 → ⊥)
+      → resultBy (record { steps = done; ending = n }) w₁ d₁ ≡ resultFrom p requests (limit - done) done (stateOf w d)
+  step-stop h z =
+      let b : isStop (next .kind) ≡ true = rw (← same) (numbered-stop k (λ y. z (s ∙ y))) in
+      rw s (ap (λ (t : Transition). record { steps = done; ending = stopNumber (t .kind); after = t .after }) same)
+      ∙ sym (at-stop p requests limit done (stateOf w d) h b)
+
+-- ---- the call
+
+-- an answer other than 0 refuses
+asked-no : (n : ℕ) (m : Machine) → (n ≡ 0 → ⊥) → askedBy n m ≡ No n
+unfolding askedBy
+asked-no zero m z = absurd (z refl)
+asked-no (suc n) m z = refl
+
+module _ (p image cells : List ℕ) (c : Call) (n : ℕ) (w : List ℕ) (a : askedBy n (machineOf w) ≡ ask p image cells c) where
+  pub run-refused : (n ≡ 0 → ⊥) → outcome (Refusal n) (c .buffer) cells ≡ runCall p image cells c
+  run-refused z = sym (call-refused p image cells c n (sym a ∙ asked-no n (machineOf w) z))
+
+  module _ (z : n ≡ 0) where
+    started : ask p image cells c ≡ Start (machineOf w)
+    unfolding askedBy
+    started = sym (rw z at a)
+
+    pub run-yes : AllYes p image cells c (machineOf w)
+    run-yes = asked-yes p image cells c (machineOf w) started
+
+    pub run-formed : wellFormed (machineOf w) ≡ true
+    run-formed = formed-true (accepted-formed image (machineOf w) (run-yes .read))
+
+    module _ (e : Ended) (w₁ d₁ : List ℕ) (s : resultBy e w₁ d₁ ≡ resultFrom p (c .requests) (c .limit) 0 (stateOf w cells)) where
+      pub run-deep : length (machineOf w₁ .stack) ≤ 12
+      run-deep =
+          let f = result-formed p (c .requests) (c .limit) (stateOf w cells) (accepted-formed image (machineOf w) (run-yes .read)) in
+          stacked-depth ((rw (← s) at f) .stack)
+
+      pub run-ran : outcome (Ran (e .steps) (e .ending)) (over (writeImage (machineOf w₁)) (c .buffer)) d₁ ≡ runCall p image cells c
+      run-ran =
+          ap (λ (x : RunResult). outcome (Ran (x .steps) (x .ending)) (over (writeImage (x .after .machine)) (c .buffer)) (x .after .cells)) s
+          ∙ sym (call-started p image cells c (machineOf w) started)

@@ -1,0 +1,87 @@
+-- `run_steps` meets its contract: what is left of the limit goes on from the state as the whole limit does from the first. Assumes nothing.
+use mathlib.Core.Path.{_≡_, sym, _∙_}
+use mathlib.Core.Bool.{true}
+use Prim.Native.Nat.{_-_, _≤_}
+use native.Mathlib.Nat.{sub-zero}
+use lib.ListN.{length}
+use borrow.Author.Needs.{needs}
+use Rattle.machine.specs.Words.{machineOf}
+use Rattle.image.specs.Questions.{wellFormed}
+use Rattle.apply.specs.Apply.{stateOf}
+use Rattle.emulator.specs.Run.{resultFrom}
+use Rattle.emulator.proofs.Loop.{at-end}
+use Rattle.emulator.proofs.Running.{step-kept, step-more, step-stop}
+use Rattle.emulator.proofs.run_steps.Statement.{statement}
+use Rattle.emulator.proofs.run_steps.Tie as tie
+
+abbrev Inv-loop : tie.InvT-loop
+Inv-loop program w₀ cells₀ requests limit done₀ w cells done =
+    ((done ≤ limit) × ((length w ≡ length w₀) × (length cells ≡ length cells₀)))
+    × ((wellFormed (machineOf w) ≡ true)
+    × (resultFrom program requests (limit - done) done (stateOf w cells) ≡ resultFrom program requests limit 0 (stateOf w₀ cells₀)))
+
+abbrev μ-loop : tie.MeasureT-loop
+μ-loop program w₀ cells₀ requests limit done₀ w cells done = limit - done
+
+loop-holds : tie.Need-loop-holds Inv-loop μ-loop
+loop-holds c = (search needs, (c .before .before .before .before .pre .2, rw sub-zero))
+
+cast-request-at : tie.Need-cast-request-at Inv-loop μ-loop
+cast-request-at c = search needs
+
+request-at-requires : tie.Need-request-at-requires Inv-loop μ-loop
+request-at-requires c κs = search needs
+
+step-requires : tie.Need-step-requires Inv-loop μ-loop
+step-requires c κs = (search needs, search needs, c .before .before .before .before .loop .inv .1 .0)
+
+stop-number-requires : tie.Need-stop-number-requires Inv-loop μ-loop
+stop-number-requires c κs = search needs
+
+same-length : tie.Need-same-length Inv-loop μ-loop
+same-length c = search needs
+
+same-length-2 : tie.Need-same-length-2 Inv-loop μ-loop
+same-length-2 c = search needs
+
+returns : tie.Need-returns Inv-loop μ-loop
+returns c = step-stop _ _ _ _ _ _ _ _ _ _ _ (c .before .before .before .before .before .before .before .request-at .ensures) (c .before .before .before .before .before .before .step .ensures) (c .before .stop-number .ensures) (c .before .before .before .before .before .before .before .before .before .before .loop-test .taken) (c .if1 .taken) ∙ c .before .before .before .before .before .before .before .before .before .before .before .loop .inv .1 .1
+
+add-done : tie.Need-add-done Inv-loop μ-loop
+add-done c = search needs
+
+loop-less : tie.Need-loop-less Inv-loop μ-loop
+loop-less c = search needs
+
+loop-again : tie.Need-loop-again Inv-loop μ-loop
+loop-again c = (search needs, (step-kept _ _ _ _ _ _ _ (c .before .before .before .before .before .before .step .ensures) (c .before .before .before .before .before .before .before .before .before .before .before .loop .inv .1 .0), step-more _ _ _ _ _ _ _ _ _ _ _ (c .before .before .before .before .before .before .before .request-at .ensures) (c .before .before .before .before .before .before .step .ensures) (c .before .stop-number .ensures) (c .before .before .before .before .before .before .before .before .before .before .loop-test .taken) (c .if1 .left) ∙ c .before .before .before .before .before .before .before .before .before .before .before .loop .inv .1 .1))
+
+same-length-3 : tie.Need-same-length-3 Inv-loop μ-loop
+same-length-3 c = search needs
+
+same-length-4 : tie.Need-same-length-4 Inv-loop μ-loop
+same-length-4 c = search needs
+
+returns-2 : tie.Need-returns-2 Inv-loop μ-loop
+returns-2 c = sym (at-end _ _ _ _ _ (c .loop-test .left)) ∙ c .before .loop .inv .1 .1
+
+pub run-steps-spec : {M : Type 1} → statement M
+run-steps-spec =
+    tie.close
+    (tie.spec
+    Inv-loop
+    μ-loop
+    loop-holds
+    cast-request-at
+    request-at-requires
+    step-requires
+    stop-number-requires
+    same-length
+    same-length-2
+    returns
+    add-done
+    loop-less
+    loop-again
+    same-length-3
+    same-length-4
+    returns-2)

@@ -1,0 +1,79 @@
+-- `service_psr` meets its contract: a bool is 0 or 1. Assumes nothing.
+use mathlib.Core.Bool.{Bool, true, false}
+use Prim.Native.Nat.{_≤_}
+use native.Mathlib.Omega.{arith}
+use mir.Val.{boolByte}
+use Rattle.word.specs.Choice.{if_then_else_}
+use Rattle.step.specs.Interrupt.{servicePsr}
+use borrow.Author.Needs.{needs}
+use Rattle.step.proofs.service_psr.Statement.{statement}
+use Rattle.step.proofs.service_psr.Tie as tie
+
+small : (b : Bool) → boolByte b ≤ 1
+small true = omega arith
+small false = omega arith
+
+control-requires : tie.Need-control-requires
+control-requires c κs = search needs
+
+has-flag-requires : tie.Need-has-flag-requires
+has-flag-requires c κs = search needs
+
+cast-wide : tie.Need-cast-wide
+cast-wide c = search needs
+
+control-requires-2 : tie.Need-control-requires-2
+control-requires-2 c κs = search needs
+
+has-flag-requires-2 : tie.Need-has-flag-requires-2
+has-flag-requires-2 c κs = search needs
+
+mul-result : tie.Need-mul-result
+mul-result c = omega (arith, small (c .before .before .before .has-flag .result))
+
+add-result : tie.Need-add-result
+add-result c = omega (arith, small (c .before .before .before .has-flag .result))
+
+mul-result-2 : tie.Need-mul-result-2
+mul-result-2 c = omega (arith, small (c .before .before .before .has-flag .result))
+
+add-result-2 : tie.Need-add-result-2
+add-result-2 c = omega (arith, small (c .before .before .before .has-flag .result))
+
+returns : tie.Need-returns
+unfolding servicePsr if_then_else_
+returns c =
+    simp (
+      ← (c .before .before .before .before .control .ensures),
+      ← (c .before .before .before .has-flag .ensures),
+      ← (c .before .before .control2 .ensures),
+      ← (c .before .has-flag2 .ensures),
+      c .if1 .taken,
+    )
+
+returns-2 : tie.Need-returns-2
+unfolding servicePsr if_then_else_
+returns-2 c =
+    simp (
+      ← (c .before .before .before .before .control .ensures),
+      ← (c .before .before .before .has-flag .ensures),
+      ← (c .before .before .control2 .ensures),
+      ← (c .before .has-flag2 .ensures),
+      c .if1 .left,
+    )
+
+pub service-psr-spec : {M : Type 1} → statement M
+service-psr-spec =
+    tie.close
+    (tie.spec
+    control-requires
+    has-flag-requires
+    cast-wide
+    control-requires-2
+    has-flag-requires-2
+    mul-result
+    add-result
+    mul-result-2
+    add-result-2
+    returns
+    returns-2)

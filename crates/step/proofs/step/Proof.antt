@@ -1,0 +1,127 @@
+-- `step` meets its contract: by its two ways. Assumes nothing.
+use mathlib.Core.Path.{_≡_, sym, ap, _∙_}
+use mathlib.Core.Option.{none, some}
+use Rattle.machine.specs.Machine.{Machine, State}
+use Rattle.machine.specs.Words.{machineOf}
+use Rattle.image.proofs.Formed.{stacked-distinct, WellFormed, formed-true, true-formed}
+use Rattle.decide.specs.View.{viewOf}
+use Rattle.apply.specs.Apply.{stateOf}
+use Rattle.apply.proofs.Service.{stack-shown}
+use Rattle.step.specs.Interrupt.{withPending, withRequests, acceptedSource}
+use Rattle.step.proofs.Accepted.{source-accepted}
+use Rattle.step.proofs.Formed.{requests-formed}
+use Rattle.step.proofs.Urgency.{number-some, number-none}
+use Rattle.step.proofs.Transitions.{step-accepts, step-goes-on, step-stops}
+use borrow.Author.Needs.{needs}
+use Rattle.step.proofs.step.Statement.{statement}
+use Rattle.step.proofs.step.Tie as tie
+
+-- the state before the step, and with its requests
+abbrev start : tie.Start → State
+start s = stateOf (s .args .w .now) (s .args .cells .now)
+
+abbrev requested : tie.After-add-requests → State
+requested c = stateOf (c .add-requests .last .0) (c .before .before .before .before .before .before .before .args .cells .now)
+
+added : (c : tie.After-add-requests) → requested c ≡ withRequests (c .before .before .before .before .before .before .before .args .requests) (start (c .before .before .before .before .before .before .before))
+unfolding withRequests
+added c = ap (λ (m : Machine). record { machine = m; cells = c .before .before .before .before .before .before .before .args .cells .now }) (c .add-requests .ensures)
+
+formed : (c : tie.After-add-requests) → WellFormed (requested c .machine)
+unfolding withRequests
+formed c =
+    let s = c .before .before .before .before .before .before .before in
+    rw (c .add-requests .ensures) (requests-formed (start s) (s .args .requests) (true-formed (machineOf (s .args .w .now)) (s .pre .2)))
+
+-- the source accepted, or none
+accepted : (c : tie.Then1) → let r = requested (c .before .before .before .before .before) in acceptedSource (viewOf (c .before .before .before .before .before .before .before .before .before .before .before .before .args .program .now) (c .before .before .before .before .before .add-requests .last .0) (c .before .before .before .before .before .before .before .before .before .before .before .before .args .cells .now)) (r .machine) ≡ some (c .before .accepted-source .result)
+accepted c = number-some _ (c .before .accepted-source .ensures (c .before .before .before .before .before .before .before .before .before .before .before .before .args .cells .now)) (c .if1 .taken)
+
+refused : (c : tie.Else1) → let r = requested (c .before .before .before .before .before) in acceptedSource (viewOf (c .before .before .before .before .before .before .before .before .before .before .before .before .args .program .now) (c .before .before .before .before .before .add-requests .last .0) (c .before .before .before .before .before .before .before .before .before .before .before .before .args .cells .now)) (r .machine) ≡ none
+refused c =
+    number-none _ (λ k e. source-accepted _ _ k e .below) (c .before .accepted-source .ensures (c .before .before .before .before .before .before .before .before .before .before .before .before .args .cells .now)) (c .if1 .left)
+
+control-requires : tie.Need-control-requires
+control-requires c κs = search needs
+
+add-requests-requires : tie.Need-add-requests-requires
+add-requests-requires c κs = search needs
+
+accepted-source-requires : tie.Need-accepted-source-requires
+accepted-source-requires c κs = (search needs, formed-true (formed (c .before .before .before)))
+
+accept-requires : tie.Need-accept-requires
+accept-requires c κs = ((search needs, formed-true (formed (c .before .before .before .before .before .before))), (c .before .if1 .taken, source-accepted _ _ _ (accepted (c .before)) .new))
+
+same-length : tie.Need-same-length
+same-length c = search needs
+
+returns : tie.Need-returns
+returns c =
+    let s = c .before .before .before .before .before .before .before .before .before .before .before .before .before .before .before .before in
+    let a = c .before .before .before .before .before .before .before .before .before in
+    rw (c .before .before .accept .ensures)
+    (step-accepts (s .args .program .now) (start s) (s .args .requests) (requested a) (added a) (c .before .before .before .before .before .accepted-source .result) (accepted (c .before .before .before .before)))
+
+decide-requires : tie.Need-decide-requires
+decide-requires c κs = search needs
+
+apply-requires : tie.Need-apply-requires
+apply-requires c κs =
+    let f = formed (c .before .before .before .before .before .before .before .before .before .before) in
+    (search needs, stack-shown (f .served) (f .return-address) (f .return-status) (f .return-flags) (stacked-distinct (f .stack)))
+
+is-stop-requires : tie.Need-is-stop-requires
+is-stop-requires c κs = search needs
+
+set-control-requires : tie.Need-set-control-requires
+set-control-requires c κs = search needs
+
+same-length-2 : tie.Need-same-length-2
+same-length-2 c = search needs
+
+same-length-3 : tie.Need-same-length-3
+same-length-3 c = search needs
+
+returns-2 : tie.Need-returns-2
+unfolding withPending
+returns-2 c =
+    let s = c .before .before .before .before .before .before .before .before .before .before .before .before .before .before .before .before .before .before .before .before .before .before .before .before .before .before .before .before in
+    let a = c .before .before .before .before .before .before .before .before .before .before .before .before .before .before .before .before .before .before .before .before .before in
+    rw (c .before .before .set-control .ensures, c .before .before .before .before .before .before .before .before .before .before .before .before .before .before .before .before .before .before .before .before .before .before .before .control .ensures)
+    (step-stops (s .args .program .now) (start s) (s .args .requests) (requested a) (added a) _ _ (refused (c .before .before .before .before .before .before .before .before .before .before .before .before .before .before .before .before)) (c .before .before .before .before .before .before .before .before .before .before .before .before .before .decide .ensures) (c .before .before .before .before .before .before .before .before .before .before .apply .ensures)
+    (sym (c .before .before .before .before .before .is-stop .ensures) ∙ c .before .before .before .before .if2 .taken))
+
+same-length-4 : tie.Need-same-length-4
+same-length-4 c = search needs
+
+same-length-5 : tie.Need-same-length-5
+same-length-5 c = search needs
+
+returns-3 : tie.Need-returns-3
+returns-3 c =
+    let s = c .before .before .before .before .before .before .before .before .before .before .before .before .before .before .before .before .before .before .before .before .before .before .before .before in
+    let a = c .before .before .before .before .before .before .before .before .before .before .before .before .before .before .before .before .before in
+    step-goes-on (s .args .program .now) (start s) (s .args .requests) (requested a) (added a) _ _ (refused (c .before .before .before .before .before .before .before .before .before .before .before .before)) (c .before .before .before .before .before .before .before .before .before .decide .ensures) (c .before .before .before .before .before .before .apply .ensures)
+    (sym (c .before .is-stop .ensures) ∙ c .if2 .left)
+
+pub step-spec : {M : Type 1} → statement M
+step-spec =
+    tie.close
+    (tie.spec
+    control-requires
+    add-requests-requires
+    accepted-source-requires
+    accept-requires
+    same-length
+    returns
+    decide-requires
+    apply-requires
+    is-stop-requires
+    set-control-requires
+    same-length-2
+    same-length-3
+    returns-2
+    same-length-4
+    same-length-5
+    returns-3)
