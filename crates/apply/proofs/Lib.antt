@@ -1,4 +1,5 @@
--- Laws of effects: the condition registers, the position, the stack.
+-- Laws of effects: registers, condition registers, the position, the stack.
+pub mod Registers
 pub mod Conditions
 pub mod Position
 pub mod Service

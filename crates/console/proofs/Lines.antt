@@ -1,7 +1,7 @@
 -- Laws of the line that is printed. Assumes nothing.
-use mathlib.Core.Path.{_≡_, refl, ap, _∙_}
+use mathlib.Core.Path.{_≡_, refl, sym, ap, _∙_}
 use mathlib.Core.List.{List, [], _∷_, _++_, append-assoc}
-use Prim.Native.Nat.{ℕ, _+_, _^_, _≤_, _<_}
+use Prim.Native.Nat.{ℕ, _+_, _≤_}
 use native.Mathlib.Omega.{arith}
 use lib.ListN.{length, take, replicate, length-append}
 use Rattle.codec.specs.Number.{stored, over}
@@ -9,7 +9,7 @@ use Rattle.codec.proofs.Laws.{stored-over, take-over}
 use Rattle.console.specs.Digits.{blank, newline, digitsOf, placesOf}
 use Rattle.console.specs.Line.{ranText, refusalText, lineOf}
 use Rattle.console.specs.declared.Line.{Line}
-use Rattle.console.proofs.Digits.{length-digitsOf, places-few}
+use Rattle.console.proofs.Digits.{length-digitsOf}
 
 -- ---- a line is made of numbers, each with a character after it
 
@@ -66,19 +66,7 @@ pub take-lineOf : (text : List ℕ) → take (lineOf text .count) (lineOf text .
 unfolding lineOf
 take-lineOf text = take-over text zeros
 
--- they fit its bytes
-pub ran-fits : (steps ending pc : ℕ) → steps < 2 ^ 32 → ending < 2 ^ 32 → lineOf (ranText steps ending pc) .count ≤ 31
-unfolding lineOf ranText
-ran-fits steps ending pc h k =
-    simp length-append (omega (
-      arith,
-      length-digitsOf 10 (placesOf steps) steps,
-      places-few steps h,
-      length-digitsOf 10 (placesOf ending) ending,
-      places-few ending k,
-      length-digitsOf 16 8 pc,
-    ))
-
-pub refusal-fits : (n : ℕ) → n < 2 ^ 32 → lineOf (refusalText n) .count ≤ 31
-unfolding lineOf refusalText
-refusal-fits n h = simp length-append (omega (arith, length-digitsOf 10 (placesOf n) n, places-few n h))
+-- so the count is one of the front of its bytes, as a caller that lends that front on has to show
+pub line-counts : (text : List ℕ) → (lineOf text .count ≤ length (lineOf text .bytes)) × (lineOf text .count ≡ length (take (lineOf text .count) (lineOf text .bytes)))
+unfolding lineOf
+line-counts text = (simp length-append (omega arith), sym (ap length (take-over text zeros)))

@@ -69,11 +69,6 @@ jumped v target taken =
     else if v .closed t then Raised 0x09
     else taken t
 
--- what it does, with or without a link
-unfoldable pub linking : (link : Bool) → ℕ → Effect
-linking true = JumpLink
-linking false = Jump
-
 unfoldable pub branch : Condition → View → Instruction → Effect
 branch when v i = if holds when (getD (v .conditions) (i .creg) 0) then jumped v (targetBy v (i .immediate)) Jump else Next
 

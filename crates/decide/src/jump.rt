@@ -4,11 +4,13 @@ ghost use mathlib.Core.List.{List};
 ghost use Prim.Native.Nat.{ℕ, _+_, _≤_, _<_};
 ghost use lib.ListN.{length};
 ghost use lib.IntN.{pos};
+ghost use Rattle.word.specs.Choice.{if_then_else_};
 ghost use Rattle.isa.specs.Operation.{operationOf};
 ghost use Rattle.isa.specs.Condition.{conditionOf};
 ghost use Rattle.machine.specs.Words.{WORDS, machineOf};
 ghost use Rattle.decide.specs.View.{View, viewOf};
-ghost use Rattle.decide.specs.Execute.{targetBy, linking, jumped, branch, execute};
+ghost use Rattle.decide.specs.declared.Effect.the-variants.{Jump, JumpLink};
+ghost use Rattle.decide.specs.Execute.{targetBy, jumped, branch, execute};
 use crate::Effect;
 use crate::IL;
 use crate::UM;
@@ -16,19 +18,10 @@ use crate::program::closed;
 use crate::program::word_bytes;
 use isa::Instruction;
 
-// The target by an immediate: the slot's address plus twice the immediate.
-fn target_by(w: &[u32], immediate: i32) -> i64
-    requires { ⌜ (length (now w) ≡ WORDS) × (machineOf (now w) .position .pc < 65536) ⌝ }
-    ensures { λ r. ⌜ ((p cells : List ℕ) → r ≡ targetBy (viewOf p (now (w .entry)) cells) immediate) ⌝ }
-{
-    let n = word_bytes(word::has_flag(machine::psr(w), IL));
-    word::jump_target(machine::pc(w) + n, immediate)
-}
-
 // A taken jump, with or without a link: 04h, 03h, 09h, or to the target after the slot.
 fn jumped(w: &[u32], target: i64, link: bool) -> Effect
     requires { ⌜ length (now w) ≡ WORDS ⌝ }
-    ensures { λ r. ⌜ ((p cells : List ℕ) → r ≡ jumped (viewOf p (now (w .entry)) cells) target (linking link)) ⌝ }
+    ensures { λ r. ⌜ ((p cells : List ℕ) → r ≡ jumped (viewOf p (now (w .entry)) cells) target (if link then JumpLink else Jump)) ⌝ }
 {
     let psr = machine::psr(w);
     let n = word_bytes(word::has_flag(psr, IL));
@@ -46,13 +39,22 @@ fn jumped(w: &[u32], target: i64, link: bool) -> Effect
     }
 }
 
+// A taken jump by immediate: to the slot's address plus twice the immediate.
+fn jumped_by_immediate(w: &[u32], i: Instruction, link: bool) -> Effect
+    requires { ⌜ (length (now w) ≡ WORDS) × (machineOf (now w) .position .pc < 65536) ⌝ }
+    ensures { λ r. ⌜ ((p cells : List ℕ) → let v = viewOf p (now (w .entry)) cells in r ≡ jumped v (targetBy v (i .immediate)) (if link then JumpLink else Jump)) ⌝ }
+{
+    let n = word_bytes(word::has_flag(machine::psr(w), IL));
+    jumped(w, word::jump_target(machine::pc(w) + n, i.immediate), link)
+}
+
 // A branch on a condition.
 fn branch(w: &[u32], condition: u32, i: Instruction) -> Effect
     requires { ⌜ (length (now w) ≡ WORDS) × (machineOf (now w) .position .pc < 65536) × (i .creg < 8) ⌝ }
     ensures { λ r. ⌜ ((p cells : List ℕ) → r ≡ branch (conditionOf condition) (viewOf p (now (w .entry)) cells) i) ⌝ }
 {
     if isa::holds(condition, machine::condition(w, i.creg)) {
-        jumped(w, target_by(w, i.immediate), false)
+        jumped_by_immediate(w, i, false)
     } else {
         Effect::Next
     }
@@ -64,7 +66,7 @@ pub fn jumps(w: &[u32], op: u32, i: Instruction, x: u32) -> Effect
     ensures { λ r. ⌜ ((p cells : List ℕ) (y : ℕ) → r ≡ execute (operationOf op) (viewOf p (now (w .entry)) cells) i x y) ⌝ }
 {
     match op {
-        36..=37 => jumped(w, target_by(w, i.immediate), op == 37),
+        36..=37 => jumped_by_immediate(w, i, op == 37),
         38..=39 => jumped(w, x as i64, op == 39),
         _ => branch(w, op - 40, i),
     }

@@ -8,7 +8,7 @@ use lib.ListN.{length, getD}
 use lib.Seq.{take-all}
 use native.Mathlib.Nat.{lt-of-lt-of-le, lt-of-le-of-lt}
 use lib.Dec.{lit<, lit≤}
-use borrow.Author.Tests.{eqb-true, eq-eqb, le-leb}
+use borrow.Author.Tests.{leb-true, eqb-true, eq-eqb, le-leb}
 use Rattle.word.specs.Choice.{if_then_else_}
 use Rattle.codec.specs.Number.{numbersOf, bytesOf}
 use Rattle.codec.proofs.Laws.{Below, numbersOf-bytesOf, bytesOf-numbersOf, length-bytesOf, length-numbersOf, bytesOf-lt}
@@ -129,19 +129,24 @@ machine-asked x m c e =
 
 -- the numbers of an image with its sections
 pub record Sectioned (image : List ℕ) : Type 0 where
+  pub deep : getD (numbersOf image) DEPTH 0 ≤ 12
   pub counted : Counted (numbersOf image)
   pub exact : length image ≡ 516 + 16 * getD (numbersOf image) DEPTH 0
   pub words : length (numbersOf image) ≡ 129 + 4 * getD (numbersOf image) DEPTH 0
 
-sectioned : (image : List ℕ) → Passed (sectionTests (length image) (numbersOf image)) → Sectioned image
-unfolding sectionTests
-sectioned image (exact also depth also set1 also set2 also conditions also control also position also no-more) =
-    let e : length image ≡ 516 + 16 * getD (numbersOf image) DEPTH 0 = eqb-true _ _ exact in
-    record {
-      counted = record { set1 = eqb-true _ 32 set1; set2 = eqb-true _ 32 set2; conditions = eqb-true _ 8 conditions; control = eqb-true _ 45 control; position = eqb-true _ 6 position };
-      exact = e;
-      words = omega (arith, length-numbersOf image, e);
-    }
+pub sectioned : (image : List ℕ) → question2 image ≡ true → Sectioned image
+unfolding question2 sectionTests
+sectioned image q = go (all-passed (sectionTests (length image) (numbersOf image)) q)
+  where
+    go : Passed (sectionTests (length image) (numbersOf image)) → Sectioned image
+    go (exact also deep also set1 also set2 also conditions also control also position also no-more) =
+        let e : length image ≡ 516 + 16 * getD (numbersOf image) DEPTH 0 = eqb-true _ _ exact in
+        record {
+          deep = leb-true _ 12 deep;
+          counted = record { set1 = eqb-true _ 32 set1; set2 = eqb-true _ 32 set2; conditions = eqb-true _ 8 conditions; control = eqb-true _ 45 control; position = eqb-true _ 6 position };
+          exact = e;
+          words = omega (arith, length-numbersOf image, e);
+        }
 
 -- an image read as a machine
 pub record ReadAs (image : List ℕ) (m : Machine) : Type 0 where
@@ -150,11 +155,11 @@ pub record ReadAs (image : List ℕ) (m : Machine) : Type 0 where
   pub formed : WellFormed m
 
 pub accepted : (image : List ℕ) (m : Machine) → readImage image ≡ Accepted m → ReadAs image m
-unfolding readImage question2
+unfolding readImage
 accepted image m e =
     let x = machineOf (numbersOf image) in
     let q = sections-yes (question2 image) (askMachine x) m e in
-    let s = sectioned image (all-passed (sectionTests (length image) (numbersOf image)) (q .0)) in
+    let s = sectioned image (q .0) in
     let a = machine-asked x m (counts-machineOf (numbersOf image) (omega (arith, s .words))) (q .1) in
     record { sections = s; machine = a .0; formed = rw (a .0) at (a .1) }
 

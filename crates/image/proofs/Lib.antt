@@ -4,5 +4,6 @@ pub mod Formed
 pub mod Sections
 pub mod Image
 pub mod Distinct
+pub mod Loops
 pub mod Reading
 pub mod Writing

@@ -1,26 +1,20 @@
--- What the code that writes an image, and the machine at reset, leans on. Assumes nothing.
-use mathlib.Core.Path.{_≡_, refl, sym, ap, _∙_}
+-- The words that the code writes as an image: the five counts put in, they are the image's numbers. Assumes nothing.
+use mathlib.Core.Path.{_≡_, refl, sym, _∙_}
 use mathlib.Core.Bool.{true}
-use mathlib.Core.List.{List, [], _∷_, _++_}
-use Prim.Native.Nat.{ℕ, zero, suc, _+_, _*_, _≤_, _<_}
+use mathlib.Core.List.{List}
+use Prim.Native.Nat.{ℕ, _+_, _*_, _≤_, _<_}
 use native.Mathlib.Omega.{arith}
-use native.Mathlib.Numerals.{add-one}
 use lib.Dec.{lit<}
-use lib.ListN.{length, getD, set, take, drop, length-set}
-use lib.Seq.{take-suc, take-suc-set, getD-set-other, drop-set-lt}
-use Rattle.codec.specs.Number.{bytesOf, over}
-use Rattle.machine.specs.Control.{registers, reset}
+use lib.ListN.{length, getD, set, take, length-set}
+use lib.Seq.{getD-set-other, drop-set-lt}
 use Rattle.machine.specs.Words.{SET1, SET2, CONDITIONS, CONTROL, POSITION, DEPTH, ENTRIES, WORDS, machineOf}
-use Rattle.machine.specs.Computed.{machines}
 use Rattle.machine.proofs.Lists.{get-same, get-other}
 use Rattle.machine.proofs.Flat.{apart, store-apart, depth-is}
-use Rattle.image.specs.Image.{imageNumbers, writeImage}
+use Rattle.image.specs.Image.{imageNumbers}
 use Rattle.image.proofs.Sections.{Counted, imageNumbers-machineOf}
 
--- ---- the counts of the sections
-
 -- the words with the five counts in their places
-abbrev pub withCounts : (words : List ℕ) → List ℕ
+abbrev withCounts : (words : List ℕ) → List ℕ
 withCounts w = set (set (set (set (set w 0 32) 33 32) 66 8) 75 45) 121 6
 
 -- a store between the sections leaves the machine
@@ -50,19 +44,10 @@ counted w h =
     }
 
 module _ (w : List ℕ) (h : length w ≡ WORDS) (l : length (machineOf w .stack) ≤ 12) where
-  pub counted-length : length (withCounts w) ≡ WORDS
-  counted-length = simp (length-set, h)
-
   -- the words up to the last entry are the image's numbers
   pub counted-numbers : take (129 + 4 * length (machineOf w .stack)) (withCounts w) ≡ imageNumbers (machineOf w)
   counted-numbers =
       let m = machine-counted w in
       let d : getD (withCounts w) DEPTH 0 ≡ length (machineOf w .stack) = sym (depth-is (withCounts w)) ∙ rw m in
-      let n = imageNumbers-machineOf (withCounts w) (counted w h) (rw (d, counted-length) (omega arith)) in
+      let n = imageNumbers-machineOf (withCounts w) (counted w h) (rw d (simp length-set (omega arith))) in
       sym (rw (m, d) at n)
-
--- ---- reset
-
--- one number more is copied
-pub copy-more : (t s : List ℕ) (i : ℕ) → i < length t → i < length s → take i t ≡ take i s → take (i + 1) (set t i (getD s i 0)) ≡ take (i + 1) s
-copy-more t s i h k e = rw (add-one i, take-suc-set t i (getD s i 0) h, take-suc s i 0 k, e)

@@ -12,6 +12,15 @@ ghost use Rattle.image.specs.Questions.{all, implies, allBelow, allHeld,
 ghost use Rattle.image.specs.Entries.{passes as passesOf, allPass};
 ghost use Rattle.image.specs.Image.{question2, askMachine, readImage, readBy, writeImage};
 
+// Offsets of control registers.
+const INT_SERV: u32 = 0x13;
+
+const RETI_ADDR: u32 = 0x28;
+
+const RETI_PSR: u32 = 0x29;
+
+const RETI_CR0: u32 = 0x2A;
+
 // What questions 3, 4 and 5 ask of a stack entry.
 pub enum Test {
     Range,
@@ -21,7 +30,7 @@ pub enum Test {
 
 // ---- question 2
 
-// Whether an image has exactly these sections and counts.
+// Whether an image has exactly the sections and counts. The count at place n of the numbers begins at byte 4 × n.
 fn sections_fit(image: &[u8]) -> bool
     ensures { λ r. ⌜ r ≡ question2 (now (image .entry)) ⌝ }
 {
@@ -127,9 +136,9 @@ fn can_hold(offset: u32, x: u32) -> bool
     ensures { λ r. ⌜ r ≡ canHold (registerAt offset) x ⌝ }
 {
     match offset {
-        0x00 => x % 256 == 0,
-        0x2B => x == 0,
-        0x2C => x == 1,
+        0x00 => x % 256 == 0, // CCB_BASE
+        0x2B => x == 0, // FPU_STATUS
+        0x2C => x == 1, // CORE_VER_ID
         _ => x <= machine::limit(offset),
     }
 }
@@ -156,8 +165,8 @@ fn numbers_fit(w: &[u32]) -> bool
     ensures { λ r. ⌜ r ≡ question3 (machineOf (now (w .entry))) ⌝ }
 {
     let status = machine::psr(w) < 32;
-    let conditions = all_below(&w[67..75], 8);
-    let control = all_held(&w[76..121]);
+    let conditions = all_below(&w[67..75], 8); // C0 to C7
+    let control = all_held(&w[76..121]); // the control block
     let position = position_fits(machine::position_of(w));
     let entries = entries_pass(Test::Range, w);
     status & conditions & control & position & entries
@@ -198,11 +207,11 @@ fn stack_fits(w: &[u32]) -> bool
     if entries_pass(Test::Source, w) {
         let flags = service_flags(w);
         let different = word::ones(flags) == machine::depth(w);
-        let served = machine::control(w, 0x13) == flags;
+        let served = machine::control(w, INT_SERV) == flags;
         let top = machine::top(w);
-        let address = machine::control(w, 0x28) == top.address;
-        let psr = machine::control(w, 0x29) == top.psr;
-        let c0 = machine::control(w, 0x2A) == top.c0;
+        let address = machine::control(w, RETI_ADDR) == top.address;
+        let psr = machine::control(w, RETI_PSR) == top.psr;
+        let c0 = machine::control(w, RETI_CR0) == top.c0;
         different & served & address & psr & c0
     } else {
         false
@@ -220,11 +229,7 @@ fn refusal(w: &[u32]) -> u32
     let modes = modes_fit(w);
     let stack = stack_fits(w);
     if numbers {
-        if modes {
-            if stack { 0 } else { 5 }
-        } else {
-            4
-        }
+        if modes { if stack { 0 } else { 5 } } else { 4 }
     } else {
         3
     }
@@ -245,7 +250,7 @@ pub fn read(image: &[u8], w: &mut [u32]) -> u32
 
 // ---- writing
 
-// Writes the machine's image to the front of a longer buffer, whose further bytes stay.
+// Writes the machine's image to the front of a longer buffer, whose further bytes stay. The sections' counts go into the words first.
 pub fn write(w: &mut [u32], buffer: &mut [u8])
     requires { ⌜ (length (now w) ≡ WORDS) × (length (machineOf (now w) .stack) ≤ 12) × (708 ≤ length (now buffer)) ⌝ }
     ensures { λ _. ⌜ now (buffer .exit) ≡ over (writeImage (machineOf (now (w .entry)))) (now (buffer .entry)) ⌝ }
@@ -262,7 +267,7 @@ pub fn write(w: &mut [u32], buffer: &mut [u8])
 // ---- reset
 
 // The control registers at reset (002 section 2.9), by offset.
-const CONTROL: [u32; 45] = [
+const RESET: [u32; 45] = [
     0x0001_0000, // CCB_BASE
     0x0001_0100, // PCB_BASE
     0x0001_01FF, // PCB_END
@@ -325,7 +330,7 @@ pub fn reset(w: &mut [u32])
     requires { ⌜ length (now w) ≡ WORDS ⌝ }
     ensures { λ _. ⌜ machineOf (now (w .exit)) ≡ resetOf ⌝ }
 {
-    let control = CONTROL;
+    let control = RESET;
     let mut numbers = [0u32; 129];
     numbers[63] = 0x0E; // PSR
     numbers[64] = 9; // SPSR

@@ -1,9 +1,10 @@
--- What a decision can be: a store goes to a place that passed the data tests, and a privileged effect is not user mode's. Assumes nothing.
+-- What a decision can be: a stop is one of the five, a store goes to a place that passed the data tests, and a privileged effect is not user mode's. Assumes nothing.
 use mathlib.Core.Path.{_≡_, refl}
 use mathlib.Core.Bool.{Bool, true, false}
 use mathlib.Core.Option.{Option, none, some}
-use Prim.Native.Nat.{ℕ}
+use Prim.Native.Nat.{ℕ, _≤_}
 use native.Mathlib.Omega.{arith}
+use lib.Dec.{lit≤}
 use lib.IntN.{ℤ, pos, _+ℤ_}
 use Rattle.word.specs.Choice.{if_then_else_}
 use Rattle.word.specs.Word.{wordOf}
@@ -30,7 +31,7 @@ Reached v p = (z : ℤ) × (v .place z ≡ p)
 
 -- what a view allows
 abbrev pub Safe : View → Effect → Type 0
-Safe v (Stopped n) = Unit {0}
+Safe v (Stopped n) = (11 ≤ n) × (n ≤ 15)
 Safe v (Raised c) = Unit {0}
 Safe v Next = Unit {0}
 Safe v (Result d x) = Unit {0}
@@ -70,14 +71,14 @@ module _ (v : View) where
   loaded-safe d x (Block n) = tt
   loaded-safe d x (Cell a) = tt
   loaded-safe d x (Refused c) = tt
-  loaded-safe d x Missing = tt
+  loaded-safe d x Missing = (lit≤ tt, lit≤ tt)
 
   stored-safe : (x : ℕ) (p : Place) → Reached v p → Safe v (stored x p)
   unfolding stored
   stored-safe x (Block n) h = h
   stored-safe x (Cell a) h = h
   stored-safe x (Refused c) h = tt
-  stored-safe x Missing h = tt
+  stored-safe x Missing h = (lit≤ tt, lit≤ tt)
 
   jumped-safe : (z : ℤ) (taken : ℕ → Effect) → ((t : ℕ) → Safe v (taken t)) → Safe v (jumped v z taken)
   unfolding jumped
@@ -132,7 +133,7 @@ module _ (v : View) (i : Instruction) (x y : ℕ) where
   execute-safe st e = let a = pos x +ℤ i .immediate in stored-safe v (v .source (i .dreg)) (v .place a) (a, refl)
   execute-safe mov e = tt
   execute-safe not e = tt
-  execute-safe mulhi e = if-safe v _ _ _ (λ _. tt) (λ _. tt)
+  execute-safe mulhi e = if-safe v _ _ _ (λ _. tt) (λ _. (lit≤ tt, lit≤ tt))
   execute-safe cmp e = tt
   execute-safe cmpi e = tt
   execute-safe lli e = tt
@@ -151,7 +152,7 @@ module _ (v : View) (i : Instruction) (x y : ℕ) where
   execute-safe bnc e = branch-safe v _ i
   execute-safe scall e = tt
   execute-safe retu e = super-only _ _ e
-  execute-safe reti e = if-safe v _ _ _ (λ b. b) (λ _. tt)
+  execute-safe reti e = if-safe v _ _ _ (λ b. b) (λ _. (lit≤ tt, lit≤ tt))
   execute-safe chrs e = super-only _ _ e
   execute-safe di e = tt
   execute-safe ei e = tt
@@ -168,13 +169,13 @@ available-safe : (v : View) (i : Instruction) (op : Operation) (o : Option ℕ)
 unfolding ifAvailable perform
 available-safe v i op (some c) e = tt
 available-safe v i op none e =
-    if-safe v _ _ _ (λ _. tt) (λ _. if-safe v _ _ _ (λ _. tt) (λ _. execute-safe v i (v .source (i .sreg1)) (v .source (i .sreg2)) op e))
+    if-safe v _ _ _ (λ _. (lit≤ tt, lit≤ tt)) (λ _. if-safe v _ _ _ (λ _. tt) (λ _. execute-safe v i (v .source (i .sreg1)) (v .source (i .sreg2)) op e))
 
 fetched-safe : (v : View) (f : Fetched) → Safe v (fetchedThen v f)
 unfolding fetchedThen instruction
 fetched-safe v (Word w) = let i = decode (widthOf (v .status)) w in available-safe v i (operationOf (i .opcode)) _ refl
 fetched-safe v (Fault c) = tt
-fetched-safe v Absent = tt
+fetched-safe v Absent = (lit≤ tt, lit≤ tt)
 
 pub decide-safe : (v : View) → Safe v (decide v)
 unfolding decide

@@ -20,7 +20,13 @@ performed : (c : tie.After-register2) (q : List ℕ)
     let v = viewOf q (now (a .w)) (now (a .cells)) in
     perform v (a .i) (operationOf (a .i .opcode)) ≡ execute (operationOf (a .i .opcode)) v (a .i) (c .before .register .result) (c .register2 .result)
 unfolding readsSet2 view perform
-performed c q = rw (c .before .register .ensures, c .register2 .ensures, c .before .before .has-flag .ensures, c .before .before .before .psr .ensures)
+performed c q =
+    rw (
+      c .before .register .ensures,
+      c .register2 .ensures,
+      c .before .before .has-flag .ensures,
+      c .before .before .before .psr .ensures,
+    )
 
 psr-requires : tie.Need-psr-requires
 psr-requires c κs = search needs
@@ -57,22 +63,22 @@ unfolding operations operationOf execute perform
 returns c q = rw (c .match .keys1)
 
 returns-2 : tie.Need-returns-2
-returns-2 c q = c .registers .ensures (viewOf q (now (c .before .before .before .before .before .before .before .before .before .args .w)) (now (c .before .before .before .before .before .before .before .before .before .args .cells))) ∙ sym (performed (c .before .before .before) q)
+returns-2 c q = c .registers .ensures _ ∙ sym (performed (c .before .before .before) q)
 
 returns-3 : tie.Need-returns-3
-returns-3 c q = c .immediates .ensures (viewOf q (now (c .before .before .before .before .before .before .before .before .before .before .args .w)) (now (c .before .before .before .before .before .before .before .before .before .before .args .cells))) (c .before .before .before .before .register2 .result) ∙ sym (performed (c .before .before .before .before) q)
+returns-3 c q = c .immediates .ensures _ _ ∙ sym (performed (c .before .before .before .before) q)
 
 returns-4 : tie.Need-returns-4
-returns-4 c q = c .access .ensures q (c .before .before .before .before .before .register2 .result) ∙ sym (performed (c .before .before .before .before .before) q)
+returns-4 c q = c .access .ensures q _ ∙ sym (performed (c .before .before .before .before .before) q)
 
 returns-5 : tie.Need-returns-5
-returns-5 c q = c .moves .ensures q (now (c .before .before .before .before .before .before .before .before .before .before .before .before .args .cells)) ∙ sym (performed (c .before .before .before .before .before .before) q)
+returns-5 c q = c .moves .ensures q _ ∙ sym (performed (c .before .before .before .before .before .before) q)
 
 returns-6 : tie.Need-returns-6
-returns-6 c q = c .jumps .ensures q (now (c .before .before .before .before .before .before .before .before .before .before .before .before .before .args .cells)) (c .before .before .before .before .before .before .before .register2 .result) ∙ sym (performed (c .before .before .before .before .before .before .before) q)
+returns-6 c q = c .jumps .ensures q _ _ ∙ sym (performed (c .before .before .before .before .before .before .before) q)
 
 returns-7 : tie.Need-returns-7
-returns-7 c q = c .system .ensures q (now (c .before .before .before .before .before .before .before .before .before .before .before .before .before .before .args .cells)) (c .before .before .before .before .before .before .before .before .register2 .result) ∙ sym (performed (c .before .before .before .before .before .before .before .before) q)
+returns-7 c q = c .system .ensures q _ _ ∙ sym (performed (c .before .before .before .before .before .before .before .before) q)
 
 returns-8 : tie.Need-returns-8
 unfolding execute perform

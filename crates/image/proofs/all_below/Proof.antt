@@ -4,7 +4,7 @@ use Prim.Native.Nat.{_≤_, _-_}
 use lib.ListN.{length, drop}
 use borrow.Author.Needs.{needs}
 use borrow.Author.Tests.{lt-ltb, le-ltb}
-use Rattle.image.proofs.Reading.{every, every-next, every-stop, every-end, below, below-every}
+use Rattle.image.proofs.Loops.{every, every-next, every-stop, every-end, below, below-every}
 use Rattle.image.proofs.all_below.Statement.{statement}
 use Rattle.image.proofs.all_below.Tie as tie
 

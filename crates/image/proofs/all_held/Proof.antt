@@ -3,7 +3,7 @@ use mathlib.Core.Path.{_≡_, sym, _∙_}
 use Prim.Native.Nat.{_≤_, _-_}
 use lib.ListN.{length, drop}
 use borrow.Author.Needs.{needs}
-use Rattle.image.proofs.Reading.{every, every-next, every-stop, every-end, held, held-every}
+use Rattle.image.proofs.Loops.{every, every-next, every-stop, every-end, held, held-every}
 use Rattle.image.proofs.all_held.Statement.{statement}
 use Rattle.image.proofs.all_held.Tie as tie
 

@@ -5,7 +5,7 @@ use native.Mathlib.Omega.{arith}
 use lib.ListN.{length, take}
 use lib.Seq.{take-all}
 use borrow.Author.Needs.{needs}
-use Rattle.image.proofs.Writing.{copy-more}
+use Rattle.image.proofs.Loops.{copy-more}
 use Rattle.image.proofs.copy.Statement.{statement}
 use Rattle.image.proofs.copy.Tie as tie
 

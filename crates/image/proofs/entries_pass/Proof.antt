@@ -5,7 +5,7 @@ use native.Mathlib.Omega.{arith}
 use borrow.Author.Needs.{needs}
 use Rattle.machine.proofs.Flat.{stackOf}
 use Rattle.image.specs.Entries.{allPass}
-use Rattle.image.proofs.Reading.{stack-of, pass-none, pass-more}
+use Rattle.image.proofs.Loops.{stack-of, pass-none, pass-more}
 use Rattle.image.proofs.entries_pass.Statement.{statement}
 use Rattle.image.proofs.entries_pass.Tie as tie
 

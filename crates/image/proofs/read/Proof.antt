@@ -1,5 +1,5 @@
 -- `read` meets its contract: the words before the last entry say the machine. Assumes nothing.
-use mathlib.Core.Path.{_≡_, sym, ap, _∙_}
+use mathlib.Core.Path.{sym, _∙_}
 use borrow.Author.Needs.{needs}
 use Rattle.image.proofs.Reading.{refused-2, read-fits, read-length, read-deep, read-machine}
 use Rattle.image.proofs.read.Statement.{statement}

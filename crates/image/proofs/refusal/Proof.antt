@@ -1,7 +1,7 @@
 -- `refusal` meets its contract: the first no decides. Assumes nothing.
 use mathlib.Core.Path.{sym, _∙_}
 use borrow.Author.Needs.{needs}
-use Rattle.image.proofs.Reading.{refused-3, refused-4, refused-5, accepted}
+use Rattle.image.proofs.Reading.{refused-3, refused-4, refused-5, refused-none}
 use Rattle.image.proofs.refusal.Statement.{statement}
 use Rattle.image.proofs.refusal.Tie as tie
 
@@ -16,7 +16,7 @@ stack-fits-requires c κs = search needs
 
 returns : tie.Need-returns
 returns c = let asked = c .before .before .before in
-    accepted _ (sym (asked .before .before .numbers-fit .ensures) ∙ c .before .before .if1 .taken)
+    refused-none _ (sym (asked .before .before .numbers-fit .ensures) ∙ c .before .before .if1 .taken)
     (sym (asked .before .modes-fit .ensures) ∙ c .before .if2 .taken) (sym (asked .stack-fits .ensures) ∙ c .if3 .taken)
 
 returns-2 : tie.Need-returns-2
@@ -43,4 +43,3 @@ refusal-spec =
     returns-2
     returns-3
     returns-4)
-

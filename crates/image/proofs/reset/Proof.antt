@@ -1,5 +1,5 @@
 -- `reset` meets its contract: the numbers copied are those of the machine at reset, which no word past them changes. Assumes nothing.
-use mathlib.Core.Path.{_≡_, sym}
+use mathlib.Core.Path.{sym}
 use native.Mathlib.Omega.{arith}
 use lib.Seq.{length-take-le}
 use borrow.Author.Needs.{needs}

@@ -1,5 +1,5 @@
 -- `service_flags` meets its contract: one entry more sets the flag of its source. Assumes nothing.
-use mathlib.Core.Path.{_≡_, sym, ap, _∙_}
+use mathlib.Core.Path.{_≡_, ap, _∙_}
 use mathlib.Core.Bool.{true}
 use Prim.Native.Nat.{_≤_, _-_}
 use native.Mathlib.Omega.{arith}
@@ -8,7 +8,7 @@ use Rattle.machine.specs.Stack.{serviceFlags}
 use Rattle.machine.proofs.Flat.{stackOf}
 use Rattle.image.specs.Entries.{allPass}
 use Rattle.image.specs.declared.Test.the-variants.{Source}
-use Rattle.image.proofs.Reading.{entryWords, stack-of, pass-at, source-small, flags-none, flags-more}
+use Rattle.image.proofs.Loops.{stack-of, pass-at, source-small, flags-none, flags-more}
 use Rattle.image.proofs.service_flags.Statement.{statement}
 use Rattle.image.proofs.service_flags.Tie as tie
 

@@ -1,12 +1,13 @@
 -- `write` meets its contract: with the five counts in their places, the words up to the last entry are the image's numbers. Assumes nothing.
-use mathlib.Core.Path.{_≡_, sym, ap, _∙_}
-use Prim.Native.Nat.{_+_, _*_, _≤_}
+use mathlib.Core.Path.{ap}
+use mathlib.Core.List.{List}
+use Prim.Native.Nat.{ℕ}
 use native.Mathlib.Omega.{arith}
-use lib.ListN.{length, length-set}
-use lib.Seq.{length-take-le}
+use lib.ListN.{length-set, length-take}
 use borrow.Author.Needs.{needs}
+use Rattle.codec.specs.Number.{bytesOf, over}
 use Rattle.image.specs.Image.{writeImage}
-use Rattle.image.proofs.Writing.{withCounts, counted-length, counted-numbers}
+use Rattle.image.proofs.Writing.{counted-numbers}
 use Rattle.image.proofs.write.Statement.{statement}
 use Rattle.image.proofs.write.Tie as tie
 
@@ -41,11 +42,10 @@ slice-reshare-prefix-write-numbers : tie.Need-slice-reshare-prefix-write-numbers
 slice-reshare-prefix-write-numbers c = simp length-set (omega arith)
 
 slice-aggregate-write-numbers : tie.Need-slice-aggregate-write-numbers
-slice-aggregate-write-numbers c = sym (length-take-le _ _ (simp length-set (omega arith)))
+slice-aggregate-write-numbers c = simp (length-take, length-set) (omega arith)
 
 write-numbers-requires : tie.Need-write-numbers-requires
-write-numbers-requires c κs = let w = c .before .before .before .before .before .before .args .w .now in
-    rw (length-take-le (129 + 4 * c .before .before .depth .result) (withCounts w) (simp length-set (omega arith))) (omega arith)
+write-numbers-requires c κs = simp (length-take, length-set) (omega arith)
 
 same-length : tie.Need-same-length
 same-length c = search needs
@@ -56,7 +56,8 @@ same-length-2 c = search needs
 returns : tie.Need-returns
 unfolding writeImage
 returns c = let start = c .before .before .before .before .before .before .before .before .before in
-    rw (c .before .before .write-numbers .ensures, c .before .before .before .before .before .depth .ensures, counted-numbers (start .args .w .now) (start .pre .0) (start .pre .1))
+    rw (c .before .before .write-numbers .ensures, c .before .before .before .before .before .depth .ensures)
+    (ap (λ (ns : List ℕ). over (bytesOf ns) (start .args .buffer .now)) (counted-numbers (start .args .w .now) (start .pre .0) (start .pre .1)))
 
 pub write-spec : {M : Type 1} → statement M
 write-spec =

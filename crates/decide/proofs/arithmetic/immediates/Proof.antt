@@ -58,7 +58,13 @@ returns c v y = rw (c .before .before .match .keys1, c .checked .ensures, c .bef
 
 returns-2 : tie.Need-returns-2
 unfolding operations operationOf execute
-returns-2 c v y = rw (c .before .before .match .keys2, c .wrapped .ensures, c .before .add2 .ensures, c .before .before .before .immediate-word .ensures)
+returns-2 c v y =
+    rw (
+      c .before .before .match .keys2,
+      c .wrapped .ensures,
+      c .before .add2 .ensures,
+      c .before .before .before .immediate-word .ensures,
+    )
 
 returns-3 : tie.Need-returns-3
 unfolding operations operationOf execute
@@ -70,7 +76,15 @@ returns-4 c v y = rw (c .before .match .keys4, c .or .ensures, c .before .before
 
 returns-5 : tie.Need-returns-5
 unfolding operations operationOf execute
-returns-5 c v y = rw (c .before .before .before .before .match .keys5, c .product .ensures, c .before .multiply .ensures, back w32 (c .before .before .before .signed .result) (c .before .before .before .signed .ok), c .before .before .before .signed .ensures, back w32 (c .before .before .before .before .before .before .args .i .immediate) (omega arith))
+returns-5 c v y =
+    rw (
+      c .before .before .before .before .match .keys5,
+      c .product .ensures,
+      c .before .multiply .ensures,
+      back w32 (c .before .before .before .signed .result) (c .before .before .before .signed .ok),
+      c .before .before .before .signed .ensures,
+      back w32 (c .before .before .before .before .before .before .args .i .immediate) (omega arith),
+    )
 
 returns-6 : tie.Need-returns-6
 unfolding operations operationOf execute

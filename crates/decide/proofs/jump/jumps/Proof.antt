@@ -4,9 +4,8 @@ use mathlib.Core.Path.{_≡_, sym, _∙_}
 use Prim.Native.Nat.{_≤_}
 use native.Mathlib.Omega.{arith}
 use mir.Facts.{toZ-pos}
-use mir.Syntax.{w32, w64}
+use mir.Syntax.{w64}
 use borrow.Author.Needs.{needs}
-use Rattle.word.proofs.Integers.{back}
 use Rattle.decide.proofs.Groups.{jumps-by-immediate, jumps-by-register, branches}
 use Rattle.decide.proofs.jump.jumps.Statement.{statement}
 use Rattle.decide.proofs.jump.jumps.Tie as tie
@@ -15,17 +14,14 @@ use Rattle.decide.proofs.jump.jumps.Tie as tie
 from-40 : (c : tie.Joined1) → 40 ≤ c .before .before .args .op
 from-40 c = ⊎-elim (λ w. omega arith) (λ w. omega arith) (c .if1 .came)
 
-target-by-requires : tie.Need-target-by-requires
-target-by-requires c κs = search needs
-
-jumped-requires : tie.Need-jumped-requires
-jumped-requires c κs = search needs
+jumped-by-immediate-requires : tie.Need-jumped-by-immediate-requires
+jumped-by-immediate-requires c κs = search needs
 
 cast-jumped : tie.Need-cast-jumped
 cast-jumped c = search needs
 
-jumped-requires-2 : tie.Need-jumped-requires-2
-jumped-requires-2 c κs = search needs
+jumped-requires : tie.Need-jumped-requires
+jumped-requires c κs = search needs
 
 sub-branch : tie.Need-sub-branch
 sub-branch c = from-40 c
@@ -35,13 +31,14 @@ branch-requires c κs = search needs
 
 returns : tie.Need-returns
 returns c q cells y =
-    let a = c .before .before .before .before .before .before .args in
-    c .jumped .ensures q cells ∙ rw (back w64 (c .before .target-by .result) (c .before .target-by .ok), c .before .target-by .ensures q cells, back w32 (c .before .before .before .before .before .before .args .i .immediate) (omega arith)) (sym (jumps-by-immediate _ (a .i) (a .x) y (a .op) (omega arith) (omega arith)))
+    let a = c .before .before .before .before .args in
+    c .jumped-by-immediate .ensures q cells ∙ sym (jumps-by-immediate _ (a .i) (a .x) y (a .op) (omega arith) (omega arith))
 
 returns-2 : tie.Need-returns-2
 returns-2 c q cells y =
     let a = c .before .before .before .before .before .args in
-    c .jumped2 .ensures q cells ∙ rw (toZ-pos w64 {n = a .x} (omega arith)) (sym (jumps-by-register _ (a .i) (a .x) y (a .op) (omega arith) (omega arith)))
+    c .jumped .ensures q cells
+    ∙ rw (toZ-pos w64 {n = a .x} (omega arith)) (sym (jumps-by-register _ (a .i) (a .x) y (a .op) (omega arith) (omega arith)))
 
 returns-3 : tie.Need-returns-3
 returns-3 c q cells y =
@@ -49,4 +46,4 @@ returns-3 c q cells y =
     c .branch .ensures q cells ∙ sym (branches _ (a .i) (a .x) y (a .op) (from-40 (c .before)) (omega arith))
 
 pub jumps-spec : {M : Type 1} → statement M
-jumps-spec = tie.close (tie.spec target-by-requires jumped-requires cast-jumped jumped-requires-2 sub-branch branch-requires returns returns-2 returns-3)
+jumps-spec = tie.close (tie.spec jumped-by-immediate-requires cast-jumped jumped-requires sub-branch branch-requires returns returns-2 returns-3)

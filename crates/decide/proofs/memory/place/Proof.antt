@@ -1,24 +1,21 @@
 -- `decide::memory::place` meets its contract: test by test. Assumes nothing.
-use mathlib.Core.Bool.{not}
-use mathlib.Core.Path.{_≡_, sym, ap, _∙_}
-use lib.IntN.{ℤ}
-use mir.Syntax.{w64}
+use mathlib.Core.Path.{_≡_, sym, _∙_}
 use borrow.Author.Needs.{needs}
 use borrow.Author.Tests.{lt-ltb, le-ltb}
-use Rattle.word.proofs.Integers.{back}
 use Rattle.word.specs.Choice.{if_then_else_}
 use Rattle.word.specs.Word.{wordOf, isAddress}
 use Rattle.decide.specs.View.{placeAt}
+use Rattle.decide.proofs.Signed.{handed}
 use Rattle.decide.proofs.Bounds.{in-block-from}
 use Rattle.decide.proofs.memory.place.Statement.{statement}
 use Rattle.decide.proofs.memory.place.Tie as tie
 
 -- the address's low word, and whether it has 32 bits
 word-is : (c : tie.After-low-word) → c .low-word .result ≡ wordOf 32 (c .before .before .args .address)
-word-is c = c .low-word .ensures ∙ ap (λ (z : ℤ). wordOf 32 z) (back w64 (c .before .before .args .address) (c .before .before .fits .address .sfits))
+word-is c = handed (wordOf 32) (c .before .before .fits .address) (c .low-word .ensures)
 
 address-is : (c : tie.After-is-address) → c .is-address .result ≡ isAddress (c .before .before .before .before .args .address)
-address-is c = c .is-address .ensures ∙ ap isAddress (back w64 (c .before .before .before .before .args .address) (c .before .before .before .before .fits .address .sfits))
+address-is c = handed isAddress (c .before .before .before .before .fits .address) (c .is-address .ensures)
 
 low-word-requires : tie.Need-low-word-requires
 low-word-requires c κs = search needs
@@ -47,19 +44,59 @@ returns c = simp (← (address-is (c .before)), ← (word-is (c .before .before 
 
 returns-2 : tie.Need-returns-2
 unfolding placeAt if_then_else_
-returns-2 c = simp (← (address-is (c .before .before .before)), ← (word-is (c .before .before .before .before .before)), ← (c .before .before .before .before .control .ensures), ← (c .before .guarded .ensures), c .before .before .if1 .left, c .if2 .taken)
+returns-2 c =
+    simp (
+      ← (address-is (c .before .before .before)),
+      ← (word-is (c .before .before .before .before .before)),
+      ← (c .before .before .before .before .control .ensures),
+      ← (c .before .guarded .ensures),
+      c .before .before .if1 .left,
+      c .if2 .taken,
+    )
 
 returns-3 : tie.Need-returns-3
 unfolding placeAt if_then_else_
-returns-3 c = simp (← (address-is (c .before .before .before .before .before)), ← (word-is (c .before .before .before .before .before .before .before)), ← (c .before .before .before .before .before .before .control .ensures), ← (c .before .before .before .guarded .ensures), ← (c .before .in-block .ensures), c .before .before .before .before .if1 .left, c .before .before .if2 .left, c .if3 .taken)
+returns-3 c =
+    simp (
+      ← (address-is (c .before .before .before .before .before)),
+      ← (word-is (c .before .before .before .before .before .before .before)),
+      ← (c .before .before .before .before .before .before .control .ensures),
+      ← (c .before .before .before .guarded .ensures),
+      ← (c .before .in-block .ensures),
+      c .before .before .before .before .if1 .left,
+      c .before .before .if2 .left,
+      c .if3 .taken,
+    )
 
 returns-4 : tie.Need-returns-4
 unfolding placeAt if_then_else_
-returns-4 c = simp (← (address-is (c .before .before .before .before .before .before)), ← (word-is (c .before .before .before .before .before .before .before .before)), ← (c .before .before .before .before .before .before .before .control .ensures), ← (c .before .before .before .before .guarded .ensures), ← (c .before .before .in-block .ensures), c .before .before .before .before .before .if1 .left, c .before .before .before .if2 .left, c .before .if3 .left, lt-ltb _ _ (c .if4 .taken))
+returns-4 c =
+    simp (
+      ← (address-is (c .before .before .before .before .before .before)),
+      ← (word-is (c .before .before .before .before .before .before .before .before)),
+      ← (c .before .before .before .before .before .before .before .control .ensures),
+      ← (c .before .before .before .before .guarded .ensures),
+      ← (c .before .before .in-block .ensures),
+      c .before .before .before .before .before .if1 .left,
+      c .before .before .before .if2 .left,
+      c .before .if3 .left,
+      lt-ltb _ _ (c .if4 .taken),
+    )
 
 returns-5 : tie.Need-returns-5
 unfolding placeAt if_then_else_
-returns-5 c = simp (← (address-is (c .before .before .before .before .before .before)), ← (word-is (c .before .before .before .before .before .before .before .before)), ← (c .before .before .before .before .before .before .before .control .ensures), ← (c .before .before .before .before .guarded .ensures), ← (c .before .before .in-block .ensures), c .before .before .before .before .before .if1 .left, c .before .before .before .if2 .left, c .before .if3 .left, le-ltb _ _ (c .if4 .left))
+returns-5 c =
+    simp (
+      ← (address-is (c .before .before .before .before .before .before)),
+      ← (word-is (c .before .before .before .before .before .before .before .before)),
+      ← (c .before .before .before .before .before .before .before .control .ensures),
+      ← (c .before .before .before .before .guarded .ensures),
+      ← (c .before .before .in-block .ensures),
+      c .before .before .before .before .before .if1 .left,
+      c .before .before .before .if2 .left,
+      c .before .if3 .left,
+      le-ltb _ _ (c .if4 .left),
+    )
 
 pub place-spec : {M : Type 1} → statement M
 place-spec = tie.close (tie.spec low-word-requires control-requires is-address-requires guarded-requires in-block-requires sub-t14 cast-if4 returns returns-2 returns-3 returns-4 returns-5)

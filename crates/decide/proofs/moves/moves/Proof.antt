@@ -69,7 +69,14 @@ returns-7 : tie.Need-returns-7
 unfolding operations operationOf writesSet2 view execute
 returns-7 c q cells =
     let last : c .before .before .before .before .before .before .args .op ≡ 35 = the-last 29 6 _ (c .before .before .before .match .rest) (omega arith) (omega arith) in
-    rw (last, c .before .before .before .before .immediate-word .ensures, word-low 16 16 (c .before .before .before .before .before .before .args .i .immediate), c .register .ensures, c .before .has-flag .ensures, c .before .before .psr .ensures)
+    rw (
+      last,
+      c .before .before .before .before .immediate-word .ensures,
+      word-low 16 16 (c .before .before .before .before .before .before .args .i .immediate),
+      c .register .ensures,
+      c .before .has-flag .ensures,
+      c .before .before .psr .ensures,
+    )
 
 pub moves-spec : {M : Type 1} → statement M
 moves-spec = tie.close (tie.spec immediate-word-requires not-requires high-half-requires cmp-requires cmp-requires-2 psr-requires has-flag-requires register-requires mul-t16 add-t18 returns returns-2 returns-3 returns-4 returns-5 returns-6 returns-7)

@@ -37,15 +37,43 @@ word-at-requires c κs = search needs
 
 returns : tie.Need-returns
 unfolding view fetchAt userMode wideWords widthOf if_then_else_
-returns c cells = simp (← (c .before .before .before .before .psr .ensures), ← (c .before .before .before .pc .ensures), ← (c .before .before .has-flag .ensures), ← (c .before .word-bytes .ensures), ne-eqb _ _ (c .if1 .taken))
+returns c cells =
+    simp (
+      ← (c .before .before .before .before .psr .ensures),
+      ← (c .before .before .before .pc .ensures),
+      ← (c .before .before .has-flag .ensures),
+      ← (c .before .word-bytes .ensures),
+      ne-eqb _ _ (c .if1 .taken),
+    )
 
 returns-2 : tie.Need-returns-2
 unfolding view fetchAt userMode wideWords widthOf if_then_else_
-returns-2 c cells = simp (← (c .before .before .before .before .before .before .before .psr .ensures), ← (c .before .before .before .before .before .before .pc .ensures), ← (c .before .before .before .before .before .has-flag .ensures), ← (c .before .before .before .before .word-bytes .ensures), eq-eqb _ _ (c .before .before .before .if1 .left), ← (c .before .before .has-flag2 .ensures), ← (c .before .closed .ensures), c .if2 .taken)
+returns-2 c cells =
+    simp (
+      ← (c .before .before .before .before .before .before .before .psr .ensures),
+      ← (c .before .before .before .before .before .before .pc .ensures),
+      ← (c .before .before .before .before .before .has-flag .ensures),
+      ← (c .before .before .before .before .word-bytes .ensures),
+      eq-eqb _ _ (c .before .before .before .if1 .left),
+      ← (c .before .before .has-flag2 .ensures),
+      ← (c .before .closed .ensures),
+      c .if2 .taken,
+    )
 
 returns-3 : tie.Need-returns-3
 unfolding view fetchAt userMode wideWords widthOf if_then_else_
-returns-3 c cells = simp (← (c .before .before .before .before .before .before .before .before .psr .ensures), ← (c .before .before .before .before .before .before .before .pc .ensures), ← (c .before .before .before .before .before .before .has-flag .ensures), ← (c .before .before .before .before .before .word-bytes .ensures), eq-eqb _ _ (c .before .before .before .before .if1 .left), ← (c .before .before .before .has-flag2 .ensures), ← (c .before .before .closed .ensures), c .before .if2 .left) (rw (c .before .before .before .before .before .word-bytes .ensures) (c .word-at .ensures))
+returns-3 c cells =
+    simp (
+      ← (c .before .before .before .before .before .before .before .before .psr .ensures),
+      ← (c .before .before .before .before .before .before .before .pc .ensures),
+      ← (c .before .before .before .before .before .before .has-flag .ensures),
+      ← (c .before .before .before .before .before .word-bytes .ensures),
+      eq-eqb _ _ (c .before .before .before .before .if1 .left),
+      ← (c .before .before .before .has-flag2 .ensures),
+      ← (c .before .before .closed .ensures),
+      c .before .if2 .left,
+    )
+    (rw (c .before .before .before .before .before .word-bytes .ensures) (c .word-at .ensures))
 
 pub fetch-spec : {M : Type 1} → statement M
 fetch-spec = tie.close (tie.spec psr-requires pc-requires has-flag-requires word-bytes-requires rem-if1 has-flag-requires-2 closed-requires word-at-requires returns returns-2 returns-3)

@@ -1,0 +1,13 @@
+//! Tests. Every expectation is derived from the papers: 01's "Worked by hand" and
+//! the sentences quoted at each test, and 002's sections.
+
+mod bench;
+mod control_block;
+mod exceptions;
+mod images;
+mod interrupts;
+mod operations;
+mod random;
+mod transfers;
+mod words;
+mod worked;
