@@ -95,7 +95,7 @@ fn places(n: u32) -> usize
 }
 
 // Writes the lowest digits of a number in a base, from a place on, and a character after them.
-fn put_number(line: &mut [u8], at: usize, base: u32, count: usize, n: u32, end: u8)
+pub fn put_number(line: &mut [u8], at: usize, base: u32, count: usize, n: u32, end: u8)
     requires { ⌜ ((1 ≤ base) × (base ≤ 16)) × (at + count + 1 ≤ length (now line)) ⌝ }
     ensures { λ _. ⌜ now (line .exit) ≡ stored (now (line .entry)) at (digitsOf base count n ++ end ∷ []) ⌝ }
 {

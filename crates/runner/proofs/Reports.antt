@@ -1,0 +1,122 @@
+-- Laws of the report. Assumes nothing.
+use mathlib.Core.Path.{_≡_, sym, ap, _∙_}
+use mathlib.Core.List.{List, [], _∷_, _++_}
+use Prim.Native.Nat.{ℕ, _≤_, _<_}
+use native.Mathlib.Omega.{arith}
+use lib.ListN.{length, getD, take, drop, replicate, List·getD-append}
+use lib.Seq.{length-take-le, take-all}
+use lib.Dec.{leb, lit<, lit≤}
+use borrow.Author.Tests.{leb-true, leb-false, le-leb, lt-leb}
+use Rattle.word.specs.Choice.{if_then_else_}
+use Rattle.codec.specs.Number.{numbersOf, over}
+use Rattle.codec.proofs.Laws.{numbersOf-bytesOf, numbersOf-append}
+use Rattle.machine.specs.Machine.{Machine}
+use Rattle.machine.specs.Control.{reset}
+use Rattle.machine.specs.Words.{POSITION, positionOf, machineOf}
+use Rattle.machine.proofs.Flat.{section-at}
+use Rattle.image.specs.Questions.{allBelow}
+use Rattle.image.specs.Image.{imageNumbers, writeImage}
+use Rattle.image.proofs.Formed.{WellFormed, formed-counts}
+use Rattle.image.proofs.Sections.{machineOf-imageNumbers, length-imageNumbers}
+use Rattle.image.proofs.Image.{length-writeImage, imageNumbers-below, reset-formed, reset-accepted}
+use Rattle.emulator.specs.Run.{Outcome, outcome, runCall, Asked, No, Start, askCall, ask, stateOf, resultFrom}
+use Rattle.emulator.specs.Closure.{AllYes, Questions}
+use Rattle.emulator.specs.declared.Answer.{Answer}
+use Rattle.emulator.proofs.Closed.{questions, result-formed}
+use Rattle.emulator.proofs.Answers.{call-refused, call-started}
+use Rattle.console.specs.Digits.{newline, digitOf, digitsOf, placesFrom}
+use Rattle.console.specs.Limit.{limitOf}
+use Rattle.console.specs.Line.{ranText, refusalText}
+use Rattle.console.proofs.Digits.{either}
+use Rattle.console.proofs.Limits.{limit-front}
+use Rattle.runner.specs.Report.{zeroCells, pcOf, answerText, callOf, outcomeOf, reportOf}
+
+-- ---- the report is that of a run call
+
+-- what a run call from reset answers and leaves is what is reported
+pub reported : (code text image : List ℕ) (limit : ℕ) (a : Answer) (buffer cells : List ℕ) → image ≡ writeImage reset → limit ≡ limitOf text
+    → outcome a buffer cells ≡ runCall code image zeroCells (record { requests = []; limit = limit; buffer = replicate 708 0 })
+    → answerText a buffer ≡ reportOf code text
+unfolding callOf outcomeOf reportOf
+reported code text image limit a buffer cells i l e =
+    let o : outcome a buffer cells ≡ outcomeOf code text = e ∙ rw (i, l) in
+    ap (λ (x : Outcome). answerText (x .answer) (x .buffer)) o
+
+-- limit.txt counts by the limit that it says
+report-by-limit : (code text other : List ℕ) → limitOf text ≡ limitOf other → reportOf code text ≡ reportOf code other
+unfolding callOf outcomeOf reportOf
+report-by-limit code text other e = rw e
+
+-- ---- refusals
+
+abbrev asked : (code text : List ℕ) → Asked
+asked code text = ask code (writeImage reset) zeroCells (callOf text)
+
+report-refused : (code text : List ℕ) (n : ℕ) → asked code text ≡ No n → reportOf code text ≡ refusalText n
+unfolding reportOf outcomeOf answerText
+report-refused code text n e = rw (call-refused code (writeImage reset) zeroCells (callOf text) n e)
+
+-- a program of more than 65,536 bytes is refused before anything else, a bad limit.txt included: `1` and a newline
+pub report-long : (code text : List ℕ) → 65536 < length code → reportOf code text ≡ 49 ∷ newline ∷ []
+unfolding ask if_then_else_ refusalText digitsOf digitOf placesFrom
+report-long code text h = report-refused code text 1 (rw (lt-leb (length code) 65536 h))
+
+-- any other is refused just for its limit: `7` and a newline
+pub report-unlimited : (code text : List ℕ) → length code ≤ 65536 → 1000000 < limitOf text → reportOf code text ≡ 55 ∷ newline ∷ []
+unfolding ask askCall callOf allBelow if_then_else_ refusalText digitsOf digitOf placesFrom
+report-unlimited code text h l =
+    report-refused code text 7 (rw (le-leb (length code) 65536 h, reset-accepted, lt-leb (limitOf text) 1000000 l))
+
+-- ---- a call that runs
+
+-- the program counter that is read is that of the machine whose image is at the front
+pc-at : (words : List ℕ) → machineOf words .position .pc ≡ getD words POSITION 0
+unfolding machineOf positionOf
+pc-at words = section-at words POSITION 6 0 (lit< tt)
+
+module _ (m : Machine) (s : List ℕ) (f : WellFormed m) where
+  abbrev further : List ℕ
+  further = numbersOf (drop (length (writeImage m)) s)
+
+  numbers-front : numbersOf (over (writeImage m) s) ≡ imageNumbers m ++ further
+  unfolding writeImage
+  numbers-front =
+      numbersOf-append (writeImage m) (drop (length (writeImage m)) s) (omega (arith, length-writeImage (formed-counts f)))
+      ∙ ap (λ l. l ++ further) (numbersOf-bytesOf (imageNumbers m) (imageNumbers-below f))
+
+  pcOf-image : pcOf (over (writeImage m) s) ≡ m .position .pc
+  unfolding pcOf
+  pcOf-image =
+      let c = formed-counts f in
+      ap (λ l. machineOf l .position .pc) numbers-front
+      ∙ pc-at (imageNumbers m ++ further)
+      ∙ List·getD-append (imageNumbers m) further 0 POSITION (omega (arith, length-imageNumbers m c))
+      ∙ sym (pc-at (imageNumbers m))
+      ∙ ap (λ (x : Machine). x .position .pc) (machineOf-imageNumbers m c)
+
+-- steps, ending and PC are those of the run from reset, with no requests
+module _ (code text : List ℕ) (h : length code ≤ 65536) (l : limitOf text ≤ 1000000) where
+  all-yes : AllYes code (writeImage reset) zeroCells (callOf text) reset
+  unfolding callOf
+  all-yes = record { programSize = h; dataSize = lit≤ tt; read = reset-accepted; requests = λ i. lit≤ tt; limit = l; room = lit≤ tt }
+
+  pub report-ran : let e = resultFrom code [] (limitOf text) 0 (stateOf reset zeroCells) in
+      reportOf code text ≡ ranText (e .steps) (e .ending) (e .after .machine .position .pc)
+  unfolding reportOf outcomeOf callOf answerText Questions
+  report-ran =
+      let e = resultFrom code [] (limitOf text) 0 (stateOf reset zeroCells) in
+      let a = questions code (writeImage reset) zeroCells (callOf text) reset .1 all-yes in
+      let o = call-started code (writeImage reset) zeroCells (callOf text) reset a in
+      ap (λ (x : Outcome). answerText (x .answer) (x .buffer)) o
+      ∙ ap (ranText (e .steps) (e .ending)) (pcOf-image (e .after .machine) (replicate 708 0) (result-formed code [] (limitOf text) (stateOf reset zeroCells) reset-formed))
+
+-- ---- the bytes that are read
+
+-- of longer files the bytes that are read say the same
+pub report-fronts : (code text : List ℕ) → reportOf (take 65537 code) (take 16 text) ≡ reportOf code text
+report-fronts code text =
+    either (leb (length code) 65536)
+    (λ e. ap (λ (x : List ℕ). reportOf x (take 16 text)) (take-all 65537 code (omega (arith, leb-true (length code) 65536 e))) ∙ report-by-limit code (take 16 text) text (limit-front text 16 (lit≤ tt)))
+    (λ e.
+    let m : 65536 < length code = leb-false (length code) 65536 e in
+    report-long (take 65537 code) (take 16 text) (omega (arith, length-take-le 65537 code m)) ∙ sym (report-long code text m))

@@ -1,0 +1,2 @@
+-- The run program.
+pub mod Report

@@ -1,0 +1,38 @@
+-- What the run program prints for its two files (01 "Worked by hand", the run program). Assumes nothing.
+use mathlib.Core.List.{List, []}
+use Prim.Native.Nat.{ℕ}
+use lib.ListN.{replicate}
+use Rattle.codec.specs.Number.{numbersOf}
+use Rattle.machine.specs.Control.{reset}
+use Rattle.machine.specs.Words.{machineOf}
+use Rattle.image.specs.Image.{writeImage}
+use Rattle.emulator.specs.Run.{Call, Outcome, runCall}
+use Rattle.emulator.specs.declared.Answer.{Answer}
+use Rattle.emulator.specs.declared.Answer.the-variants.{Refusal, Ran}
+use Rattle.console.specs.Limit.{limitOf}
+use Rattle.console.specs.Line.{ranText, refusalText}
+
+-- the program counter that an image at the front of a buffer says
+unfoldable pub pcOf : (buffer : List ℕ) → ℕ
+pcOf buffer = machineOf (numbersOf buffer) .position .pc
+
+-- "prints steps, ending, PC in 8 hex digits ..": PC is that of the image which the call left; "A refusal prints its number alone and a newline"
+unfoldable pub answerText : Answer → (buffer : List ℕ) → List ℕ
+answerText (Refusal n) buffer = refusalText n
+answerText (Ran steps ending) buffer = ranText steps ending (pcOf buffer)
+
+-- "4,096 zero cells"
+abbrev pub zeroCells : List ℕ
+zeroCells = replicate 4096 0
+
+-- "runs without requests", with the limit that limit.txt says and a buffer that is long enough for every image
+unfoldable pub callOf : (text : List ℕ) → Call
+callOf text = record { requests = []; limit = limitOf text; buffer = replicate 708 0 }
+
+-- "starts from reset with 4,096 zero cells, reads code.bin and limit.txt (decimal), runs without requests"
+unfoldable pub outcomeOf : (code text : List ℕ) → Outcome
+outcomeOf code text = runCall code (writeImage reset) zeroCells (callOf text)
+
+-- what the run program prints, `code` and `text` being the bytes of code.bin and limit.txt
+unfoldable pub reportOf : (code text : List ℕ) → List ℕ
+reportOf code text = answerText (outcomeOf code text .answer) (outcomeOf code text .buffer)

@@ -1,0 +1,99 @@
+// The run program: runs code.bin from reset for the steps that limit.txt says, and prints the answer.
+ghost use mathlib.Core.Path.{_≡_};
+ghost use lib.ListN.{length, take};
+ghost use Rattle.machine.specs.Control.{reset as resetOf};
+ghost use Rattle.machine.specs.Words.{WORDS};
+ghost use Rattle.image.specs.Image.{writeImage};
+ghost use Rattle.console.specs.Line.{lineOf};
+ghost use Rattle.io.specs.Counts.{Counts};
+ghost use Rattle.runner.specs.Report.{pcOf, answerText, reportOf};
+use console::Line;
+use emulator::Answer;
+use libc::STDOUT_FILENO;
+
+// ---- the report
+
+// The machine image at reset, at the front of the longest image's bytes.
+pub fn reset_image() -> [u8; 708]
+    ensures { λ r. ⌜ take 516 r ≡ writeImage resetOf ⌝ }
+{
+    let mut words = [0u32; 177];
+    image::reset(&mut words);
+    let mut bytes = [0u8; 708];
+    image::write(&mut words, &mut bytes);
+    bytes
+}
+
+// The program counter that an image at the front of a buffer says.
+fn pc(buffer: &[u8]) -> u32
+    requires { ⌜ length (now buffer) ≡ 708 ⌝ }
+    ensures { λ r. ⌜ r ≡ pcOf (now (buffer .entry)) ⌝ }
+{
+    let mut words = [0u32; 177];
+    codec::read_numbers(buffer, &mut words);
+    machine::pc(&words)
+}
+
+// The line for an answer and the buffer that holds the new image.
+pub fn line(answer: Answer, buffer: &[u8]) -> Line
+    requires { ⌜ length (now buffer) ≡ 708 ⌝ }
+    ensures { λ r. ⌜ r ≡ lineOf (answerText answer (now (buffer .entry))) ⌝ }
+{
+    match answer {
+        Answer::Refusal(n) => console::refusal_line(n),
+        Answer::Ran(steps, ending) => console::ran_line(steps, ending, pc(buffer)),
+    }
+}
+
+// The line that the run program prints for the bytes of code.bin and of limit.txt.
+pub fn report(code: &[u8], text: &[u8]) -> Line
+    ensures { λ r. ⌜ r ≡ lineOf (reportOf (now (code .entry)) (now (text .entry))) ⌝ }
+{
+    let image = reset_image();
+    let mut cells = [0u32; 4096];
+    let requests = [0u32; 0];
+    let limit = console::limit_of(text);
+    let mut buffer = [0u8; 708];
+    let answer = emulator::run(
+        code,
+        &mut cells,
+        &image[..516],
+        &requests,
+        limit,
+        &mut buffer,
+    );
+    line(answer, &buffer)
+}
+
+// ---- files
+
+// Puts a file's bytes at the front of a buffer, and answers how many; a file that cannot be opened counts as empty.
+fn load(path: &[u8], buffer: &mut [u8]) -> usize
+    ensures { λ r. ⌜ Counts r (now (buffer .exit)) ⌝ }
+{
+    let fd = os::open_read(path);
+    if fd < 0 {
+        return 0;
+    }
+    let n = io::read_full(fd, buffer);
+    libc::close(fd);
+    n
+}
+
+// Prints a line.
+pub fn print(line: Line)
+    requires { ⌜ Counts (line .count) (line .bytes) ⌝ }
+{
+    let n = line.count;
+    let bytes = line.bytes;
+    io::write_all(STDOUT_FILENO, &bytes[..n]);
+}
+
+// Reads code.bin and limit.txt, and prints the report. Of a longer file the bytes that are read say the same.
+pub fn run_files() {
+    let mut code = [0u8; 65537];
+    let n = load(b"code.bin", &mut code);
+    let mut text = [0u8; 16];
+    let m = load(b"limit.txt", &mut text);
+    print(report(&code[..n], &text[..m]));
+}
