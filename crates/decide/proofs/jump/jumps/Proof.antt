@@ -24,7 +24,7 @@ jumped-requires : tie.Need-jumped-requires
 jumped-requires c κs = search needs
 
 sub-branch : tie.Need-sub-branch
-sub-branch c = from-40 c
+sub-branch c = omega (arith, from-40 c)
 
 branch-requires : tie.Need-branch-requires
 branch-requires c κs = search needs
