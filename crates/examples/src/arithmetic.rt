@@ -16,7 +16,7 @@ pub fn wide_addition() {
     ];
     let requests = [0u32; 0];
     example(
-        b"wide addition, PR4 PR3 PR6 PR5:",
+        b"wide addition, PR4 PR3 PR6 PR5: ",
         &code,
         &requests,
         7,
@@ -33,7 +33,7 @@ pub fn field_constant() {
         0x1800_0841, // 0Ch: or PR2, PR2, PR1
     ];
     let requests = [0u32; 0];
-    example(b"field constant, PR2:", &code, &requests, 4, &[place::PR2]);
+    example(b"field constant, PR2: ", &code, &requests, 4, &[place::PR2]);
 }
 
 // 002 mulhi: the upper 32 bits of the product just made. (2^32 - 1)^2 is FFFFFFFE00000001h; (2^32 - 1) times -1 is FFFFFFFF00000001h; -1 times -1 is
@@ -52,7 +52,7 @@ pub fn products() {
     ];
     let requests = [0u32; 0];
     example(
-        b"products, PR3 PR2 PR5 PR4 PR7 PR6:",
+        b"products, PR3 PR2 PR5 PR4 PR7 PR6: ",
         &code,
         &requests,
         20,
@@ -83,20 +83,20 @@ pub fn comparisons() {
     ];
     let requests = [0u32; 0];
     example(
-        b"comparisons, C2 C3 C4:",
+        b"comparisons, C2 C3 C4: ",
         &code,
         &requests,
         5,
         &[place::C2, place::C3, place::C4],
     );
     example(
-        b"comparisons, PR3 C2:",
+        b"comparisons, PR3 C2: ",
         &code,
         &requests,
         7,
         &[place::PR3, place::C2],
     );
-    example(b"comparisons, C2:", &code, &requests, 8, &[place::C2]);
+    example(b"comparisons, C2: ", &code, &requests, 8, &[place::C2]);
 }
 
 // 002 sexti: "0 corresponds to LSB and 31 corresponds to MSB". Bits 0 and 7 of 81h are 1, bit 31 is 0.
@@ -109,7 +109,7 @@ pub fn sign_extension() {
     ];
     let requests = [0u32; 0];
     example(
-        b"sign extension, PR2 PR3 PR4:",
+        b"sign extension, PR2 PR3 PR4: ",
         &code,
         &requests,
         4,

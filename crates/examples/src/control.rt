@@ -14,7 +14,7 @@ pub fn remapping() {
     ];
     let requests = [0u32; 0];
     example(
-        b"remapping, CCB_BASE PCB_BASE:",
+        b"remapping, CCB_BASE PCB_BASE: ",
         &code,
         &requests,
         6,
@@ -45,14 +45,14 @@ pub fn interrupt() {
     ];
     let requests = [0u32, 0, 0x10];
     example(
-        b"interrupt, INT_PEND INT_SERV PSR:",
+        b"interrupt, INT_PEND INT_SERV PSR: ",
         &code,
         &requests,
         9,
         &[place::INT_PEND, place::INT_SERV, place::PSR],
     );
     example(
-        b"interrupt, INT_PEND INT_SERV PSR RETI_ADDR:",
+        b"interrupt, INT_PEND INT_SERV PSR RETI_ADDR: ",
         &code,
         &requests,
         10,
@@ -64,7 +64,7 @@ pub fn interrupt() {
         ],
     );
     example(
-        b"interrupt, INT_SERV PSR PR4 PR5:",
+        b"interrupt, INT_SERV PSR PR4 PR5: ",
         &code,
         &requests,
         14,
@@ -98,7 +98,7 @@ pub fn cancelled_request() {
     ];
     let requests = [0x10u32];
     example(
-        b"cancelled request, PR6 PR5 INT_SERV EXT_INT0_VEC PSR:",
+        b"cancelled request, PR6 PR5 INT_SERV EXT_INT0_VEC PSR: ",
         &code,
         &requests,
         17,
@@ -139,7 +139,7 @@ pub fn nested() {
     ];
     let requests = [0u32, 0, 0, 0, 0, 0, 0, 0, 0, 0, 0, 0x10, 0, 0x20];
     example(
-        b"nested, INT_SERV DEPTH RETI_ADDR:",
+        b"nested, INT_SERV DEPTH RETI_ADDR: ",
         &code,
         &requests,
         14,
@@ -173,14 +173,14 @@ pub fn lower_waits() {
     ];
     let requests = [0u32, 0, 0, 0, 0, 0, 0, 0, 0, 0, 0, 0x20, 0, 0x10];
     example(
-        b"lower waits, INT_SERV INT_PEND:",
+        b"lower waits, INT_SERV INT_PEND: ",
         &code,
         &requests,
         14,
         &[place::INT_SERV, place::INT_PEND],
     );
     example(
-        b"lower waits, INT_SERV INT_PEND:",
+        b"lower waits, INT_SERV INT_PEND: ",
         &code,
         &requests,
         16,
@@ -200,7 +200,7 @@ pub fn reset_vector() {
     ];
     let requests = [0u32, 0, 0, 0, 0, 0x10];
     example(
-        b"reset vector, EXCEPTION_CS EXCEPTION_PC INT_SERV:",
+        b"reset vector, EXCEPTION_CS EXCEPTION_PC INT_SERV: ",
         &code,
         &requests,
         7,

@@ -14,7 +14,7 @@ pub fn loop_with_slot() {
     ];
     let requests = [0u32; 0];
     example(
-        b"loop with slot, PR2 PR1 PR3:",
+        b"loop with slot, PR2 PR1 PR3: ",
         &code,
         &requests,
         21,
@@ -36,7 +36,7 @@ pub fn subroutine() {
     ];
     let requests = [0u32; 0];
     example(
-        b"subroutine, PR3 PR31:",
+        b"subroutine, PR3 PR31: ",
         &code,
         &requests,
         6,
@@ -56,7 +56,7 @@ pub fn far_jump() {
     ];
     let requests = [0u32; 0];
     example(
-        b"far jump, C3 PR4:",
+        b"far jump, C3 PR4: ",
         &code,
         &requests,
         10,
@@ -72,7 +72,7 @@ pub fn jump_below() {
     ];
     let requests = [0u32; 0];
     example(
-        b"jump below, EXCEPTION_CS EXCEPTION_PC:",
+        b"jump below, EXCEPTION_CS EXCEPTION_PC: ",
         &code,
         &requests,
         2,

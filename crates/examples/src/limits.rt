@@ -17,7 +17,7 @@ pub fn limit_zero() {
     let mut buffer = [0u8; 708];
     let answer = run(&code, &requests, 0, &mut buffer);
     let same = check::same(&image[..516], &buffer[..516]);
-    io::write_all(STDOUT_FILENO, b"limit 0, same image:");
+    io::write_all(STDOUT_FILENO, b"limit 0, same image: ");
     print_value(same as u32);
     print_end(answer, &buffer);
 }
@@ -26,7 +26,7 @@ pub fn limit_zero() {
 pub fn limit_high() {
     let code = CODE;
     let requests = [0u32; 0];
-    example(b"limit 1000001", &code, &requests, 1_000_001, &[0usize; 0]);
+    example(b"limit 1000001 ", &code, &requests, 1_000_001, &[0usize; 0]);
 }
 
 // 01: "PR2 is 4, C0 is 1, EXCEPTION_CS E3h". 5 - 1 is 4; 5 + FFFFFFFFh carries, so C0 is 1; trap 3 is 224 + 3 = E3h, and goes to EXCEP_ADDR, 0.
@@ -34,7 +34,7 @@ pub fn run_program() {
     let code = CODE;
     let requests = [0u32; 0];
     example(
-        b"run program, PR2 C0 EXCEPTION_CS:",
+        b"run program, PR2 C0 EXCEPTION_CS: ",
         &code,
         &requests,
         3,

@@ -16,9 +16,9 @@ pub fn widths() {
         0x7400_0720, // 1Ch: mov PR1, PR25
     ];
     let requests = [0u32; 0];
-    example(b"widths, PSR:", &code, &requests, 3, &[place::PSR]);
+    example(b"widths, PSR: ", &code, &requests, 3, &[place::PSR]);
     example(
-        b"widths, PSR PR1:",
+        b"widths, PSR PR1: ",
         &code,
         &requests,
         6,
@@ -41,7 +41,7 @@ pub fn short_loop() {
     ];
     let requests = [0u32; 0];
     example(
-        b"short loop, PSR PR25 PR24 PR26:",
+        b"short loop, PSR PR25 PR24 PR26: ",
         &code,
         &requests,
         20,
@@ -60,7 +60,7 @@ pub fn short_illegal() {
     ];
     let requests = [0u32; 0];
     example(
-        b"short illegal, EXCEPTION_CS EXCEPTION_PC EXCEPTION_PSR:",
+        b"short illegal, EXCEPTION_CS EXCEPTION_PC EXCEPTION_PSR: ",
         &code,
         &requests,
         2,
@@ -101,21 +101,21 @@ pub fn system_call() {
     ];
     let requests = [0u32; 0];
     example(
-        b"system call, PSR SPSR PR31:",
+        b"system call, PSR SPSR PR31: ",
         &code,
         &requests,
         10,
         &[place::PSR, place::SPSR, place::PR31],
     );
     example(
-        b"system call, PSR R2:",
+        b"system call, PSR R2: ",
         &code,
         &requests,
         17,
         &[place::PSR, place::R2],
     );
     example(
-        b"system call, EXCEPTION_CS EXCEPTION_PC EXCEPTION_PSR:",
+        b"system call, EXCEPTION_CS EXCEPTION_PC EXCEPTION_PSR: ",
         &code,
         &requests,
         18,
@@ -151,7 +151,7 @@ pub fn exception_return() {
     ];
     let requests = [0u32; 0];
     example(
-        b"exception return, EXCEPTION_CS EXCEPTION_PC EXCEPTION_PSR:",
+        b"exception return, EXCEPTION_CS EXCEPTION_PC EXCEPTION_PSR: ",
         &code,
         &requests,
         10,
@@ -162,7 +162,7 @@ pub fn exception_return() {
         ],
     );
     example(
-        b"exception return, PSR R2 R3:",
+        b"exception return, PSR R2 R3: ",
         &code,
         &requests,
         15,
@@ -183,7 +183,7 @@ pub fn user_load() {
     ];
     let requests = [0u32; 0];
     example(
-        b"user load, EXCEPTION_CS EXCEPTION_PC EXCEPTION_PSR:",
+        b"user load, EXCEPTION_CS EXCEPTION_PC EXCEPTION_PSR: ",
         &code,
         &requests,
         6,
@@ -211,7 +211,7 @@ pub fn user_fetch() {
     ];
     let requests = [0u32; 0];
     example(
-        b"user fetch, EXCEPTION_CS EXCEPTION_PC EXCEPTION_PSR:",
+        b"user fetch, EXCEPTION_CS EXCEPTION_PC EXCEPTION_PSR: ",
         &code,
         &requests,
         8,
@@ -231,7 +231,7 @@ pub fn load_below() {
     ];
     let requests = [0u32; 0];
     example(
-        b"load below, EXCEPTION_CS EXCEPTION_PC:",
+        b"load below, EXCEPTION_CS EXCEPTION_PC: ",
         &code,
         &requests,
         2,

@@ -1,6 +1,7 @@
 // Runs an example from reset, and prints a line of it.
 use emulator::Answer;
 use libc::STDOUT_FILENO;
+ghost use mathlib.Core.Path.{_≡_};
 ghost use Prim.Native.Nat.{_≤_};
 ghost use lib.ListN.{length};
 
@@ -23,11 +24,11 @@ pub fn run(code: &[u32], requests: &[u32], limit: u32, buffer: &mut [u8]) -> Ans
     )
 }
 
-// Prints a blank and a number in 8 hex digits.
+// Prints a number in 8 hex digits and a blank.
 pub fn print_value(x: u32) {
-    let mut text = [b' '; 10];
-    console::put_number(&mut text, 1, 16, 8, x, b' ');
-    io::write_all(STDOUT_FILENO, &text[..9]);
+    let mut text = [0u8; 9];
+    console::put_number(&mut text, 0, 16, 8, x, b' ');
+    io::write_all(STDOUT_FILENO, &text);
 }
 
 // Prints the numbers of an image at some places; a place past them prints nothing.
@@ -44,7 +45,7 @@ fn print_values(image: &[u8], places: &[usize]) {
 pub fn print_end(answer: Answer, buffer: &[u8])
     requires { ⌜ length (now buffer) ≡ 708 ⌝ }
 {
-    io::write_all(STDOUT_FILENO, b"; ");
+    io::write_all(STDOUT_FILENO, b"| ");
     runner::print(runner::line(answer, buffer));
 }
 
