@@ -1,5 +1,5 @@
 -- What the next instruction does: the order of its tests (01 "Instruction order"). Assumes nothing.
-use mathlib.Core.Bool.{Bool, true, false, not, _&&_}
+use mathlib.Core.Bool.{Bool, not, _&&_}
 use mathlib.Core.Option.{Option, none, some}
 use Prim.Native.Nat.{ℕ}
 use lib.ListN.{getD}
@@ -18,14 +18,16 @@ use Rattle.decide.specs.declared.Fetched.the-variants.{Word, Fault, Abse
 use Rattle.decide.specs.declared.Effect.{Effect}
 use Rattle.decide.specs.declared.Effect.the-variants.{Stopped, Raised, Next}
 
--- its own effect
+-- its own effect, on its two sources
 unfoldable pub perform : View → Instruction → Operation → Effect
 perform v i op = execute op v i (v .source (i .sreg1)) (v .source (i .sreg2))
 
+-- a conditional instruction whose condition is false of its condition register
 unfoldable pub conditionFalse : View → Instruction → Bool
 conditionFalse v i = i .conditional && not (holds (conditionOf (i .condition)) (getD (v .conditions) (i .creg) 0))
 
--- stop 13 for a control transfer in a slot; condition false: nothing but PC moves; its own effect
+-- the code of 01h or 02h, if there is one; stop 13 for a control transfer in a slot, condition true or not; "condition false: nothing
+-- but PC moves"; its own effect
 unfoldable pub ifAvailable : View → Instruction → Operation → Option ℕ → Effect
 ifAvailable v i op (some code) = Raised code
 ifAvailable v i op none =
@@ -33,17 +35,18 @@ ifAvailable v i op none =
     else if conditionFalse v i then Next
     else perform v i op
 
--- 01h, 02h; then the rest
+-- a decoded instruction: 01h unknown, 02h not in this width or mode; then the rest
 unfoldable pub instruction : View → Instruction → Effect
 instruction v i =
     let op = operationOf (i .opcode) in
     ifAvailable v i op (unavailable (properties op .availability) (widthOf (v .status)) (userMode (v .status)))
 
--- 05h, 00h, stop 11; then the instruction
+-- what was fetched: 05h and 00h, stop 11, or an instruction word of the width that IL says
 unfoldable pub fetchedThen : View → Fetched → Effect
 fetchedThen v (Word w) = instruction v (decode (widthOf (v .status)) w)
 fetchedThen v (Fault c) = Raised c
 fetchedThen v Absent = Stopped 11
 
+-- what the next instruction does
 unfoldable pub decide : View → Effect
 decide v = fetchedThen v (v .fetched)

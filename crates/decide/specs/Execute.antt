@@ -1,5 +1,5 @@
 -- What each operation does: one clause for each (01 "Instruction words" and "One step"; 002 section 6). Assumes nothing.
-use mathlib.Core.Bool.{Bool, true, false}
+use mathlib.Core.Bool.{true, false}
 use mathlib.Core.Bool as bool
 use mathlib.Core.List.{List, [], _∷_}
 use Prim.Native.Nat.{ℕ, _+_, _*_, _%_, _^_}
@@ -26,24 +26,28 @@ use Rattle.decide.specs.declared.Effect.the-variants.{Stopped, Raised, N
 
 -- ---- sums and products
 
--- outside signed 32 bits is 06h
+-- add, addi, sub: "06h outside signed 32 bits", else result and flags
 unfoldable pub checked : (dreg : ℕ) → Sum → Effect
 checked d s = if s .overflow then Raised 0x06 else ResultFlags d (s .value) (s .flags)
 
+-- addu, addiu, subu wrap: result and flags
 unfoldable pub wrapped : (dreg : ℕ) → Sum → Effect
 wrapped d s = ResultFlags d (s .value) (s .flags)
 
+-- muls, mulu, mulus, muli: the register takes the low half, and the product is held
 unfoldable pub product : (dreg : ℕ) → Product → Effect
 product d p = ResultProduct d (p .high) (p .low)
 
 -- ---- loads and stores (01 "Data tests")
 
+-- ld: the register takes what is at the place; neither block nor cell is stop 12
 unfoldable pub loaded : (dreg value : ℕ) → Place → Effect
 loaded d x (Block n) = Result d x
 loaded d x (Cell a) = Result d x
 loaded d x (Refused c) = Raised c
 loaded d x Missing = Stopped 12
 
+-- st: the place takes the value
 unfoldable pub stored : (value : ℕ) → Place → Effect
 stored x (Block n) = StoreControl n x
 stored x (Cell a) = StoreCell a x
@@ -60,7 +64,8 @@ afterThis v = v .position .pc + bytesOf (widthOf (v .status))
 unfoldable pub targetBy : View → (immediate : ℤ) → ℤ
 targetBy v n = pos (afterThis v) +ℤ n *ℤ pos 2
 
--- 04h for a target outside 32 bits, 03h misaligned, 09h in user mode if a byte of the target word is protected; else what a taken jump does
+-- a taken jump: 04h for a target outside 32 bits, 03h misaligned, then in user mode 09h if a byte of the target word is protected;
+-- else to the target after the slot. A target from a register has 32 bits, so only one by immediate gives 04h
 unfoldable pub jumped : View → (target : ℤ) (taken : ℕ → Effect) → Effect
 jumped v target taken =
     let t = wordOf 32 target in
@@ -69,15 +74,17 @@ jumped v target taken =
     else if v .closed t then Raised 0x09
     else taken t
 
+-- "40 to 47 branch on condition 0 to 7": taken where the condition holds of the condition register; not taken, no slot
 unfoldable pub branch : Condition → View → Instruction → Effect
 branch when v i = if holds when (getD (v .conditions) (i .creg) 0) then jumped v (targetBy v (i .immediate)) Jump else Next
 
--- condition registers in a word: Cn, three bits, at bits 3n+2..3n
+-- "Cn at bits 3n+2..3n", three bits each, C0 first
 unfoldable pub packed : List ℕ → ℕ
 packed [] = 0
 packed (c ∷ cs) = c % 8 + 8 * packed cs
 
--- ---- one clause for each operation; x and y are the two sources
+-- ---- one clause for each operation (002 section 6); x and y are the two sources. A result for PSR is dropped when it is applied.
+-- st and lui look at dreg: st in the set that registers are read from, lui in the one that they are written in
 
 unfoldable pub execute : Operation → View → Instruction → (x y : ℕ) → Effect
 execute nop v i x y = Next

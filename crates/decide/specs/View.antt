@@ -21,21 +21,23 @@ use Rattle.decide.specs.declared.Place.the-variants.{Block, Cell, Refuse
 
 -- ---- program memory
 
--- one of the n addresses from a on is within the bounds
+-- one of the n addresses from a on is within the bounds: "any byte of the word protected"
 unfoldable pub anyWithin : (low high a n : ℕ) → Bool
 anyWithin low high a zero = false
 anyWithin low high a (suc n) = within low high a || anyWithin low high (suc a) n
 
+-- a byte of the program goes on; one that is not there makes the word absent
 unfoldable pub byteThen : Option ℕ → (ℕ → Fetched) → Fetched
 byteThen none f = Absent
 byteThen (some b) f = f b
 
--- n bytes from a on, high byte first, below those of w
+-- the word of n bytes from a on, high byte first, below those of w
 unfoldable pub bytesAt : (program : List ℕ) (n a w : ℕ) → Fetched
 bytesAt program zero a w = Word w
 bytesAt program (suc n) a w = byteThen (getElem? program a) (λ b. bytesAt program n (suc a) (w * 256 + b))
 
--- misaligned 05h; any byte of the word protected in user mode 00h; byte absent (01 "Instruction order")
+-- the word at pc: misaligned (05h); any byte of the word protected in user mode (00h); byte absent (01 "Instruction order").
+-- Protection is by address, present or not
 unfoldable pub fetchAt : (program : List ℕ) (low high : ℕ) (user : Bool) (n pc : ℕ) → Fetched
 fetchAt program low high user n pc =
     if not (eqb (pc % n) 0) then Fault 0x05
@@ -44,11 +46,12 @@ fetchAt program low high user n pc =
 
 -- ---- data memory
 
--- the control block's 256 addresses
+-- one of the control block's 256 addresses from CCB_BASE
 unfoldable pub inBlock : (base a : ℕ) → Bool
 inBlock base a = leb base a && leb a (base + 255)
 
--- outside 32 bits 08h; user and protected 07h; then the block before the cells; or neither (01 "Data tests", "Data address order")
+-- what a data address names: outside 32 bits (08h); user and protected (07h), the block's addresses like the cells'; the block first,
+-- then the cells; or neither (01 "Data tests", "Data address order")
 unfoldable pub placeAt : (user : Bool) (low high base count : ℕ) (address : ℤ) → Place
 placeAt user low high base count address =
     let a = wordOf 32 address in
@@ -58,7 +61,7 @@ placeAt user low high base count address =
     else if ltb a count then Cell a
     else Missing
 
--- what a place holds
+-- what a load of a place gives; a refused or missing one gives nothing, here 0
 unfoldable pub heldAt : State → Place → ℕ
 heldAt s (Block n) = controlAt (s .machine) n
 heldAt s (Cell a) = getD (s .cells) a 0
@@ -67,6 +70,7 @@ heldAt s Missing = 0
 
 -- ---- the view (definitions only; the code reads the memories themselves)
 
+-- all that the next instruction's effect may depend on
 pub record View : Type 0 where
   pub status : ℕ  -- PSR
   pub position : Position
@@ -79,10 +83,12 @@ pub record View : Type 0 where
   pub load : ℤ → ℕ  -- what is there
   pub closed : ℕ → Bool  -- a byte of the instruction word at an address is protected from the mode
 
+-- a stack has an entry
 unfoldable pub nestedBy : {A : Type 0} → List A → Bool
 nestedBy [] = false
 nestedBy (e ∷ es) = true
 
+-- what an instruction sees of a state: the bounds and CCB_BASE by the control block, protection by the mode
 unfoldable pub view : (program : List ℕ) → State → View
 view program s =
     let m = s .machine in

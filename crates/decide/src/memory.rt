@@ -15,13 +15,24 @@ use crate::RSRD;
 use crate::UM;
 use isa::Instruction;
 
+// Offsets in the control block: its own base, and the bounds.
+const CCB_BASE: u32 = 0x00;
+
+const DMEM_BOUND_LO: u32 = 0x1A;
+
+const DMEM_BOUND_HI: u32 = 0x1B;
+
 // Whether the data address a is protected from the mode.
 fn guarded(w: &[u32], user: bool, a: u32) -> bool
     requires { ⌜ length (now w) ≡ WORDS ⌝ }
     ensures { λ r. ⌜ r ≡ user && within (controlAt (machineOf (now (w .entry))) DMEM-BOUND-LO) (controlAt (machineOf (now (w .entry))) DMEM-BOUND-HI) a ⌝ }
 {
     if user {
-        machine::protected(machine::control(w, 0x1A), machine::control(w, 0x1B), a)
+        machine::protected(
+            machine::control(w, DMEM_BOUND_LO),
+            machine::control(w, DMEM_BOUND_HI),
+            a,
+        )
     } else {
         false
     }
@@ -40,7 +51,7 @@ fn place(w: &[u32], user: bool, count: usize, address: i64) -> Place
     ensures { λ r. ⌜ r ≡ placeAt user (controlAt (machineOf (now (w .entry))) DMEM-BOUND-LO) (controlAt (machineOf (now (w .entry))) DMEM-BOUND-HI) (controlAt (machineOf (now (w .entry))) CCB-BASE) count address ⌝ }
 {
     let a = word::low_word(address);
-    let base = machine::control(w, 0x00);
+    let base = machine::control(w, CCB_BASE);
     if !word::is_address(address) {
         Place::Refused(0x08)
     } else if guarded(w, user, a) {

@@ -13,6 +13,11 @@ use crate::Fetched;
 use crate::IL;
 use crate::UM;
 
+// Offsets of the bounds in the control block.
+const IMEM_BOUND_LO: u32 = 0x1C;
+
+const IMEM_BOUND_HI: u32 = 0x1D;
+
 // The length in bytes of an instruction word.
 pub fn word_bytes(wide: bool) -> u32
     ensures { λ r. ⌜ r ≡ bytesOf (widthBy wide) ⌝ }
@@ -34,7 +39,12 @@ pub fn closed(w: &[u32], user: bool, a: u32, n: u32) -> bool
     ensures { λ r. ⌜ r ≡ user && anyWithin (controlAt (machineOf (now (w .entry))) IMEM-BOUND-LO) (controlAt (machineOf (now (w .entry))) IMEM-BOUND-HI) a n ⌝ }
 {
     if user {
-        any_within(machine::control(w, 0x1C), machine::control(w, 0x1D), a, n)
+        any_within(
+            machine::control(w, IMEM_BOUND_LO),
+            machine::control(w, IMEM_BOUND_HI),
+            a,
+            n,
+        )
     } else {
         false
     }

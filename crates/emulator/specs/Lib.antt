@@ -1,5 +1,6 @@
--- The run call and lists of run calls (Run), what a call leaves (Closure), the isolation of user mode (Isolation).
+-- The run call and lists of run calls (Run), the image at reset (Reset), what a call leaves (Closure), the isolation of user mode (Isolation).
 pub mod Run
+pub mod Reset
 pub mod Closure
 pub mod Isolation
 pub mod Computed

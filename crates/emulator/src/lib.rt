@@ -1,4 +1,4 @@
-// The run call: the questions in order, the steps, the new image.
+// The run call: the questions in order, the steps, the new image. And the image to start with.
 ghost use mathlib.Core.Path.{_≡_};
 ghost use mathlib.Core.Bool.{true};
 ghost use Prim.Native.Nat.{_≤_};
@@ -7,6 +7,7 @@ ghost use Rattle.machine.specs.Words.{WORDS, machineOf};
 ghost use Rattle.image.specs.Questions.{wellFormed};
 ghost use Rattle.apply.specs.Apply.{stateOf};
 ghost use Rattle.emulator.specs.Run.{stopNumber, resultFrom, resultBy, ask, askedBy, outcome, runCall};
+ghost use Rattle.emulator.specs.Reset.{resetOutcome, resetCall};
 use apply::Kind;
 
 // What a run call answers.
@@ -39,7 +40,15 @@ const IMAGE_ROOM: usize = 708;
 // ---- the questions
 
 // Questions 1 to 8 in order: the number of the first no, or 0, and then w holds the machine that the image says.
-fn refusal(program: &[u8], cells: &[u32], image: &[u8], requests: &[u32], limit: u32, buffer: &[u8], w: &mut [u32]) -> u32
+fn refusal(
+    program: &[u8],
+    cells: &[u32],
+    image: &[u8],
+    requests: &[u32],
+    limit: u32,
+    buffer: &[u8],
+    w: &mut [u32],
+) -> u32
     requires { ⌜ length (now w) ≡ WORDS ⌝ }
     ensures { λ r. ⌜ askedBy r (machineOf (now (w .exit))) ≡ ask (now (program .entry)) (now (image .entry)) (now (cells .entry)) (record { requests = now (requests .entry); limit = limit; buffer = now (buffer .entry) }) ⌝ }
 {
@@ -89,7 +98,13 @@ fn request_at(requests: &[u32], n: usize) -> u32
 }
 
 // At most `limit` steps, or those before a stop.
-fn run_steps(program: &[u8], w: &mut [u32], cells: &mut [u32], requests: &[u32], limit: u32) -> Ended
+fn run_steps(
+    program: &[u8],
+    w: &mut [u32],
+    cells: &mut [u32],
+    requests: &[u32],
+    limit: u32,
+) -> Ended
     requires { ⌜ (length (now w) ≡ WORDS) × (length (now program) ≤ 65536) × (wellFormed (machineOf (now w)) ≡ true) ⌝ }
     ensures { λ r. ⌜ resultBy r (now (w .exit)) (now (cells .exit)) ≡ resultFrom (now (program .entry)) (now (requests .entry)) limit 0 (stateOf (now (w .entry)) (now (cells .entry))) ⌝ }
 {
@@ -98,18 +113,31 @@ fn run_steps(program: &[u8], w: &mut [u32], cells: &mut [u32], requests: &[u32],
         let kind = step::step(program, w, cells, request_at(requests, done as usize));
         let stop = stop_number(kind);
         if stop != 0 {
-            return Ended { steps: done, ending: stop };
+            return Ended {
+                steps: done,
+                ending: stop,
+            };
         }
         done += 1;
     }
-    Ended { steps: done, ending: 0 }
+    Ended {
+        steps: done,
+        ending: 0,
+    }
 }
 
 // ---- the call
 
 // Runs a machine image for at most `limit` steps. A refusal leaves the data cells and the buffer as they were; otherwise the cells are
 // what the completed steps leave, and the new image is at the buffer's front.
-pub fn run(program: &[u8], cells: &mut [u32], image: &[u8], requests: &[u32], limit: u32, buffer: &mut [u8]) -> Answer
+pub fn run(
+    program: &[u8],
+    cells: &mut [u32],
+    image: &[u8],
+    requests: &[u32],
+    limit: u32,
+    buffer: &mut [u8],
+) -> Answer
     ensures { λ r. ⌜ outcome r (now (buffer .exit)) (now (cells .exit)) ≡ runCall (now (program .entry)) (now (image .entry)) (now (cells .entry)) (record { requests = now (requests .entry); limit = limit; buffer = now (buffer .entry) }) ⌝ }
 {
     let mut words = [0u32; WORDS];
@@ -120,4 +148,19 @@ pub fn run(program: &[u8], cells: &mut [u32], image: &[u8], requests: &[u32], li
     let end = run_steps(program, &mut words, cells, requests, limit);
     image::write(&mut words, buffer);
     Answer::Ran(end.steps, end.ending)
+}
+
+// ---- reset
+
+// Writes the image of the machine at reset to the buffer's front; 8 when the buffer is too short, and then nothing is changed.
+pub fn reset(buffer: &mut [u8]) -> u32
+    ensures { λ r. ⌜ resetOutcome r (now (buffer .exit)) ≡ resetCall (now (buffer .entry)) ⌝ }
+{
+    if buffer.len() < IMAGE_ROOM {
+        return 8;
+    }
+    let mut words = [0u32; WORDS];
+    image::reset(&mut words);
+    image::write(&mut words, buffer);
+    0
 }

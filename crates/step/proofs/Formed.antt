@@ -32,7 +32,7 @@ use Rattle.step.proofs.Parts.{second-of, second-set, set1-formed, set2-
 
 -- ---- status: PSR
 
-bit-small : (b : Bool) → bitOf b < 2
+pub bit-small : (b : Bool) → bitOf b < 2
 bit-small true = lit< tt
 bit-small false = lit< tt
 

@@ -1,11 +1,10 @@
 -- Requests added to INT_PEND: none change nothing, and a stop's are taken back. Assumes nothing.
-use mathlib.Core.Path.{_≡_, refl, sym, ap, _∙_}
+use mathlib.Core.Path.{_≡_, sym, ap, _∙_}
 use Prim.Native.Nat.{ℕ, _%_, _^_, _<_}
 use native.Mathlib.Nat.{mod-eq-of-lt}
 use native.Mathlib.Omega.{arith}
 use lib.Bits.{or-zero-r}
 use lib.Dec.{lit<}
-use lib.ListN.{getD, set}
 use lib.Seq.{set-getD, set-set}
 use Rattle.word.specs.Arithmetic.{orOf}
 use Rattle.word.proofs.Bitwise.{or-is}

@@ -1,24 +1,24 @@
 -- The search for the source to accept: what one turn of it does, and that it finds the candidate of a well-formed machine. Assumes nothing.
 use mathlib.Core.Path.{_≡_, refl, sym, ap, _∙_}
 use mathlib.Core.Bool.{Bool, true, false, _&&_}
-use mathlib.Core.List.{List, [], _∷_}
+use mathlib.Core.List.{List}
 use mathlib.Core.Option.{Option, none, some}
-use Prim.Native.Nat.{ℕ, zero, suc, _+_, _-_, _*_, _/_, _%_, _^_, _≤_, _<_, min}
+use Prim.Native.Nat.{ℕ, zero, suc, _/_, _%_, _^_, _≤_, _<_, min}
 use native.Mathlib.Omega.{arith}
 use native.Mathlib.Nat.{zero-div}
 use lib.Bits.{bitAnd, and-step, and-shr}
-use lib.Dec.{ltb, eqb, lit<}
+use lib.Dec.{ltb, eqb}
 use borrow.Author.Tests.{ltb-true, ltb-false, lt-ltb, le-ltb, eqb-true, eqb-false}
 use Rattle.word.specs.Choice.{if_then_else_}
-use Rattle.word.specs.Word.{bitAt, Field, fieldOf}
+use Rattle.word.specs.Word.{bitAt}
 use Rattle.word.specs.Arithmetic.{andOf}
 use Rattle.word.specs.Flags.{withFlag, flagsAt}
-use Rattle.word.proofs.Tests.{and-parts, if-true, if-false}
+use Rattle.word.proofs.Tests.{and-parts}
 use Rattle.word.proofs.Bounds.{field-below}
 use Rattle.word.proofs.Bitwise.{and-is}
 use Rattle.word.proofs.Flags.{with-same, with-other}
 use Rattle.machine.specs.Machine.{Machine}
-use Rattle.machine.specs.Control.{controlAt, INT-MASK, INT-SERV, INT-PEND, EXT-INT-PRI, COP-INT-PRI}
+use Rattle.machine.specs.Control.{controlAt, INT-MASK, INT-PEND, EXT-INT-PRI, COP-INT-PRI}
 use Rattle.machine.specs.Stack.{sourcesOf, serviceFlags}
 use Rattle.machine.specs.declared.Entry.{Entry}
 use Rattle.image.proofs.Formed.{Stacked, empty, pushed, registers-below, WellFormed}

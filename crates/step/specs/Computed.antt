@@ -3,7 +3,8 @@ use Rattle.codec.specs.Number.{bytesOf}
 use Rattle.apply.specs.Computed.{effects}
 use Rattle.step.specs.Interrupt.{withPending, withRequests, priority, belowAll, eligible, before, candidate, isMulhi, mayAccept, acceptedSource, servicePsr, entryFor, accept}
 use Rattle.step.specs.Step.{isStop, interruptOr, step}
+use Rattle.step.specs.Search.{sourceNumber, waiting, priorityOr, mostUrgent, serviceFloor}
 
 unfoldable pub steps : Unit {0}
-unfolding effects bytesOf withPending withRequests priority belowAll eligible before candidate isMulhi mayAccept acceptedSource servicePsr entryFor accept isStop interruptOr step
+unfolding effects bytesOf withPending withRequests priority belowAll eligible before candidate isMulhi mayAccept acceptedSource servicePsr entryFor accept isStop interruptOr step sourceNumber waiting priorityOr mostUrgent serviceFloor
 steps = tt

@@ -1,12 +1,12 @@
 -- `decide::perform` meets its contract: the group that the number is in. Assumes nothing.
 use mathlib.Core.List.{List}
 use mathlib.Core.Path.{_≡_, sym, _∙_}
-use Prim.Native.Nat.{ℕ, _≤_}
+use Prim.Native.Nat.{ℕ}
 use native.Mathlib.Omega.{arith}
 use denote.Ref.{now}
 use borrow.Author.Needs.{needs}
 use Rattle.isa.proofs.Table.{unknown-from}
-use Rattle.isa.specs.Operation.{unknown, operations, operationOf}
+use Rattle.isa.specs.Operation.{operations, operationOf}
 use Rattle.machine.specs.Machine.{readsSet2}
 use Rattle.decide.specs.Decide.{perform}
 use Rattle.decide.specs.Execute.{execute}

@@ -2,9 +2,19 @@
 use mathlib.Core.Path.{_≡_, sym, _∙_}
 use borrow.Author.Needs.{needs}
 use borrow.Author.Tests.{not-true, not-false}
+use Rattle.machine.specs.Words.{machineOf}
+use Rattle.image.specs.Image.{Accepted}
+use Rattle.emulator.specs.Run.{Call, askCall, ask}
 use Rattle.emulator.proofs.Asked.{program-no, cells-no, image-no, past-image, requests-no, limit-no, room-no, all-yes}
 use Rattle.emulator.proofs.refusal.Statement.{statement}
 use Rattle.emulator.proofs.refusal.Tie as tie
+
+-- past question 5, what 6 to 8 say of the call decides
+past : (c : tie.Else3) → let args = c .before .before .before .before .before .before .before .before .before .before .before .before .before .args in
+    let call : Call = record { requests = args .requests .now; limit = args .limit; buffer = args .buffer .now } in
+    askCall call (Accepted (machineOf (c .before .before .before .read .last .1 .0))) ≡ ask (args .program .now) (args .image .now) (args .cells .now) call
+past c = let read = c .before .before .before in
+    sym (past-image _ _ _ _ _ (read .before .before .before .if1 .left) (read .before .before .if2 .left) _ (read .read .ensures) (c .if3 .left))
 
 returns : tie.Need-returns
 returns c = program-no _ _ _ _ _ (c .if1 .taken)
@@ -19,7 +29,8 @@ same-length : tie.Need-same-length
 same-length c = search needs
 
 returns-3 : tie.Need-returns-3
-returns-3 c = image-no _ _ _ _ _ (c .before .before .before .before .before .before .if1 .left) (c .before .before .before .before .before .if2 .left) _ (c .before .before .before .read .ensures) (c .if3 .taken)
+returns-3 c = let read = c .before .before .before in
+    image-no _ _ _ _ _ (read .before .before .before .if1 .left) (read .before .before .if2 .left) _ (read .read .ensures) (c .if3 .taken)
 
 all-below-requires : tie.Need-all-below-requires
 all-below-requires c κs = search needs
@@ -28,25 +39,28 @@ same-length-2 : tie.Need-same-length-2
 same-length-2 c = search needs
 
 returns-4 : tie.Need-returns-4
-returns-4 c = requests-no _ _ (sym (c .before .all-below .ensures) ∙ not-true _ (c .if4 .taken)) ∙ sym (past-image _ _ _ _ _ (c .before .before .before .before .before .before .before .before .if1 .left) (c .before .before .before .before .before .before .before .if2 .left) _ (c .before .before .before .before .before .read .ensures) (c .before .before .if3 .left))
+returns-4 c = requests-no _ _ (sym (c .before .all-below .ensures) ∙ not-true _ (c .if4 .taken)) ∙ past (c .before .before)
 
 same-length-3 : tie.Need-same-length-3
 same-length-3 c = search needs
 
 returns-5 : tie.Need-returns-5
-returns-5 c = limit-no _ _ (sym (c .before .before .all-below .ensures) ∙ not-false _ (c .before .if4 .left)) (c .if5 .taken) ∙ sym (past-image _ _ _ _ _ (c .before .before .before .before .before .before .before .before .before .if1 .left) (c .before .before .before .before .before .before .before .before .if2 .left) _ (c .before .before .before .before .before .before .read .ensures) (c .before .before .before .if3 .left))
+returns-5 c = let asked = c .before .before in
+    limit-no _ _ (sym (asked .all-below .ensures) ∙ not-false _ (c .before .if4 .left)) (c .if5 .taken) ∙ past (asked .before)
 
 same-length-4 : tie.Need-same-length-4
 same-length-4 c = search needs
 
 returns-6 : tie.Need-returns-6
-returns-6 c = room-no _ _ (sym (c .before .before .before .all-below .ensures) ∙ not-false _ (c .before .before .if4 .left)) (c .before .if5 .left) (c .if6 .taken) ∙ sym (past-image _ _ _ _ _ (c .before .before .before .before .before .before .before .before .before .before .if1 .left) (c .before .before .before .before .before .before .before .before .before .if2 .left) _ (c .before .before .before .before .before .before .before .read .ensures) (c .before .before .before .before .if3 .left))
+returns-6 c = let asked = c .before .before .before in
+    room-no _ _ (sym (asked .all-below .ensures) ∙ not-false _ (c .before .before .if4 .left)) (c .before .if5 .left) (c .if6 .taken) ∙ past (asked .before)
 
 same-length-5 : tie.Need-same-length-5
 same-length-5 c = search needs
 
 returns-7 : tie.Need-returns-7
-returns-7 c = all-yes _ _ (sym (c .before .before .before .all-below .ensures) ∙ not-false _ (c .before .before .if4 .left)) (c .before .if5 .left) (c .if6 .left) ∙ sym (past-image _ _ _ _ _ (c .before .before .before .before .before .before .before .before .before .before .if1 .left) (c .before .before .before .before .before .before .before .before .before .if2 .left) _ (c .before .before .before .before .before .before .before .read .ensures) (c .before .before .before .before .if3 .left))
+returns-7 c = let asked = c .before .before .before in
+    all-yes _ _ (sym (asked .all-below .ensures) ∙ not-false _ (c .before .before .if4 .left)) (c .before .if5 .left) (c .if6 .left) ∙ past (asked .before)
 
 pub refusal-spec : {M : Type 1} → statement M
 refusal-spec =

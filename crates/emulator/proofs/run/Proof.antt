@@ -23,13 +23,21 @@ slice-aggregate-run-steps : tie.Need-slice-aggregate-run-steps
 slice-aggregate-run-steps c = search needs
 
 run-steps-requires : tie.Need-run-steps-requires
-run-steps-requires c κs = (search needs, run-yes _ _ _ _ _ _ (c .before .before .before .before .refusal .ensures) (c .before .before .if1 .left) .programSize, run-formed _ _ _ _ _ _ (c .before .before .before .before .refusal .ensures) (c .before .before .if1 .left))
+run-steps-requires c κs = let refused = c .before .before .before .before in
+    let no = c .before .before .if1 .left in
+    (search needs, run-yes _ _ _ _ _ _ (refused .refusal .ensures) no .programSize, run-formed _ _ _ _ _ _ (refused .refusal .ensures) no)
 
 slice-aggregate-write : tie.Need-slice-aggregate-write
 slice-aggregate-write c = search needs
 
 write-requires : tie.Need-write-requires
-write-requires c κs = (search needs, run-deep _ _ _ _ _ _ (c .before .before .before .before .before .before .before .before .before .before .refusal .ensures) (c .before .before .before .before .before .before .before .before .if1 .left) _ _ _ (c .before .before .before .before .before .run-steps .ensures), run-yes _ _ _ _ _ _ (c .before .before .before .before .before .before .before .before .before .before .refusal .ensures) (c .before .before .before .before .before .before .before .before .if1 .left) .room)
+write-requires c κs = let ran = c .before .before .before .before .before in
+    let refused = ran .before .before .before .before .before in
+    let no = ran .before .before .before .if1 .left in (
+      search needs,
+      run-deep _ _ _ _ _ _ (refused .refusal .ensures) no _ _ _ (ran .run-steps .ensures),
+      run-yes _ _ _ _ _ _ (refused .refusal .ensures) no .room,
+    )
 
 same-length-3 : tie.Need-same-length-3
 same-length-3 c = search needs
@@ -38,7 +46,10 @@ same-length-4 : tie.Need-same-length-4
 same-length-4 c = search needs
 
 returns-2 : tie.Need-returns-2
-returns-2 c = rw (c .before .before .before .write .ensures) (run-ran _ _ _ _ _ _ (c .before .before .before .before .before .before .before .before .before .before .before .before .before .before .refusal .ensures) (c .before .before .before .before .before .before .before .before .before .before .before .before .if1 .left) _ _ _ (c .before .before .before .before .before .before .before .before .before .run-steps .ensures))
+returns-2 c = let ran = c .before .before .before .before .before .before .before .before .before in
+    let refused = ran .before .before .before .before .before in
+    let no = ran .before .before .before .if1 .left in
+    rw (c .before .before .before .write .ensures) (run-ran _ _ _ _ _ _ (refused .refusal .ensures) no _ _ _ (ran .run-steps .ensures))
 
 pub run-spec : {M : Type 1} → statement M
 run-spec =

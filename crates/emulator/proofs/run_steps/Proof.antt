@@ -45,7 +45,11 @@ same-length-2 : tie.Need-same-length-2 Inv-loop μ-loop
 same-length-2 c = search needs
 
 returns : tie.Need-returns Inv-loop μ-loop
-returns c = step-stop _ _ _ _ _ _ _ _ _ _ _ (c .before .before .before .before .before .before .before .request-at .ensures) (c .before .before .before .before .before .before .step .ensures) (c .before .stop-number .ensures) (c .before .before .before .before .before .before .before .before .before .before .loop-test .taken) (c .if1 .taken) ∙ c .before .before .before .before .before .before .before .before .before .before .before .loop .inv .1 .1
+returns c = let stepped = c .before .before .before .before .before .before in
+    let top = stepped .before .before .before .before .before in
+    step-stop _ _ _ _ _ _ _ _ _ _ _ (stepped .before .request-at .ensures) (stepped .step .ensures) (c .before .stop-number .ensures)
+    (stepped .before .before .before .before .loop-test .taken) (c .if1 .taken)
+    ∙ top .loop .inv .1 .1
 
 add-done : tie.Need-add-done Inv-loop μ-loop
 add-done c = search needs
@@ -54,7 +58,16 @@ loop-less : tie.Need-loop-less Inv-loop μ-loop
 loop-less c = search needs
 
 loop-again : tie.Need-loop-again Inv-loop μ-loop
-loop-again c = (search needs, (step-kept _ _ _ _ _ _ _ (c .before .before .before .before .before .before .step .ensures) (c .before .before .before .before .before .before .before .before .before .before .before .loop .inv .1 .0), step-more _ _ _ _ _ _ _ _ _ _ _ (c .before .before .before .before .before .before .before .request-at .ensures) (c .before .before .before .before .before .before .step .ensures) (c .before .stop-number .ensures) (c .before .before .before .before .before .before .before .before .before .before .loop-test .taken) (c .if1 .left) ∙ c .before .before .before .before .before .before .before .before .before .before .before .loop .inv .1 .1))
+loop-again c = let stepped = c .before .before .before .before .before .before in
+    let top = stepped .before .before .before .before .before in (
+      search needs,
+      (
+        step-kept _ _ _ _ _ _ _ (stepped .step .ensures) (top .loop .inv .1 .0),
+        step-more _ _ _ _ _ _ _ _ _ _ _ (stepped .before .request-at .ensures) (stepped .step .ensures) (c .before .stop-number .ensures)
+            (stepped .before .before .before .before .loop-test .taken) (c .if1 .left)
+            ∙ top .loop .inv .1 .1,
+      ),
+    )
 
 same-length-3 : tie.Need-same-length-3 Inv-loop μ-loop
 same-length-3 c = search needs

@@ -1,5 +1,5 @@
 -- `accept` meets its contract: its stores, in their order. Assumes nothing.
-use mathlib.Core.Path.{_≡_, sym, ap, _∙_}
+use mathlib.Core.Path.{ap, _∙_}
 use Rattle.word.specs.Flags.{withoutFlag}
 use Rattle.machine.specs.Machine.{positionAt}
 use Rattle.machine.specs.Words.{machineOf}

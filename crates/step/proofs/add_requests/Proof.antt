@@ -1,8 +1,8 @@
 -- `add_requests` meets its contract: with none, nothing is to be stored. Assumes nothing.
-use mathlib.Core.Path.{_≡_, sym, ap, _∙_}
+use mathlib.Core.Path.{sym}
 use Rattle.machine.specs.Words.{machineOf}
 use Rattle.image.proofs.Formed.{true-formed}
-use Rattle.step.specs.Interrupt.{withPending, addRequests}
+use Rattle.step.specs.Interrupt.{withPending}
 use Rattle.step.proofs.Requests.{no-requests}
 use borrow.Author.Needs.{needs}
 use Rattle.step.proofs.add_requests.Statement.{statement}

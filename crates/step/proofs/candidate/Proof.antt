@@ -1,8 +1,6 @@
 -- `candidate` meets its contract: the search finds it. Assumes nothing.
-use mathlib.Core.Path.{_≡_, sym, ap, _∙_}
 use Rattle.machine.specs.Words.{machineOf}
 use Rattle.image.proofs.Formed.{true-formed}
-use Rattle.step.specs.Search.{sourceNumber}
 use Rattle.step.proofs.Urgency.{candidate-found}
 use borrow.Author.Needs.{needs}
 use Rattle.step.proofs.candidate.Statement.{statement}

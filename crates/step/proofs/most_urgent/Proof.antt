@@ -48,13 +48,20 @@ loop-again c =
     let l = c .before .before .before .loop in
     let s = c .before .before .before .before .before .args in
     let m = machineOf (s .w .now) in
-    let turn = next (s .flags) (s .bound) m (l .n) (c .if1 .best) (c .if1 .floor) in
+    let best = mostUrgent (s .flags) (s .bound) m (l .n) in
     let flag = sym (c .before .has-flag .ensures) in
+    let turn = next (s .flags) (s .bound) m (l .n) (c .if1 .best) (c .if1 .floor) in
     ⊎-elim
-    (λ t. turn (some (l .n)) (omega arith) (more-urgent (s .flags) (s .bound) m (l .n) (flag ∙ t .0 .taken) (omega (arith, t .1 .ensures, t .2 .taken, l .inv .1 .1))) (t .3) (t .4 ∙ t .1 .ensures))
+    (λ t.
+    let nearer = more-urgent (s .flags) (s .bound) m (l .n) (flag ∙ t .0 .taken) (omega (arith, t .1 .ensures, t .2 .taken, l .inv .1 .1)) in
+    turn (some (l .n)) (omega arith) nearer (t .3) (t .4 ∙ t .1 .ensures))
     (⊎-elim
-    (λ t. turn (mostUrgent (s .flags) (s .bound) m (l .n)) (omega arith) (less-urgent (s .flags) (s .bound) m (l .n) (omega (arith, t .1 .ensures, t .2 .left, l .inv .1 .1))) (t .3 ∙ l .inv .1 .0) (t .4 ∙ l .inv .1 .1))
-    (λ t. turn (mostUrgent (s .flags) (s .bound) m (l .n)) (omega arith) (no-flag (s .flags) (s .bound) m (l .n) (flag ∙ t .0 .left)) (t .1 ∙ l .inv .1 .0) (t .2 ∙ l .inv .1 .1)))
+    (λ t.
+    let farther = less-urgent (s .flags) (s .bound) m (l .n) (omega (arith, t .1 .ensures, t .2 .left, l .inv .1 .1)) in
+    turn best (omega arith) farther (t .3 ∙ l .inv .1 .0) (t .4 ∙ l .inv .1 .1))
+    (λ t.
+    let without = no-flag (s .flags) (s .bound) m (l .n) (flag ∙ t .0 .left) in
+    turn best (omega arith) without (t .1 ∙ l .inv .1 .0) (t .2 ∙ l .inv .1 .1)))
     (c .if1 .came)
 
 returns : tie.Need-returns Inv-loop μ-loop

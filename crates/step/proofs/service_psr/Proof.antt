@@ -1,17 +1,11 @@
 -- `service_psr` meets its contract: a bool is 0 or 1. Assumes nothing.
-use mathlib.Core.Bool.{Bool, true, false}
-use Prim.Native.Nat.{_≤_}
 use native.Mathlib.Omega.{arith}
-use mir.Val.{boolByte}
 use Rattle.word.specs.Choice.{if_then_else_}
 use Rattle.step.specs.Interrupt.{servicePsr}
+use Rattle.step.proofs.Formed.{bit-small}
 use borrow.Author.Needs.{needs}
 use Rattle.step.proofs.service_psr.Statement.{statement}
 use Rattle.step.proofs.service_psr.Tie as tie
-
-small : (b : Bool) → boolByte b ≤ 1
-small true = omega arith
-small false = omega arith
 
 control-requires : tie.Need-control-requires
 control-requires c κs = search needs
@@ -29,16 +23,16 @@ has-flag-requires-2 : tie.Need-has-flag-requires-2
 has-flag-requires-2 c κs = search needs
 
 mul-result : tie.Need-mul-result
-mul-result c = omega (arith, small (c .before .before .before .has-flag .result))
+mul-result c = omega (arith, bit-small (c .before .before .before .has-flag .result))
 
 add-result : tie.Need-add-result
-add-result c = omega (arith, small (c .before .before .before .has-flag .result))
+add-result c = omega (arith, bit-small (c .before .before .before .has-flag .result))
 
 mul-result-2 : tie.Need-mul-result-2
-mul-result-2 c = omega (arith, small (c .before .before .before .has-flag .result))
+mul-result-2 c = omega (arith, bit-small (c .before .before .before .has-flag .result))
 
 add-result-2 : tie.Need-add-result-2
-add-result-2 c = omega (arith, small (c .before .before .before .has-flag .result))
+add-result-2 c = omega (arith, bit-small (c .before .before .before .has-flag .result))
 
 returns : tie.Need-returns
 unfolding servicePsr if_then_else_

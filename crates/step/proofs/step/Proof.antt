@@ -1,10 +1,11 @@
 -- `step` meets its contract: by its two ways. Assumes nothing.
 use mathlib.Core.Path.{_≡_, sym, ap, _∙_}
-use mathlib.Core.Option.{none, some}
+use mathlib.Core.Option.{Option, none, some}
+use Prim.Native.Nat.{ℕ}
 use Rattle.machine.specs.Machine.{Machine, State}
 use Rattle.machine.specs.Words.{machineOf}
 use Rattle.image.proofs.Formed.{stacked-distinct, WellFormed, formed-true, true-formed}
-use Rattle.decide.specs.View.{viewOf}
+use Rattle.decide.specs.View.{view}
 use Rattle.apply.specs.Apply.{stateOf}
 use Rattle.apply.proofs.Service.{stack-shown}
 use Rattle.step.specs.Interrupt.{withPending, withRequests, acceptedSource}
@@ -16,30 +17,40 @@ use borrow.Author.Needs.{needs}
 use Rattle.step.proofs.step.Statement.{statement}
 use Rattle.step.proofs.step.Tie as tie
 
--- the state before the step, and with its requests
+-- the places that the answers name: the entry, as seen from after the requests, and that place, as seen from where the source is known
+abbrev entry : tie.After-add-requests → tie.Start
+entry c = c .before .before .before .before .before .before .before
+
+abbrev asked : tie.After-accepted-source → tie.After-add-requests
+asked c = c .before .before .before .before
+
+-- the state before the step, and the state with its requests
 abbrev start : tie.Start → State
 start s = stateOf (s .args .w .now) (s .args .cells .now)
 
 abbrev requested : tie.After-add-requests → State
-requested c = stateOf (c .add-requests .last .0) (c .before .before .before .before .before .before .before .args .cells .now)
+requested c = stateOf (c .add-requests .last .0) (entry c .args .cells .now)
 
-added : (c : tie.After-add-requests) → requested c ≡ withRequests (c .before .before .before .before .before .before .before .args .requests) (start (c .before .before .before .before .before .before .before))
+added : (c : tie.After-add-requests) → requested c ≡ withRequests (entry c .args .requests) (start (entry c))
 unfolding withRequests
-added c = ap (λ (m : Machine). record { machine = m; cells = c .before .before .before .before .before .before .before .args .cells .now }) (c .add-requests .ensures)
+added c = ap (λ (m : Machine). record { machine = m; cells = entry c .args .cells .now }) (c .add-requests .ensures)
 
 formed : (c : tie.After-add-requests) → WellFormed (requested c .machine)
 unfolding withRequests
 formed c =
-    let s = c .before .before .before .before .before .before .before in
+    let s = entry c in
     rw (c .add-requests .ensures) (requests-formed (start s) (s .args .requests) (true-formed (machineOf (s .args .w .now)) (s .pre .2)))
 
 -- the source accepted, or none
-accepted : (c : tie.Then1) → let r = requested (c .before .before .before .before .before) in acceptedSource (viewOf (c .before .before .before .before .before .before .before .before .before .before .before .before .args .program .now) (c .before .before .before .before .before .add-requests .last .0) (c .before .before .before .before .before .before .before .before .before .before .before .before .args .cells .now)) (r .machine) ≡ some (c .before .accepted-source .result)
-accepted c = number-some _ (c .before .accepted-source .ensures (c .before .before .before .before .before .before .before .before .before .before .before .before .args .cells .now)) (c .if1 .taken)
+abbrev source : tie.After-add-requests → Option ℕ
+source c = acceptedSource (view (entry c .args .program .now) (requested c)) (requested c .machine)
 
-refused : (c : tie.Else1) → let r = requested (c .before .before .before .before .before) in acceptedSource (viewOf (c .before .before .before .before .before .before .before .before .before .before .before .before .args .program .now) (c .before .before .before .before .before .add-requests .last .0) (c .before .before .before .before .before .before .before .before .before .before .before .before .args .cells .now)) (r .machine) ≡ none
+accepted : (c : tie.Then1) → source (asked (c .before)) ≡ some (c .before .accepted-source .result)
+accepted c = number-some _ (c .before .accepted-source .ensures (entry (asked (c .before)) .args .cells .now)) (c .if1 .taken)
+
+refused : (c : tie.Else1) → source (asked (c .before)) ≡ none
 refused c =
-    number-none _ (λ k e. source-accepted _ _ k e .below) (c .before .accepted-source .ensures (c .before .before .before .before .before .before .before .before .before .before .before .before .args .cells .now)) (c .if1 .left)
+    number-none _ (λ k e. source-accepted _ _ k e .below) (c .before .accepted-source .ensures (entry (asked (c .before)) .args .cells .now)) (c .if1 .left)
 
 control-requires : tie.Need-control-requires
 control-requires c κs = search needs
@@ -51,17 +62,20 @@ accepted-source-requires : tie.Need-accepted-source-requires
 accepted-source-requires c κs = (search needs, formed-true (formed (c .before .before .before)))
 
 accept-requires : tie.Need-accept-requires
-accept-requires c κs = ((search needs, formed-true (formed (c .before .before .before .before .before .before))), (c .before .if1 .taken, source-accepted _ _ _ (accepted (c .before)) .new))
+accept-requires c κs =
+    let taken = c .before in
+    ((search needs, formed-true (formed (asked (taken .before)))), (taken .if1 .taken, source-accepted _ _ _ (accepted taken) .new))
 
 same-length : tie.Need-same-length
 same-length c = search needs
 
 returns : tie.Need-returns
 returns c =
-    let s = c .before .before .before .before .before .before .before .before .before .before .before .before .before .before .before .before in
-    let a = c .before .before .before .before .before .before .before .before .before in
+    let taken = c .before .before .before .before in
+    let a = asked (taken .before) in
+    let s = entry a in
     rw (c .before .before .accept .ensures)
-    (step-accepts (s .args .program .now) (start s) (s .args .requests) (requested a) (added a) (c .before .before .before .before .before .accepted-source .result) (accepted (c .before .before .before .before)))
+    (step-accepts (s .args .program .now) (start s) (s .args .requests) (requested a) (added a) (taken .before .accepted-source .result) (accepted taken))
 
 decide-requires : tie.Need-decide-requires
 decide-requires c κs = search needs
@@ -86,11 +100,14 @@ same-length-3 c = search needs
 returns-2 : tie.Need-returns-2
 unfolding withPending
 returns-2 c =
-    let s = c .before .before .before .before .before .before .before .before .before .before .before .before .before .before .before .before .before .before .before .before .before .before .before .before .before .before .before .before in
-    let a = c .before .before .before .before .before .before .before .before .before .before .before .before .before .before .before .before .before .before .before .before .before in
-    rw (c .before .before .set-control .ensures, c .before .before .before .before .before .before .before .before .before .before .before .before .before .before .before .before .before .before .before .before .before .before .before .control .ensures)
-    (step-stops (s .args .program .now) (start s) (s .args .requests) (requested a) (added a) _ _ (refused (c .before .before .before .before .before .before .before .before .before .before .before .before .before .before .before .before)) (c .before .before .before .before .before .before .before .before .before .before .before .before .before .decide .ensures) (c .before .before .before .before .before .before .before .before .before .before .apply .ensures)
-    (sym (c .before .before .before .before .before .is-stop .ensures) ∙ c .before .before .before .before .if2 .taken))
+    let stopped = c .before .before .before .before in
+    let applied = stopped .before .before .before .before .before .before in
+    let left = applied .before .before .before .before .before .before in
+    let a = asked (left .before) in
+    let s = entry a in
+    rw (c .before .before .set-control .ensures, a .before .before .control .ensures)
+    (step-stops (s .args .program .now) (start s) (s .args .requests) (requested a) (added a) _ _ (refused left) (applied .before .before .before .decide .ensures) (applied .apply .ensures)
+    (sym (stopped .before .is-stop .ensures) ∙ stopped .if2 .taken))
 
 same-length-4 : tie.Need-same-length-4
 same-length-4 c = search needs
@@ -100,9 +117,11 @@ same-length-5 c = search needs
 
 returns-3 : tie.Need-returns-3
 returns-3 c =
-    let s = c .before .before .before .before .before .before .before .before .before .before .before .before .before .before .before .before .before .before .before .before .before .before .before .before in
-    let a = c .before .before .before .before .before .before .before .before .before .before .before .before .before .before .before .before .before in
-    step-goes-on (s .args .program .now) (start s) (s .args .requests) (requested a) (added a) _ _ (refused (c .before .before .before .before .before .before .before .before .before .before .before .before)) (c .before .before .before .before .before .before .before .before .before .decide .ensures) (c .before .before .before .before .before .before .apply .ensures)
+    let applied = c .before .before .before .before .before .before in
+    let left = applied .before .before .before .before .before .before in
+    let a = asked (left .before) in
+    let s = entry a in
+    step-goes-on (s .args .program .now) (start s) (s .args .requests) (requested a) (added a) _ _ (refused left) (applied .before .before .before .decide .ensures) (applied .apply .ensures)
     (sym (c .before .is-stop .ensures) ∙ c .if2 .left)
 
 pub step-spec : {M : Type 1} → statement M

@@ -41,11 +41,8 @@ returns c q cells =
       back w64 (c .before .jump-target .result) (c .before .jump-target .ok),
       c .before .jump-target .ensures,
       back w32 (c .before .before .before .before .before .before .before .before .args .i .immediate) (omega arith),
-      c .before .before .before .pc .ensures,
-      c .before .before .before .before .word-bytes .ensures,
-      c .before .before .before .before .before .has-flag .ensures,
-      c .before .before .before .before .before .before .psr .ensures,
     )
+    (simp (c .before .before .before .pc .ensures, c .before .before .before .before .word-bytes .ensures, c .before .before .before .before .before .has-flag .ensures, c .before .before .before .before .before .before .psr .ensures))
 
 pub jumped-by-immediate-spec : {M : Type 1} → statement M
 jumped-by-immediate-spec = tie.close (tie.spec psr-requires has-flag-requires word-bytes-requires pc-requires add-jump-target jump-target-requires jumped-requires returns)

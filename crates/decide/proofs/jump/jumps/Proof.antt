@@ -1,6 +1,6 @@
 -- `decide::jump::jumps` meets its contract: group by group. Assumes nothing.
 use mathlib.Core.Logic.{⊎-elim}
-use mathlib.Core.Path.{_≡_, sym, _∙_}
+use mathlib.Core.Path.{sym, _∙_}
 use Prim.Native.Nat.{_≤_}
 use native.Mathlib.Omega.{arith}
 use mir.Facts.{toZ-pos}
@@ -24,7 +24,7 @@ jumped-requires : tie.Need-jumped-requires
 jumped-requires c κs = search needs
 
 sub-branch : tie.Need-sub-branch
-sub-branch c = from-40 c
+sub-branch c = omega (arith, from-40 c)
 
 branch-requires : tie.Need-branch-requires
 branch-requires c κs = search needs

@@ -1,12 +1,11 @@
 -- `decide::system::packed` meets its contract. The loop's invariant: x holds the condition registers from n on. Assumes nothing.
-use mathlib.Core.Path.{_≡_, sym, _∙_}
-use Prim.Native.Nat.{ℕ, suc, _+_, _-_, _*_, _%_, _^_, _≤_, _<_}
+use mathlib.Core.Path.{_≡_, sym}
+use Prim.Native.Nat.{suc, _+_, _-_, _*_, _%_, _^_, _≤_, _<_}
 use native.Mathlib.Omega.{arith}
-use lib.ListN.{length, drop, length-drop, drop-of-length-le}
+use lib.ListN.{drop, length-drop, drop-of-length-le}
 use denote.Ref.{now}
-use borrow.Author.Needs.{needs}
 use Rattle.machine.specs.Machine.{Machine}
-use Rattle.machine.specs.Words.{WORDS, machineOf}
+use Rattle.machine.specs.Words.{machineOf}
 use Rattle.decide.specs.Execute.{packed}
 use Rattle.decide.proofs.Values.{conditions-length, packed-below, packed-from}
 use Rattle.decide.proofs.system.packed.Statement.{statement}

@@ -1,0 +1,2 @@
+-- The answers of the C interface as numbers.
+pub mod Numbers

@@ -1,0 +1,57 @@
+// The C interface: the calls of the emulator with numbers and slices only. include/coffee.h declares them for C.
+ghost use mathlib.Core.Path.{_≡_};
+ghost use Rattle.emulator.specs.Run.{runCall};
+ghost use Rattle.emulator.specs.Reset.{resetOutcome, resetCall};
+ghost use Rattle.coffee.specs.Numbers.{numbersOf, shown, inNumbers};
+use emulator::Answer;
+
+// What a run call answers, in numbers.
+#[repr(C)]
+pub struct CoffeeAnswer {
+    // The number of the first question that is answered no, or 0.
+    pub refusal: u32,
+    pub steps: u32,
+    // 0 for the limit, or the number of a stop.
+    pub ending: u32,
+}
+
+// An answer in numbers.
+fn numbers(a: Answer) -> CoffeeAnswer
+    ensures { λ r. ⌜ r ≡ numbersOf a ⌝ }
+{
+    match a {
+        Answer::Refusal(n) => CoffeeAnswer {
+            refusal: n,
+            steps: 0,
+            ending: 0,
+        },
+        Answer::Ran(steps, ending) => CoffeeAnswer {
+            refusal: 0,
+            steps,
+            ending,
+        },
+    }
+}
+
+// Runs a machine image for at most `limit` steps.
+#[no_mangle]
+pub extern "C" fn coffee_run(
+    program: &[u8],
+    cells: &mut [u32],
+    image: &[u8],
+    requests: &[u32],
+    limit: u32,
+    buffer: &mut [u8],
+) -> CoffeeAnswer
+    ensures { λ r. ⌜ shown r (now (buffer .exit)) (now (cells .exit)) ≡ inNumbers (runCall (now (program .entry)) (now (image .entry)) (now (cells .entry)) (record { requests = now (requests .entry); limit = limit; buffer = now (buffer .entry) })) ⌝ }
+{
+    numbers(emulator::run(program, cells, image, requests, limit, buffer))
+}
+
+// Writes the image of the machine at reset to the buffer's front.
+#[no_mangle]
+pub extern "C" fn coffee_reset(buffer: &mut [u8]) -> u32
+    ensures { λ r. ⌜ resetOutcome r (now (buffer .exit)) ≡ resetCall (now (buffer .entry)) ⌝ }
+{
+    emulator::reset(buffer)
+}

@@ -1,0 +1,50 @@
+-- `reset` meets its contract: the words written are those of the machine at reset, whose stack is empty. Assumes nothing.
+use mathlib.Core.Path.{ap}
+use native.Mathlib.Omega.{arith}
+use lib.Dec.{lit≤}
+use lib.ListN.{length}
+use borrow.Author.Needs.{needs}
+use borrow.Author.Tests.{le-leb, lt-leb}
+use Rattle.word.specs.Choice.{if_then_else_}
+use Rattle.machine.specs.Machine.{Machine}
+use Rattle.image.proofs.Formed.{stacked-depth}
+use Rattle.image.proofs.Image.{reset-formed}
+use Rattle.emulator.specs.Reset.{resetCall}
+use Rattle.emulator.proofs.reset.Statement.{statement}
+use Rattle.emulator.proofs.reset.Tie as tie
+
+returns : tie.Need-returns
+unfolding resetCall if_then_else_
+returns c = rw (lt-leb 708 _ (c .if1 .taken))
+
+slice-aggregate-reset : tie.Need-slice-aggregate-reset
+slice-aggregate-reset c = search needs
+
+reset-requires : tie.Need-reset-requires
+reset-requires c κs = search needs
+
+slice-aggregate-write : tie.Need-slice-aggregate-write
+slice-aggregate-write c = search needs
+
+write-requires : tie.Need-write-requires
+write-requires c κs = (search needs, rw (c .before .before .before .reset .ensures) (stacked-depth (reset-formed .stack)), search needs)
+
+same-length : tie.Need-same-length
+same-length c = search needs
+
+returns-2 : tie.Need-returns-2
+unfolding resetCall if_then_else_
+returns-2 c = let written = c .before .before .before in
+    rw (written .write .ensures, written .before .before .before .before .reset .ensures, le-leb 708 _ (written .before .before .before .before .before .before .if1 .left))
+
+pub reset-spec : {M : Type 1} → statement M
+reset-spec =
+    tie.close
+    (tie.spec
+    returns
+    slice-aggregate-reset
+    reset-requires
+    slice-aggregate-write
+    write-requires
+    same-length
+    returns-2)

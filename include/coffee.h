@@ -1,0 +1,87 @@
+/* A COFFEE RISC core that is run in steps: the C interface.
+ *
+ * Link with libcoffee.a, which `rt staticlib coffee` proves and writes to target/staticlib. Each function is proved equal to a definition:
+ * crates/emulator/specs/Run.antt (runCall) and crates/emulator/specs/Reset.antt (resetCall).
+ *
+ * A slice is a pointer and then a count of elements; a slice of 0 elements may have a null pointer. A slice that is written (not const) must
+ * overlap no other slice of the same call. Nothing is kept between calls, no memory is allocated, and nothing else is read or written, so
+ * calls on different memories may run at the same time.
+ *
+ * A refusal changes no memory.
+ */
+#ifndef COFFEE_H
+#define COFFEE_H
+
+#include <stddef.h>
+#include <stdint.h>
+
+#ifdef __cplusplus
+extern "C" {
+#endif
+
+/* Most bytes of program memory, and most cells of data memory. */
+#define COFFEE_MEMORY_MAX 65536
+
+/* Largest step limit of one call. */
+#define COFFEE_STEPS_MAX 1000000
+
+/* Bytes of an image with an empty stack, of each stack entry, and of the longest image: the least size of an image buffer. */
+#define COFFEE_IMAGE_MIN 516
+#define COFFEE_IMAGE_ENTRY 16
+#define COFFEE_IMAGE_MAX 708
+
+/* The number of stack entries, high byte first, is at this offset of an image: its length is COFFEE_IMAGE_MIN + COFFEE_IMAGE_ENTRY * entries. */
+#define COFFEE_IMAGE_ENTRIES 512
+
+/* What a run call answers. */
+struct coffee_answer {
+    uint32_t refusal; /* 0, or the number of the first question that is answered no; then steps and ending are 0 */
+    uint32_t steps;   /* completed steps */
+    uint32_t ending;  /* 0: the limit was reached; 11 to 15: the number of the stop */
+};
+
+/* Runs the machine that `image` says for at most `limit` steps.
+ *
+ * program   bytes, high byte of a word first
+ * cells     data memory, one 32-bit cell for each address; changed by the steps
+ * image     the machine, exactly as coffee_reset or an earlier coffee_run wrote it, or as made by hand
+ * requests  the interrupt requests of each step, bit n for source n; steps past the list have none
+ * buffer    the new image is written to its front; its further bytes stay as they are
+ *
+ * Stops, which are no steps and change nothing:
+ *   11  a byte of the instruction word is outside program memory
+ *   12  a data address is neither in the control block nor a cell
+ *   13  a control transfer in a branch slot
+ *   14  mulhi without a product from the step just before
+ *   15  reti with an empty stack
+ *
+ * Refusals, asked in this order:
+ *   1  program longer than 65,536 bytes, or more than 65,536 cells
+ *   2  image not exactly the sections and counts of an image
+ *   3  a number in the image that its register cannot hold, PSR above 31, a flag other than 0 or 1, or numbers other than 0 of a 0 flag
+ *   4  a current or stacked PSR with UM 1 whose set bits are not both 0
+ *   5  stack sources not below 12, not all different or not those of INT_SERV; or RETI_ registers that do not show the stack's top
+ *   6  a request above FFFh
+ *   7  limit above 1,000,000
+ *   8  buffer shorter than 708 bytes
+ */
+struct coffee_answer coffee_run(
+    const uint8_t *program, size_t program_bytes,
+    uint32_t *cells, size_t cell_count,
+    const uint8_t *image, size_t image_bytes,
+    const uint32_t *requests, size_t request_count,
+    uint32_t limit,
+    uint8_t *buffer, size_t buffer_bytes);
+
+/* Writes the image of the machine at reset, COFFEE_IMAGE_MIN bytes, to the front of `buffer`; its further bytes stay as they are.
+ *
+ * Answers 0, or the refusal:
+ *   8  buffer shorter than 708 bytes
+ */
+uint32_t coffee_reset(uint8_t *buffer, size_t buffer_bytes);
+
+#ifdef __cplusplus
+}
+#endif
+
+#endif
