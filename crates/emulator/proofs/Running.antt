@@ -57,6 +57,7 @@ module _ (p requests : List ℕ) (limit done q n : ℕ) (k : Kind) (w d w₁ d�
   goes-on : n ≡ 0 → isStop (next .kind) ≡ false
   goes-on z = false-unless _ (λ b. let h = stop-number p (stateOf w d) (getD requests done 0) b in let y : stopNumber (next .kind) ≡ 0 = rw (← same) (sym s ∙ z) in omega arith)
 
+  -- a step: what is left of the limit is one less
   pub step-more : done < limit → n ≡ 0
       → resultFrom p requests (limit - (done + 1)) (done + 1) (stateOf w₁ d₁) ≡ resultFrom p requests (limit - done) done (stateOf w d)
   step-more h z =
@@ -64,6 +65,7 @@ module _ (p requests : List ℕ) (limit done q n : ℕ) (k : Kind) (w d w₁ d�
       rw o (ap (λ (t : Transition). resultFrom p requests (limit - suc done) (suc done) (t .after)) same)
       ∙ sym (at-more p requests limit done (stateOf w d) h (goes-on z))
 
+  -- a stop: it is not counted
   pub step-stop : done < limit → (n ≡ 0 → ⊥)
       → resultBy (record { steps = done; ending = n }) w₁ d₁ ≡ resultFrom p requests (limit - done) done (stateOf w d)
   step-stop h z =
@@ -80,6 +82,7 @@ asked-no zero m z = absurd (z refl)
 asked-no (suc n) m z = refl
 
 module _ (p image cells : List ℕ) (c : Call) (n : ℕ) (w : List ℕ) (a : askedBy n (machineOf w) ≡ ask p image cells c) where
+  -- refused: nothing is written
   pub run-refused : (n ≡ 0 → ⊥) → outcome (Refusal n) (c .buffer) cells ≡ runCall p image cells c
   run-refused z = sym (call-refused p image cells c n (sym a ∙ asked-no n (machineOf w) z))
 
@@ -88,6 +91,7 @@ module _ (p image cells : List ℕ) (c : Call) (n : ℕ) (w : List ℕ) (a : ask
     unfolding askedBy
     started = sym (rw z at a)
 
+    -- not refused: the words say the machine that the steps start with
     pub run-yes : AllYes p image cells c (machineOf w)
     run-yes = asked-yes p image cells c (machineOf w) started
 
@@ -95,6 +99,7 @@ module _ (p image cells : List ℕ) (c : Call) (n : ℕ) (w : List ℕ) (a : ask
     run-formed = formed-true (accepted-formed image (machineOf w) (run-yes .read))
 
     module _ (e : Ended) (w₁ d₁ : List ℕ) (s : resultBy e w₁ d₁ ≡ resultFrom p (c .requests) (c .limit) 0 (stateOf w cells)) where
+      -- after the steps: the stack fits an image, and that image is the one that the call leaves
       pub run-deep : length (machineOf w₁ .stack) ≤ 12
       run-deep =
           let f = result-formed p (c .requests) (c .limit) (stateOf w cells) (accepted-formed image (machineOf w) (run-yes .read)) in
