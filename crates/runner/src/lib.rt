@@ -2,7 +2,6 @@
 ghost use mathlib.Core.Path.{_≡_};
 ghost use lib.ListN.{length, take};
 ghost use Rattle.machine.specs.Control.{reset as resetOf};
-ghost use Rattle.machine.specs.Words.{WORDS};
 ghost use Rattle.image.specs.Image.{writeImage};
 ghost use Rattle.console.specs.Line.{lineOf};
 ghost use Rattle.io.specs.Counts.{Counts};
@@ -17,10 +16,8 @@ use libc::STDOUT_FILENO;
 pub fn reset_image() -> [u8; 708]
     ensures { λ r. ⌜ take 516 r ≡ writeImage resetOf ⌝ }
 {
-    let mut words = [0u32; 177];
-    image::reset(&mut words);
     let mut bytes = [0u8; 708];
-    image::write(&mut words, &mut bytes);
+    emulator::reset(&mut bytes);
     bytes
 }
 

@@ -1,7 +1,9 @@
--- `reset_image` meets its contract: the words are the machine at reset, whose image has 516 bytes. Assumes nothing.
-use lib.Dec.{lit≤}
+-- `reset_image` meets its contract: the buffer is long enough, and the image has 516 bytes. Assumes nothing.
+use mathlib.Core.Path.{ap, _∙_}
 use borrow.Author.Needs.{needs}
-use Rattle.machine.specs.Control.{reset}
+use lib.ListN.{take}
+use Rattle.word.specs.Choice.{if_then_else_}
+use Rattle.emulator.specs.Reset.{ResetOutcome, resetCall}
 use Rattle.runner.proofs.Buffers.{reset-front}
 use Rattle.runner.proofs.reset_image.Statement.{statement}
 use Rattle.runner.proofs.reset_image.Tie as tie
@@ -12,18 +14,9 @@ slice-aggregate-reset c = search needs
 reset-requires : tie.Need-reset-requires
 reset-requires c κs = search needs
 
-slice-aggregate-write : tie.Need-slice-aggregate-write
-slice-aggregate-write c = search needs
-
-slice-aggregate-write-2 : tie.Need-slice-aggregate-write-2
-slice-aggregate-write-2 c = search needs
-
-write-requires : tie.Need-write-requires
-unfolding reset
-write-requires c κs = (search needs, rw (c .before .before .before .reset .ensures) (lit≤ tt), lit≤ tt)
-
 returns : tie.Need-returns
-returns c = rw (c .before .before .write .ensures, c .before .before .before .before .before .before .reset .ensures) (reset-front _)
+unfolding resetCall if_then_else_
+returns c = ap (λ (o : ResetOutcome). take 516 (o .buffer)) (c .before .reset .ensures) ∙ reset-front _
 
 pub reset-image-spec : {M : Type 1} → statement M
-reset-image-spec = tie.close (tie.spec slice-aggregate-reset reset-requires slice-aggregate-write slice-aggregate-write-2 write-requires returns)
+reset-image-spec = tie.close (tie.spec slice-aggregate-reset reset-requires returns)
