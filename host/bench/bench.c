@@ -1,0 +1,220 @@
+// Times the proved library against the same interpreter in plain C.
+//
+//     bench                     checks that both agree, then prints nanoseconds per step of each
+//     bench SIDE N              one call of scene N on one side, library or baseline, for a profiler;
+//                               SCENES is a call with limit 0
+//
+// Both run in one process, in turns, many times; the best time of each counts.
+#include "baseline.h"
+#include "programs.h"
+
+#include <stdbool.h>
+#include <stdio.h>
+#include <stdlib.h>
+#include <string.h>
+#include <time.h>
+
+// A run call of either side.
+typedef struct coffee_answer run_call(
+    const uint8_t *, size_t, uint32_t *, size_t, const uint8_t *, size_t, const uint32_t *, size_t,
+    uint32_t, uint8_t *, size_t);
+
+enum { LIBRARY, BASELINE, SIDES };
+
+static run_call *const sides[SIDES] = { coffee_run, baseline_run };
+
+// Rounds of timing, and calls with limit 0 in a round.
+enum { ROUNDS = 40, SHORT_CALLS = 20000 };
+
+// The buffer for the new image is longer than it need be.
+enum { LONGEST_IMAGE = 708, BUFFER = LONGEST_IMAGE + 60, FILLER = 0xA5 };
+
+// What a call may change.
+struct lent {
+    uint32_t cells[CELLS];
+    uint8_t buffer[BUFFER];
+};
+
+// The cells of a scene, and a buffer with nothing in it.
+static void lend(const struct scene *s, struct lent *l)
+{
+    memcpy(l->cells, s->cells, sizeof l->cells);
+    memset(l->buffer, FILLER, sizeof l->buffer);
+}
+
+// Runs a scene on one side.
+static struct coffee_answer run(int side, const struct scene *s, uint32_t limit, struct lent *l)
+{
+    return sides[side](
+        s->program, PROGRAM_ROOM, l->cells, CELLS, s->image, IMAGE_LENGTH, s->requests,
+        s->requests_len, limit, l->buffer, BUFFER);
+}
+
+// ---- both sides agree
+
+// Ends with a message.
+static void fail(const struct scene *s, uint32_t limit, const char *what)
+{
+    fprintf(stderr, "bench: %s, %s, limit %u: %s\n", s->name, s->mode, limit, what);
+    exit(1);
+}
+
+// Whether two answers are equal.
+static bool same_answer(struct coffee_answer a, struct coffee_answer b)
+{
+    return a.refusal == b.refusal && a.steps == b.steps && a.ending == b.ending;
+}
+
+// Both sides give the same answer, cells and buffer, and do all of the steps.
+static void check(const struct scene *s, uint32_t limit)
+{
+    static struct lent lents[SIDES];
+    struct coffee_answer answers[SIDES];
+    for (int side = 0; side < SIDES; side++) {
+        lend(s, &lents[side]);
+        answers[side] = run(side, s, limit, &lents[side]);
+    }
+    if (!same_answer(answers[LIBRARY], answers[BASELINE]))
+        fail(s, limit, "the answers differ");
+    if (memcmp(lents[LIBRARY].cells, lents[BASELINE].cells, sizeof lents[0].cells) != 0)
+        fail(s, limit, "the cells differ");
+    if (memcmp(lents[LIBRARY].buffer, lents[BASELINE].buffer, BUFFER) != 0)
+        fail(s, limit, "the buffers differ");
+    if (!same_answer(answers[LIBRARY], (struct coffee_answer){ 0, limit, 0 }))
+        fail(s, limit, "not all of the steps are done");
+}
+
+// Both sides refuse a changed call with the same number and leave what is lent as it was.
+static void check_refusal(const struct scene *s, uint32_t refusal)
+{
+    static uint32_t cells[CELLS];
+    static uint8_t buffer[BUFFER];
+    uint8_t image[IMAGE_LENGTH];
+    uint32_t request = refusal == 6 ? 0x1000 : 0;
+    memcpy(image, s->image, sizeof image);
+    if (refusal == 3)
+        image[4 * 76 + 3] = 1; // CCB_BASE's low byte
+    if (refusal == 4)
+        image[4 * 63 + 3] = 3; // PSR: user mode, registers read from set 2
+    if (refusal == 5)
+        image[4 * 95 + 3] = 1; // INT_SERV with an empty stack
+
+    for (int side = 0; side < SIDES; side++) {
+        memcpy(cells, s->cells, sizeof cells);
+        memset(buffer, FILLER, sizeof buffer);
+        struct coffee_answer answer = sides[side](
+            s->program, refusal == 1 ? 65537 : PROGRAM_ROOM, cells, CELLS, image,
+            refusal == 2 ? IMAGE_LENGTH - 1 : IMAGE_LENGTH, &request, 1,
+            refusal == 7 ? STEPS + 1 : STEPS, buffer, refusal == 8 ? LONGEST_IMAGE - 1 : BUFFER);
+        if (!same_answer(answer, (struct coffee_answer){ refusal, 0, 0 }))
+            fail(s, refusal, "a refusal has the wrong number");
+        bool same = memcmp(cells, s->cells, sizeof cells) == 0;
+        for (size_t i = 0; i < BUFFER; i++)
+            same = same && buffer[i] == FILLER;
+        if (!same)
+            fail(s, refusal, "a refusal changed lent memory");
+    }
+}
+
+// ---- times
+
+// Nanoseconds of this process.
+static double now(void)
+{
+    struct timespec t;
+    clock_gettime(CLOCK_PROCESS_CPUTIME_ID, &t);
+    return (double)t.tv_sec * 1e9 + (double)t.tv_nsec;
+}
+
+// Times a scene on both sides in turns: the best nanoseconds per step of each.
+static void measure(const struct scene *s, double best[SIDES])
+{
+    static struct lent l;
+    best[LIBRARY] = best[BASELINE] = 1e30;
+    for (int turn = 0; turn < ROUNDS * SIDES; turn++) {
+        int side = turn % SIDES;
+        lend(s, &l);
+        double start = now();
+        run(side, s, STEPS, &l);
+        double time = (now() - start) / STEPS;
+        if (time < best[side])
+            best[side] = time;
+    }
+}
+
+// Times calls with limit 0: the best nanoseconds per call of each.
+static void measure_short(const struct scene *s, double best[SIDES])
+{
+    static struct lent l;
+    best[LIBRARY] = best[BASELINE] = 1e30;
+    lend(s, &l);
+    for (int turn = 0; turn < ROUNDS * SIDES; turn++) {
+        int side = turn % SIDES;
+        double start = now();
+        for (int i = 0; i < SHORT_CALLS; i++)
+            run(side, s, 0, &l);
+        double time = (now() - start) / SHORT_CALLS;
+        if (time < best[side])
+            best[side] = time;
+    }
+}
+
+// Prints a line of the table.
+static void show(const char *name, const char *mode, const double best[SIDES])
+{
+    printf("%-28s %-11s %9.2f %9.2f %7.2f\n", name, mode, best[LIBRARY], best[BASELINE],
+        best[LIBRARY] / best[BASELINE]);
+    fflush(stdout);
+}
+
+// ---- the program
+
+// One call on one side.
+static int once(const char *side, const char *number)
+{
+    static struct lent l;
+    int n = atoi(number);
+    if (n < 0 || n > SCENES || (strcmp(side, "library") != 0 && strcmp(side, "baseline") != 0)) {
+        fprintf(stderr, "bench [library|baseline 0..%d]\n", SCENES);
+        return 2;
+    }
+    const struct scene *s = make_scene(n % SCENES);
+    lend(s, &l);
+    struct coffee_answer answer =
+        run(strcmp(side, "library") == 0 ? LIBRARY : BASELINE, s, n < SCENES ? STEPS : 0, &l);
+    return answer.refusal == 0 && answer.ending == 0 ? 0 : 1;
+}
+
+int main(int argc, char **argv)
+{
+    if (argc == 3)
+        return once(argv[1], argv[2]);
+    if (argc != 1) {
+        fprintf(stderr, "bench [library|baseline 0..%d]\n", SCENES);
+        return 2;
+    }
+
+    static const uint32_t limits[] = { 0, 1, 2, 3, 1000, STEPS - 1, STEPS };
+    const struct scene *scenes[SCENES];
+    for (int n = 0; n < SCENES; n++) {
+        scenes[n] = make_scene(n);
+        for (size_t i = 0; i < sizeof limits / sizeof *limits; i++)
+            check(scenes[n], limits[i]);
+    }
+    for (uint32_t refusal = 1; refusal <= 8; refusal++)
+        check_refusal(scenes[0], refusal);
+
+    double best[SIDES], sums[SIDES] = { 0, 0 };
+    printf("%-28s %-11s %9s %9s %7s\n", "nanoseconds per step", "mode", "library", "baseline", "ratio");
+    for (int n = 0; n < SCENES; n++) {
+        measure(scenes[n], best);
+        show(scenes[n]->name, scenes[n]->mode, best);
+        for (int side = 0; side < SIDES; side++)
+            sums[side] += best[side] / SCENES;
+    }
+    show("overall", "", sums);
+    printf("\n%-28s %-11s %9s %9s %7s\n", "nanoseconds per call", "mode", "library", "baseline", "ratio");
+    measure_short(scenes[0], best);
+    show("call with limit 0", scenes[0]->mode, best);
+    return 0;
+}

@@ -1,0 +1,26 @@
+// The programs that the benchmark runs, each in super user and in user mode.
+#ifndef PROGRAMS_H
+#define PROGRAMS_H
+
+#include <stddef.h>
+#include <stdint.h>
+
+enum { PROGRAM_ROOM = 4096, CELLS = 4096, IMAGE_LENGTH = 516, STEPS = 1000000 };
+
+// All that a call lends, but for the buffer.
+struct scene {
+    const char *name;
+    const char *mode;
+    uint8_t program[PROGRAM_ROOM];
+    uint32_t cells[CELLS];
+    uint8_t image[IMAGE_LENGTH];
+    uint32_t *requests;
+    size_t requests_len;
+};
+
+enum { SCENES = 6 };
+
+// Makes scene n, of 0 to SCENES - 1. Requests, if it has any, stay allocated.
+struct scene *make_scene(int n);
+
+#endif

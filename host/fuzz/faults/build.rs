@@ -1,0 +1,89 @@
+//! Makes the faulty copies of the reference.
+
+use std::path::Path;
+use std::{env, fs};
+
+#[path = "list.rs"]
+mod list;
+
+fn main() {
+    println!("cargo:rerun-if-changed=build.rs");
+    println!("cargo:rerun-if-changed=list.rs");
+    let crate_root = env::var("CARGO_MANIFEST_DIR").expect("cargo sets it");
+    copy_with_faults(Path::new(&crate_root));
+}
+
+/// Writes copies.rs to OUT_DIR: for each fault a module with the changed sources of
+/// the reference, and a table of them.
+fn copy_with_faults(crate_root: &Path) {
+    let sources = crate_root.join("../../reference/src");
+    println!("cargo:rerun-if-changed={}", sources.display());
+    let read = |name: &str| {
+        let path = sources.join(format!("{name}.rs"));
+        fs::read_to_string(&path).unwrap_or_else(|error| panic!("{}: {error}", path.display()))
+    };
+    let root = read("lib");
+    // The modules that lib.rs names, its tests left out.
+    let modules: Vec<&str> = root
+        .lines()
+        .filter_map(|line| line.strip_prefix("mod ")?.strip_suffix(';'))
+        .filter(|&name| name != "tests")
+        .collect();
+
+    let mut text = String::new();
+    let mut table = String::from("pub const FAULTS: &[(&str, Run)] = &[\n");
+    let unchanged = list::Fault {
+        name: "none",
+        changes: &[],
+    };
+    for (index, fault) in std::iter::once(&unchanged).chain(list::FAULTS).enumerate() {
+        let changed = |name: &str| {
+            let mut source = read(name);
+            for change in fault.changes.iter().filter(|change| change.file == name) {
+                let times = source.matches(change.old).count();
+                assert!(
+                    times == 1,
+                    "fault '{}': its text stands {times} times in the reference's {name}.rs",
+                    fault.name
+                );
+                source = source.replace(change.old, change.new);
+            }
+            source.replace("crate::", "super::").replace("//!", "//")
+        };
+        text += &format!("#[allow(warnings, clippy::all)]\nmod fault_{index} {{\n");
+        for line in changed("lib").lines() {
+            if !line.starts_with("mod ") && !line.starts_with("#[cfg(test)]") {
+                text += line;
+                text.push('\n');
+            }
+        }
+        for name in &modules {
+            text += &format!("mod {name} {{\n{}}}\n", changed(name));
+        }
+        text += CALL;
+        text += "}\n";
+        table += &format!("    ({:?}, fault_{index}::call),\n", fault.name);
+    }
+    table += "];\n";
+    let out = Path::new(&env::var("OUT_DIR").expect("cargo sets it")).join("copies.rs");
+    fs::write(&out, text + &table).unwrap_or_else(|error| panic!("{}: {error}", out.display()));
+}
+
+/// The run call of a copy, with the reference's own type of answer.
+const CALL: &str = "
+pub fn call(
+    program: &[u8],
+    cells: &mut [u32],
+    image: &[u8],
+    requests: &[u32],
+    limit: u32,
+    buffer: &mut [u8],
+) -> coffee_reference::Answer {
+    let answer = run(program, cells, image, requests, limit, buffer);
+    coffee_reference::Answer {
+        refusal: answer.refusal,
+        steps: answer.steps,
+        ending: answer.ending,
+    }
+}
+";

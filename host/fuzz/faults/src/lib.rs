@@ -1,0 +1,9 @@
+//! Copies of the reference emulator, each with one fault of list.rs, to show that the
+//! comparison can fail. The first copy has no fault.
+
+use coffee_reference::Answer;
+
+/// A run call: program, cells, image, requests, step limit, image buffer.
+type Run = fn(&[u8], &mut [u32], &[u8], &[u32], u32, &mut [u8]) -> Answer;
+
+include!(concat!(env!("OUT_DIR"), "/copies.rs"));

@@ -1,0 +1,633 @@
+//! What the calls of a session met. Some calls are repeated step by step, each step a
+//! call of its own on both sides; from the images between, the kind of each step is
+//! known.
+
+use crate::call::{Call, Expected};
+use crate::compare::{Bench, Difference, Run, Sides};
+use crate::damage::DAMAGES;
+use crate::image::*;
+use crate::words::{self, *};
+use coffee_reference::Answer;
+use std::fmt::Write;
+
+/// Longer runs and larger memories are not repeated step by step.
+const TRACED_STEPS: u32 = 600;
+const TRACED_CELLS: usize = 5000;
+const TRACED_BYTES: usize = 2000;
+
+/// A number that EXCEPTION_PSR can hold and that no PSR is.
+const NO_PSR: u32 = 0xFF;
+
+/// Counts of what was met.
+pub struct Coverage {
+    pub calls: u64,
+    pub cases: u64,
+    refusals: [u64; 9],
+    endings: [u64; 16],
+    steps: u64,
+    damages: [u64; DAMAGES.len()],
+    /// From here on: of the calls that were repeated step by step.
+    traced_calls: u64,
+    traced_steps: u64,
+    /// Steps by the PSR before them.
+    status: [u64; 32],
+    /// By width (0 for 16 bits, 1 for 32) and operation: carried out, and carried out
+    /// with a visible effect beyond PC going on.
+    done: [[u64; 58]; 2],
+    effect: [[u64; 58]; 2],
+    /// Conditional words by condition, false and true.
+    conditional: [[u64; 2]; 8],
+    /// Branches by width and condition, not taken and taken.
+    branches: [[[u64; 2]; 8]; 2],
+    /// Exceptions by code; those met in a slot and with a product held.
+    exceptions: [u64; 256],
+    exceptions_user: u64,
+    exceptions_in_slot: u64,
+    exceptions_with_product: u64,
+    /// Loads and stores: of the control block by offset, all beyond 2Ch together; of
+    /// the control block where it lies over cells; of cells.
+    control: [[u64; CONTROL_REGISTERS + 1]; 2],
+    over_cells: [u64; 2],
+    cells: [u64; 2],
+    accepted_source: [u64; SOURCES],
+    accepted_depth: [u64; SOURCES + 1],
+    accepted_user: [u64; 2],
+    accepted_width: [u64; 2],
+    accepted_tie: u64,
+    accepted_with_product: u64,
+    waited_for_slot: u64,
+    waited_for_mulhi: u64,
+}
+
+impl Coverage {
+    pub fn new() -> Coverage {
+        Coverage {
+            calls: 0,
+            cases: 0,
+            refusals: [0; 9],
+            endings: [0; 16],
+            steps: 0,
+            damages: [0; DAMAGES.len()],
+            traced_calls: 0,
+            traced_steps: 0,
+            status: [0; 32],
+            done: [[0; 58]; 2],
+            effect: [[0; 58]; 2],
+            conditional: [[0; 2]; 8],
+            branches: [[[0; 2]; 8]; 2],
+            exceptions: [0; 256],
+            exceptions_user: 0,
+            exceptions_in_slot: 0,
+            exceptions_with_product: 0,
+            control: [[0; CONTROL_REGISTERS + 1]; 2],
+            over_cells: [0; 2],
+            cells: [0; 2],
+            accepted_source: [0; SOURCES],
+            accepted_depth: [0; SOURCES + 1],
+            accepted_user: [0; 2],
+            accepted_width: [0; 2],
+            accepted_tie: 0,
+            accepted_with_product: 0,
+            waited_for_slot: 0,
+            waited_for_mulhi: 0,
+        }
+    }
+
+    /// Counts a call on which both sides agree.
+    pub fn count(&mut self, answer: Answer, expected: Expected) {
+        self.calls += 1;
+        self.refusals[answer.refusal as usize] += 1;
+        if answer.refusal == 0 {
+            self.endings[answer.ending as usize] += 1;
+            self.steps += u64::from(answer.steps);
+        }
+        if let Some(damage) = expected.damage {
+            self.damages[damage] += 1;
+        }
+    }
+
+    /// Counts a step: the machine before it, its requests, and the machine after it.
+    /// `cells` are those before and after.
+    fn count_step(
+        &mut self,
+        program: &[u8],
+        requests: u32,
+        before: &Image,
+        after: &Image,
+        exception: bool,
+        cells: [&[u32]; 2],
+    ) {
+        self.traced_steps += 1;
+        self.status[before.psr() as usize] += 1;
+        let waiting = getting_through(before, requests);
+        if after.depth > before.depth {
+            self.count_acceptance(before, after, waiting);
+            return;
+        }
+        let word = fetch(program, before);
+        let operation = word.map(|word| words::operation(word, before.wide()));
+        if waiting != 0 && before.position[SLOT] == 1 {
+            self.waited_for_slot += 1;
+        } else if waiting != 0 && operation == Some(MULHI) {
+            self.waited_for_mulhi += 1;
+        }
+        if exception {
+            let code = after.control[EXCEPTION_CS];
+            self.exceptions[code as usize] += 1;
+            self.exceptions_user += u64::from(before.user());
+            self.exceptions_in_slot += u64::from(before.position[SLOT]);
+            self.exceptions_with_product += u64::from(before.position[PRODUCT]);
+            if code >= 224 {
+                self.done[usize::from(before.wide())][TRAP as usize] += 1;
+                self.effect[usize::from(before.wide())][TRAP as usize] += 1;
+            }
+            return;
+        }
+        if let (Some(word), Some(operation)) = (word, operation) {
+            self.count_instruction(word, operation, before, after, cells);
+        }
+    }
+
+    fn count_acceptance(&mut self, before: &Image, after: &Image, waiting: u32) {
+        let source = after.stack[after.depth - 1].source as usize;
+        self.accepted_source[source] += 1;
+        self.accepted_depth[after.depth] += 1;
+        self.accepted_user[usize::from(after.user())] += 1;
+        self.accepted_width[usize::from(after.wide())] += 1;
+        self.accepted_with_product += u64::from(before.position[PRODUCT]);
+        let tie = (0..SOURCES).any(|other| {
+            other != source
+                && waiting >> other & 1 == 1
+                && before.priority(other) == before.priority(source)
+        });
+        self.accepted_tie += u64::from(tie);
+    }
+
+    fn count_instruction(
+        &mut self,
+        word: u32,
+        operation: u32,
+        before: &Image,
+        after: &Image,
+        cells: [&[u32]; 2],
+    ) {
+        let wide = before.wide();
+        let width = usize::from(wide);
+        if wide && word >> 25 & 1 == 1 && !never_conditional(operation) {
+            let number = word >> 19 & 7;
+            let register = before.conditions[(word >> 22 & 7) as usize];
+            let passed = words::condition(number, register);
+            self.conditional[number as usize][usize::from(passed)] += 1;
+            if !passed {
+                return;
+            }
+        }
+        self.done[width][operation as usize] += 1;
+        if (BRANCH..=LAST_BRANCH).contains(&operation) {
+            let taken = after.position[SLOT] as usize;
+            self.branches[width][(operation - BRANCH) as usize][taken] += 1;
+        }
+        let mut stored = false;
+        if matches!(operation, LD | ST) {
+            let (base, immediate) = memory_operand(word, wide);
+            let address = (i64::from(before.source(base)) + immediate) as u32;
+            let kind = usize::from(operation == ST);
+            let offset = address.wrapping_sub(before.control[CCB_BASE]);
+            if offset < 256 {
+                let place = (offset as usize).min(CONTROL_REGISTERS);
+                self.control[kind][place] += 1;
+                self.over_cells[kind] += u64::from((address as usize) < cells[0].len());
+            } else {
+                self.cells[kind] += 1;
+                stored = cells[0][address as usize] != cells[1][address as usize];
+            }
+        }
+        let next = match before.position[SLOT] {
+            1 => before.position[TARGET],
+            _ => before.pc() + words::bytes(wide),
+        };
+        let mut control = before.control;
+        control[INT_PEND] = after.control[INT_PEND];
+        let effect = stored
+            || before.set1 != after.set1
+            || before.set2 != after.set2
+            || before.conditions != after.conditions
+            || control != after.control
+            || before.depth != after.depth
+            || after.pc() != next
+            || after.position[SLOT] == 1
+            || after.position[PRODUCT] == 1;
+        self.effect[width][operation as usize] += u64::from(effect);
+    }
+
+    /// A line for each thing that a session should meet and did not.
+    pub fn warnings(&self) -> Vec<String> {
+        let mut warnings = Vec::new();
+        let mut need = |count: u64, what: String| {
+            if count == 0 {
+                warnings.push(format!("warning: not met: {what}"));
+            }
+        };
+        for refusal in 1..=8 {
+            need(self.refusals[refusal], format!("refusal {refusal}"));
+        }
+        for (damage, &count) in DAMAGES.iter().zip(&self.damages) {
+            need(count, format!("damage {damage:?} alone"));
+        }
+        for ending in [0, 11, 12, 13, 14, 15] {
+            need(self.endings[ending], format!("ending {ending}"));
+        }
+        for code in 0..=9 {
+            need(self.exceptions[code], format!("exception {code:02X}h"));
+        }
+        for code in 224..=255 {
+            need(self.exceptions[code], format!("trap {}", code - 224));
+        }
+        need(self.exceptions_user, "exception in user mode".into());
+        need(self.exceptions_in_slot, "exception in a slot".into());
+        need(
+            self.exceptions_with_product,
+            "exception with a product held".into(),
+        );
+        for (width, name) in ["16-bit", "32-bit"].into_iter().enumerate() {
+            for (operation, mnemonic) in NAMES.iter().enumerate() {
+                // "Code 02h: lli, lui in 16-bit"
+                if width == 0 && matches!(operation as u32, LLI | LUI) {
+                    continue;
+                }
+                let count = match operation as u32 {
+                    NOP => self.done[width][operation],
+                    _ => self.effect[width][operation],
+                };
+                need(count, format!("{name} {mnemonic} with its effect"));
+            }
+            for condition in 0..8 {
+                for (taken, word) in ["not taken", "taken"].into_iter().enumerate() {
+                    need(
+                        self.branches[width][condition][taken],
+                        format!("{name} branch on condition {condition} {word}"),
+                    );
+                }
+            }
+        }
+        for condition in 0..8 {
+            for (passed, word) in ["false", "true"].into_iter().enumerate() {
+                need(
+                    self.conditional[condition][passed],
+                    format!("condition {condition} {word}"),
+                );
+            }
+        }
+        for psr in 0..32_u32 {
+            if psr & UM == 0 || psr & (RSRD | RSWR) == 0 {
+                need(self.status[psr as usize], format!("PSR {psr:02X}h"));
+            }
+        }
+        for (kind, name) in ["load", "store"].into_iter().enumerate() {
+            for offset in 0..=CONTROL_REGISTERS {
+                need(
+                    self.control[kind][offset],
+                    format!("{name} at control block offset {offset:02X}h"),
+                );
+            }
+            need(self.cells[kind], format!("{name} of a cell"));
+            need(
+                self.over_cells[kind],
+                format!("{name} of the control block over cells"),
+            );
+        }
+        for (source, &count) in self.accepted_source.iter().enumerate() {
+            need(count, format!("interrupt of source {source}"));
+        }
+        for depth in 1..=SOURCES {
+            need(
+                self.accepted_depth[depth],
+                format!("interrupt nested to depth {depth}"),
+            );
+        }
+        need(self.accepted_user[0], "super user interrupt".into());
+        need(self.accepted_user[1], "user mode interrupt".into());
+        need(self.accepted_width[0], "16-bit interrupt".into());
+        need(self.accepted_width[1], "32-bit interrupt".into());
+        need(self.accepted_tie, "interrupt with a tie".into());
+        need(
+            self.accepted_with_product,
+            "interrupt with a product held".into(),
+        );
+        need(self.waited_for_slot, "interrupt held back by a slot".into());
+        need(self.waited_for_mulhi, "interrupt held back by mulhi".into());
+        warnings
+    }
+
+    /// The counts as text.
+    pub fn report(&self) -> String {
+        let mut text = String::new();
+        let out = &mut text;
+        line(out, "refusals", self.refusals.iter().enumerate());
+        let endings = [0, 11, 12, 13, 14, 15].map(|ending| (ending, &self.endings[ending]));
+        line(out, "endings", endings);
+        put(out, format!("steps: {}", self.steps));
+        let least = self.damages.iter().min().copied().unwrap_or(0);
+        put(
+            out,
+            format!(
+                "damaged images: {} kinds, each alone at least {least} times",
+                DAMAGES.len()
+            ),
+        );
+        put(
+            out,
+            format!(
+                "repeated step by step: {} calls, {} steps; of these:",
+                self.traced_calls, self.traced_steps
+            ),
+        );
+        let modes = |user: u32, wide: u32| -> u64 {
+            (0..32_u32)
+                .filter(|psr| psr & UM == user && psr & IL == wide)
+                .map(|psr| self.status[psr as usize])
+                .sum()
+        };
+        put(
+            out,
+            format!(
+                "modes: super user 32-bit {}, 16-bit {}; user 32-bit {}, 16-bit {}",
+                modes(0, IL),
+                modes(0, 0),
+                modes(UM, IL),
+                modes(UM, 0)
+            ),
+        );
+        line(out, "exceptions", self.exceptions[..10].iter().enumerate());
+        let traps = &self.exceptions[224..];
+        put(
+            out,
+            format!(
+                "traps: {} of {} numbers; exceptions in user mode {}, in a slot {}, with a product held {}",
+                traps.iter().sum::<u64>(),
+                traps.iter().filter(|&&count| count > 0).count(),
+                self.exceptions_user,
+                self.exceptions_in_slot,
+                self.exceptions_with_product
+            ),
+        );
+        line(
+            out,
+            "interrupts by source",
+            self.accepted_source.iter().enumerate(),
+        );
+        line(
+            out,
+            "interrupts by depth",
+            self.accepted_depth.iter().enumerate().skip(1),
+        );
+        put(
+            out,
+            format!(
+                "interrupts: super user {}, user {}; 32-bit {}, 16-bit {}; with a tie {}, with a product held {}; held back by a slot {}, by mulhi {}",
+                self.accepted_user[0],
+                self.accepted_user[1],
+                self.accepted_width[1],
+                self.accepted_width[0],
+                self.accepted_tie,
+                self.accepted_with_product,
+                self.waited_for_slot,
+                self.waited_for_mulhi
+            ),
+        );
+        let both = |operation: u32| {
+            let operation = operation as usize;
+            self.done[0][operation] + self.done[1][operation]
+        };
+        put(
+            out,
+            format!(
+                "system calls {}, returns to user {}, interrupt returns {}, changes of width {}",
+                both(SCALL),
+                both(RETU),
+                both(RETI),
+                both(SWM)
+            ),
+        );
+        let sum = |counts: &[u64]| counts.iter().sum::<u64>();
+        put(
+            out,
+            format!(
+                "loads: cells {}, control block {} (over cells {}); stores: cells {}, control block {} (over cells {})",
+                self.cells[0],
+                sum(&self.control[0]),
+                self.over_cells[0],
+                self.cells[1],
+                sum(&self.control[1]),
+                self.over_cells[1]
+            ),
+        );
+        let conditional =
+            |passed: usize| -> u64 { self.conditional.iter().map(|counts| counts[passed]).sum() };
+        put(
+            out,
+            format!(
+                "conditional words: true {}, false {}",
+                conditional(1),
+                conditional(0)
+            ),
+        );
+        for (name, width) in [("32-bit", 1), ("16-bit", 0)] {
+            let counts = NAMES.iter().zip(&self.effect[width]).skip(1);
+            let nop = ("nop", &self.done[width][NOP as usize]);
+            let counts = std::iter::once(nop).chain(counts.map(|(&name, count)| (name, count)));
+            line(out, &format!("{name} operations with their effect"), counts);
+        }
+        text
+    }
+}
+
+impl Default for Coverage {
+    fn default() -> Coverage {
+        Coverage::new()
+    }
+}
+
+fn put(text: &mut String, line: String) {
+    text.push_str(&line);
+    text.push('\n');
+}
+
+/// One line of counts with their names.
+fn line<'a, N: std::fmt::Display>(
+    text: &mut String,
+    title: &str,
+    counts: impl IntoIterator<Item = (N, &'a u64)>,
+) {
+    text.push_str(title);
+    let mut mark = ':';
+    for (name, count) in counts {
+        // Writing to a string does not fail.
+        let _ = write!(text, "{mark} {name} {count}");
+        mark = ',';
+    }
+    text.push('\n');
+}
+
+/// The word at PC, where all of it is there.
+fn fetch(program: &[u8], image: &Image) -> Option<u32> {
+    let start = image.pc() as usize;
+    let bytes = program.get(start..start + words::bytes(image.wide()) as usize)?;
+    Some(
+        bytes
+            .iter()
+            .fold(0, |word, &byte| word << 8 | u32::from(byte)),
+    )
+}
+
+/// The sources that are pending, masked in and above all in service, while IE is 1.
+fn getting_through(image: &Image, requests: u32) -> u32 {
+    if image.psr() & IE == 0 {
+        return 0;
+    }
+    let least = image.stack[..image.depth]
+        .iter()
+        .map(|entry| image.priority(entry.source as usize))
+        .min()
+        .unwrap_or(16);
+    let pending = (image.control[INT_PEND] | requests) & image.control[INT_MASK];
+    (0..SOURCES)
+        .filter(|&source| pending >> source & 1 == 1 && image.priority(source) < least)
+        .fold(0, |flags, source| flags | 1 << source)
+}
+
+/// Repeats calls step by step.
+pub struct Tracer {
+    step: Call,
+    bench: Bench,
+    marked: Vec<u8>,
+    marked_cells: Vec<u32>,
+    marked_buffer: Vec<u8>,
+}
+
+impl Tracer {
+    pub fn new() -> Tracer {
+        Tracer {
+            step: Call::default(),
+            bench: Bench::default(),
+            marked: Vec::new(),
+            marked_cells: Vec::new(),
+            marked_buffer: vec![0; LONGEST],
+        }
+    }
+
+    /// Whether a call that was not refused is small enough to be repeated.
+    pub fn takes(call: &Call, answer: Answer) -> bool {
+        answer.steps <= TRACED_STEPS
+            && call.cells.len() <= TRACED_CELLS
+            && call.program.len() <= TRACED_BYTES
+    }
+
+    /// Repeats a call with one call for each step, on both sides, and counts what it
+    /// meets. `left` is what the call as a whole left: its cells and its buffer.
+    ///
+    /// On a difference, `self.step()` is the call that shows it.
+    pub fn trace(
+        &mut self,
+        call: &Call,
+        answer: Answer,
+        left: (&[u32], &[u8]),
+        sides: Sides,
+        coverage: &mut Coverage,
+    ) -> Result<(), Difference> {
+        coverage.traced_calls += 1;
+        let step = &mut self.step;
+        step.program.clone_from(&call.program);
+        step.cells.clone_from(&call.cells);
+        step.image.clone_from(&call.image);
+        step.buffer.clear();
+        step.buffer.resize(LONGEST, 0x5A);
+        step.limit = 1;
+        let mut before = Image::read(&step.image);
+        for number in 0..answer.steps + u32::from(answer.ending != 0) {
+            let step = &mut self.step;
+            let requests = call.requests.get(number as usize).copied().unwrap_or(0);
+            step.requests.clear();
+            step.requests.push(requests);
+            let done = self.bench.compare(step, sides)?;
+            let expected = Answer {
+                refusal: 0,
+                steps: u32::from(number < answer.steps),
+                ending: if number < answer.steps {
+                    0
+                } else {
+                    answer.ending
+                },
+            };
+            if done != expected {
+                return Err(Difference::Both(format!(
+                    "step {number} of a call of {} steps and ending {} alone gives {} steps and ending {}",
+                    answer.steps, answer.ending, done.steps, done.ending
+                )));
+            }
+            let length = length(&self.bench.buffer);
+            let after = Image::read(&self.bench.buffer);
+            if number < answer.steps {
+                let exception = self.exception(&before, &after, sides.reference);
+                coverage.count_step(
+                    &self.step.program,
+                    requests,
+                    &before,
+                    &after,
+                    exception,
+                    [&self.step.cells, &self.bench.cells],
+                );
+            }
+            std::mem::swap(&mut self.step.cells, &mut self.bench.cells);
+            self.step.image.clear();
+            self.step
+                .image
+                .extend_from_slice(&self.bench.buffer[..length]);
+            before = after;
+        }
+        if self.step.cells != left.0 || self.step.image[..] != left.1[..self.step.image.len()] {
+            return Err(Difference::Both(
+                "one call and single steps leave different machines".to_string(),
+            ));
+        }
+        Ok(())
+    }
+
+    /// The last call of the last trace.
+    pub fn step(&self) -> &Call {
+        &self.step
+    }
+
+    /// Whether a step entered an exception. Where the images leave it open, as with
+    /// two exceptions of one kind in a row, the step is repeated with an EXCEPTION_PSR
+    /// that only an exception can replace.
+    fn exception(&mut self, before: &Image, after: &Image, reference: Run) -> bool {
+        let entered = after.depth == before.depth
+            && after.psr() == 0x0E
+            && after.pc() == before.control[EXCEP_ADDR]
+            && after.control[EXCEPTION_PC] == before.pc()
+            && after.control[EXCEPTION_PSR] == before.psr();
+        let registers = EXCEPTION_CS..=EXCEPTION_PSR;
+        if !entered || before.control[registers.clone()] != after.control[registers] {
+            return entered;
+        }
+        self.marked.clone_from(&self.step.image);
+        set_number(&mut self.marked, COUNTS[3] + 1 + EXCEPTION_PSR, NO_PSR);
+        self.marked_cells.clone_from(&self.step.cells);
+        reference(
+            &self.step.program,
+            &mut self.marked_cells,
+            &self.marked,
+            &self.step.requests,
+            1,
+            &mut self.marked_buffer,
+        );
+        number(&self.marked_buffer, COUNTS[3] + 1 + EXCEPTION_PSR) != NO_PSR
+    }
+}
+
+impl Default for Tracer {
+    fn default() -> Tracer {
+        Tracer::new()
+    }
+}

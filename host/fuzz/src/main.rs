@@ -1,0 +1,207 @@
+//! `fuzz [--seed N] [--calls N] [--seconds N] [--case N]`: compares the COFFEE library
+//! with the reference emulator on seeded random calls.
+//!
+//! Prints what the calls met, and at the end `fuzz: N calls, no difference`; or the
+//! first difference, with everything that is needed to repeat it, and ends with 1.
+
+use coffee_fuzz::compare::Sides;
+use coffee_fuzz::image::LONGEST;
+use coffee_fuzz::session::{self, Options, CURRENT_CASE};
+use std::process::ExitCode;
+use std::sync::atomic::{AtomicU64, Ordering};
+use std::time::Instant;
+
+/// The usual session: about a minute.
+const SEED: u64 = 1;
+const CALLS: u64 = 2_000_000;
+
+mod library {
+    //! The C interface of libcoffee.a.
+
+    use coffee_reference::Answer;
+
+    #[repr(C)]
+    struct CoffeeAnswer {
+        refusal: u32,
+        steps: u32,
+        ending: u32,
+    }
+
+    extern "C" {
+        fn coffee_run(
+            program: *const u8,
+            program_len: usize,
+            cells: *mut u32,
+            cells_len: usize,
+            image: *const u8,
+            image_len: usize,
+            requests: *const u32,
+            requests_len: usize,
+            limit: u32,
+            buffer: *mut u8,
+            buffer_len: usize,
+        ) -> CoffeeAnswer;
+        fn coffee_reset(buffer: *mut u8, buffer_len: usize) -> u32;
+    }
+
+    pub fn run(
+        program: &[u8],
+        cells: &mut [u32],
+        image: &[u8],
+        requests: &[u32],
+        limit: u32,
+        buffer: &mut [u8],
+    ) -> Answer {
+        // Each pointer comes with the length of the slice that it is of.
+        let answer = unsafe {
+            coffee_run(
+                program.as_ptr(),
+                program.len(),
+                cells.as_mut_ptr(),
+                cells.len(),
+                image.as_ptr(),
+                image.len(),
+                requests.as_ptr(),
+                requests.len(),
+                limit,
+                buffer.as_mut_ptr(),
+                buffer.len(),
+            )
+        };
+        Answer {
+            refusal: answer.refusal,
+            steps: answer.steps,
+            ending: answer.ending,
+        }
+    }
+
+    pub fn reset(buffer: &mut [u8]) -> u32 {
+        // The pointer comes with the length of the slice that it is of.
+        unsafe { coffee_reset(buffer.as_mut_ptr(), buffer.len()) }
+    }
+}
+
+/// The seed, for a message where the process ends by a panic or a signal.
+static CURRENT_SEED: AtomicU64 = AtomicU64::new(0);
+
+/// Sees to it that the seed and the case are told where the process ends early.
+fn watch(seed: u64) {
+    CURRENT_SEED.store(seed, Ordering::Relaxed);
+    let usual = std::panic::take_hook();
+    std::panic::set_hook(Box::new(move |panic| {
+        usual(panic);
+        let case = CURRENT_CASE.load(Ordering::Relaxed);
+        eprintln!("fuzz: panic; repeat with --seed {seed} --case {case}");
+    }));
+    #[cfg(target_os = "linux")]
+    signals::watch();
+}
+
+#[cfg(target_os = "linux")]
+mod signals {
+    //! Says which case was running when the library ended the process.
+
+    use super::*;
+    use std::io::Write;
+
+    extern "C" {
+        fn signal(number: i32, handler: extern "C" fn(i32)) -> usize;
+        fn _exit(status: i32) -> !;
+    }
+
+    /// SIGILL, SIGABRT, SIGBUS, SIGFPE, SIGSEGV, SIGTERM.
+    const SIGNALS: [i32; 6] = [4, 6, 7, 8, 11, 15];
+
+    extern "C" fn report(number: i32) {
+        let seed = CURRENT_SEED.load(Ordering::Relaxed);
+        let case = CURRENT_CASE.load(Ordering::Relaxed);
+        let mut line = [0; 100];
+        let mut rest = &mut line[..];
+        let _ = writeln!(
+            rest,
+            "fuzz: signal {number}; repeat with --seed {seed} --case {case}"
+        );
+        let unused = rest.len();
+        let _ = std::io::stderr().write_all(&line[..line.len() - unused]);
+        unsafe { _exit(1) }
+    }
+
+    pub fn watch() {
+        for number in SIGNALS {
+            unsafe { signal(number, report) };
+        }
+    }
+}
+
+fn main() -> ExitCode {
+    let usual = Options {
+        seed: SEED,
+        calls: Some(CALLS),
+        seconds: None,
+        case: None,
+    };
+    let options = match session::options(usual, std::env::args().skip(1)) {
+        Ok(options) => options,
+        Err(message) => {
+            eprintln!("fuzz: {message}");
+            eprintln!("fuzz [--seed N] [--calls N] [--seconds N] [--case N]");
+            return ExitCode::from(2);
+        }
+    };
+    watch(options.seed);
+
+    if let Err(message) = compare_reset() {
+        println!("{message}");
+        return ExitCode::FAILURE;
+    }
+    let start = Instant::now();
+    let sides = Sides {
+        reference: coffee_reference::run,
+        library: library::run,
+    };
+    let outcome = session::run(&options, sides);
+    let coverage = &outcome.coverage;
+    println!(
+        "seed {}: {} calls in {} lists, {:.1} s",
+        options.seed,
+        coverage.calls,
+        coverage.cases,
+        start.elapsed().as_secs_f64()
+    );
+    print!("{}", coverage.report());
+    if let Some(found) = &outcome.found {
+        print!("{}", session::explain(found, sides));
+        return ExitCode::FAILURE;
+    }
+    if options.case.is_none() {
+        for warning in coverage.warnings() {
+            println!("{warning}");
+        }
+    }
+    println!("fuzz: {} calls, no difference", coverage.calls);
+    ExitCode::SUCCESS
+}
+
+/// Compares reset on buffers of every length around the least, 708.
+fn compare_reset() -> Result<(), String> {
+    for length in 0..LONGEST + 40 {
+        let mut expected = vec![0xA5; length];
+        let mut given = expected.clone();
+        let answers = (
+            coffee_reference::reset(&mut expected),
+            library::reset(&mut given),
+        );
+        if answers.0 != answers.1 || expected != given {
+            return Err(format!(
+                "difference: reset with {length} bytes: reference {}, library {}, {}",
+                answers.0,
+                answers.1,
+                match expected.iter().zip(&given).position(|(a, b)| a != b) {
+                    Some(index) => format!("buffers differ first at byte {index}"),
+                    None => "buffers alike".to_string(),
+                }
+            ));
+        }
+    }
+    Ok(())
+}

@@ -1,0 +1,397 @@
+//! Random images that questions 2 to 5 accept (01, "Machine image").
+
+use crate::image::*;
+use crate::program::{self, Region, Role, AMOUNT, CODE_BASES, CONTROL_BASES, DATA_BASES};
+use crate::random::Random;
+use crate::words;
+
+/// Fills `image` with a random state for a program and a number of cells.
+pub fn build(
+    random: &mut Random,
+    program: &[u8],
+    regions: &[Region],
+    cells: usize,
+    image: &mut Image,
+) {
+    *image = Image::new();
+    let mut builder = Builder {
+        random,
+        program,
+        regions,
+        cells: cells as u32,
+        image,
+    };
+    builder.control_block();
+    builder.registers();
+    builder.position();
+    builder.stack();
+}
+
+struct Builder<'a> {
+    random: &'a mut Random,
+    program: &'a [u8],
+    regions: &'a [Region],
+    cells: u32,
+    image: &'a mut Image,
+}
+
+impl Builder<'_> {
+    fn control_block(&mut self) {
+        for offset in 0..CONTROL_REGISTERS {
+            self.image.control[offset] = self.random.number() & control_mask(offset);
+        }
+        self.image.control[CORE_VER_ID] = 1;
+        let base = match self.random.below(16) {
+            0..=3 => 0,
+            4..=6 => 256,
+            7 | 8 => 256 * self.random.below(8),
+            9 => self.cells & !255,
+            10..=12 => 0x0001_0000,
+            13 => 0xFFFF_FF00,
+            14 => 0x0000_FF00,
+            _ => self.random.word() & !255,
+        };
+        self.image.control[CCB_BASE] = base;
+
+        let (low, high) = self.data_bounds();
+        self.image.control[DMEM_BOUND_LO] = low;
+        self.image.control[DMEM_BOUND_HI] = high;
+        let (low, high) = self.code_bounds();
+        self.image.control[IMEM_BOUND_LO] = low;
+        self.image.control[IMEM_BOUND_HI] = high;
+
+        // Vectors, each with the word length of the region that it leads to.
+        let mut widths = 0;
+        for source in 0..SOURCES {
+            let region = self.region(Role::Handler);
+            self.image.control[INT_VEC + source] = self.entrance(region);
+            widths |= u32::from(region.wide) << source;
+        }
+        if self.random.one_in(12) {
+            widths = self.random.word() & 0xFFF;
+        }
+        self.image.control[INT_MODE_IL] = widths;
+        self.image.control[INT_MODE_UM] = self.flags();
+        self.image.control[INT_MASK] = if self.random.percent(65) {
+            0xFFF
+        } else {
+            self.flags()
+        };
+        self.image.control[INT_PEND] = match self.random.below(4) {
+            0 => 1 << self.random.below(12),
+            1 => self.flags(),
+            _ => 0,
+        };
+        self.priorities();
+
+        // Both are entered with 32-bit words.
+        for offset in [SYSTEM_ADDR, EXCEP_ADDR] {
+            let region = self.wide_region(Role::System);
+            // A wrong EXCEP_ADDR only leads to itself.
+            self.image.control[offset] = if offset == SYSTEM_ADDR || self.random.one_in(8) {
+                self.entrance(region)
+            } else {
+                program::word_of(self.random, region, true)
+            };
+        }
+    }
+
+    /// Four bits for each source: all different, all alike, two values, or any.
+    fn priorities(&mut self) {
+        let shape = self.random.below(6);
+        let common = self.random.below(16);
+        let other = self.random.below(16);
+        let mut both = 0_u64;
+        for source in 0..SOURCES as u32 {
+            let priority = match shape {
+                0 => source,
+                1 => 15 - source,
+                2 => common,
+                3 => self.random.pick(&[common, other]),
+                _ => self.random.below(16),
+            };
+            both |= u64::from(priority) << (4 * source);
+        }
+        self.image.control[COP_INT_PRI] = both as u32 & 0xFFFF;
+        self.image.control[EXT_INT_PRI] = (both >> 16) as u32;
+    }
+
+    /// Twelve flags: none, all, or any.
+    fn flags(&mut self) -> u32 {
+        match self.random.below(8) {
+            0 => 0,
+            1 | 2 => 0xFFF,
+            _ => self.random.word() & 0xFFF,
+        }
+    }
+
+    /// A data address close to the ends of the cells, the control block or the bounds.
+    fn data_point(&mut self) -> u32 {
+        let base = self.image.control[CCB_BASE];
+        match self.random.below(8) {
+            0 => 0,
+            1 => self.cells / 2,
+            2 => self.cells,
+            3 => base,
+            4 => base + 255,
+            5 => self.image.control[DMEM_BOUND_LO],
+            6 => self.image.control[DMEM_BOUND_HI],
+            _ => self.random.below(self.cells.max(1)),
+        }
+    }
+
+    fn data_bounds(&mut self) -> (u32, u32) {
+        match self.random.below(16) {
+            0..=3 => self.no_bounds(),
+            4 => (0, u32::MAX),
+            5 => {
+                let base = self.image.control[CCB_BASE];
+                (base, base + 255)
+            }
+            _ => {
+                let low = self.data_point();
+                let low = self.shifted(low);
+                let high = match self.random.below(4) {
+                    0 => low,
+                    1 => low.saturating_add(self.random.below(20)),
+                    2 => u32::MAX,
+                    _ => {
+                        let high = self.data_point();
+                        self.shifted(high)
+                    }
+                };
+                (low, high)
+            }
+        }
+    }
+
+    fn code_bounds(&mut self) -> (u32, u32) {
+        let region = self.random.pick(self.regions);
+        let point = program::word_of(self.random, region, region.wide) + self.random.below(4);
+        match self.random.below(16) {
+            0..=6 => self.no_bounds(),
+            7 if self.random.percent(50) => (0, u32::MAX),
+            7 => (u32::MAX - self.random.below(6), u32::MAX),
+            8..=10 => (point, point),
+            11 => (point, u32::MAX),
+            12 => (0, point),
+            13 => (region.start, region.end - 1),
+            _ => (point, point.saturating_add(self.random.below(12))),
+        }
+    }
+
+    /// "LO above HI protects nothing."
+    fn no_bounds(&mut self) -> (u32, u32) {
+        match self.random.below(4) {
+            0 => (u32::MAX, 0),
+            1 => {
+                let high = self.random.below(600);
+                (high + 1, high)
+            }
+            _ => (1, 0),
+        }
+    }
+
+    /// An address, or one at most two away.
+    fn shifted(&mut self, address: u32) -> u32 {
+        if self.random.percent(50) {
+            address
+        } else {
+            address.wrapping_add(self.random.below(5)).wrapping_sub(2)
+        }
+    }
+
+    fn registers(&mut self) {
+        for number in 0..32 {
+            self.image.set1[number] = self.random.number();
+            self.image.set2[number] = self.random.number();
+        }
+        let base = self.image.control[CCB_BASE];
+        for second in [false, true] {
+            for register in DATA_BASES {
+                let address = self.data_point();
+                let address = self.shifted(address);
+                self.set(second, register, address);
+            }
+            self.set(second, CONTROL_BASES[0], base);
+            let reach = match self.random.below(4) {
+                0 => 8,
+                1 => 0x18,
+                2 => self.random.below(0x30),
+                _ => 0x20,
+            };
+            self.set(second, CONTROL_BASES[1], base + reach);
+            for (register, wide) in CODE_BASES.into_iter().zip([true, false]) {
+                let address = self.code_address(wide);
+                self.set(second, register, address);
+            }
+            let amount = self.random.below(34);
+            self.set(second, AMOUNT, amount);
+            let wide = self.random.percent(60);
+            let link = self.code_address(wide);
+            self.set(second, LINK as u32, link);
+        }
+        self.image.set2[SPSR] = match self.random.below(4) {
+            0 => self.random.number(),
+            _ => self.random.pick(&[0x09, 0x19, 0x01, 0x11, 0x0E]),
+        };
+        for register in &mut self.image.conditions {
+            *register = self.random.below(8);
+        }
+    }
+
+    fn set(&mut self, second: bool, register: u32, value: u32) {
+        if second {
+            self.image.set2[register as usize] = value;
+        } else {
+            self.image.set1[register as usize] = value;
+        }
+    }
+
+    fn position(&mut self) {
+        let region = self.random.pick(self.regions);
+        let mut wide = region.wide;
+        let pc = self.entrance(region);
+        if self.random.one_in(30) {
+            wide = !wide;
+        }
+        self.image.set2[PSR] = self.status(wide);
+        self.image.position[PC] = pc;
+        if self.random.percent(12) {
+            self.image.position[SLOT] = 1;
+            self.image.position[TARGET] = if self.random.percent(85) {
+                self.code_address(wide)
+            } else {
+                self.random.number()
+            };
+        }
+        if self.random.percent(15) {
+            self.image.position[PRODUCT] = 1;
+            self.image.position[HIGH] = self.random.number();
+            self.image.position[LOW] = self.random.number();
+            if self.random.percent(60) {
+                if let Some(address) = self.mulhi_in(region) {
+                    self.image.position[PC] = address;
+                    // A mulhi that may be protected holds no interrupt back.
+                    if self.random.percent(20) {
+                        let point = address + self.random.below(4);
+                        self.image.control[IMEM_BOUND_LO] = point;
+                        self.image.control[IMEM_BOUND_HI] = point;
+                    }
+                }
+            }
+        }
+    }
+
+    /// A valid PSR with the given word length.
+    fn status(&mut self, wide: bool) -> u32 {
+        let mut psr = if wide { IL } else { 0 };
+        if self.random.percent(60) {
+            psr |= IE;
+        }
+        if self.random.percent(60) {
+            psr |= UM;
+        } else {
+            psr |= self.random.pick(&[0, RSRD, RSWR, RSRD | RSWR]);
+        }
+        psr
+    }
+
+    /// The address of a mulhi in a region.
+    fn mulhi_in(&mut self, region: Region) -> Option<u32> {
+        let width = words::bytes(region.wide);
+        let mut at = region.start;
+        while at < region.end {
+            let high = u32::from(*self.program.get(at as usize)?);
+            if high >> 2 == words::MULHI {
+                return Some(at);
+            }
+            at += width;
+        }
+        None
+    }
+
+    fn stack(&mut self) {
+        let depth = match self.random.below(16) {
+            0..=8 => 0,
+            9..=12 => self.random.range(1, 3),
+            13 | 14 => self.random.range(4, 11),
+            _ => 12,
+        };
+        // Different sources, in any order.
+        let mut sources: [u32; SOURCES] = std::array::from_fn(|source| source as u32);
+        for place in 0..depth {
+            let other = self.random.range(place, SOURCES as u32 - 1);
+            sources.swap(place as usize, other as usize);
+        }
+        // Mostly the later one has the smaller priority number, and a source that is
+        // not in service a smaller one still.
+        let ordered = self.random.percent(70);
+        for (place, &source) in sources[..depth as usize].iter().enumerate() {
+            let wide = self.random.percent(50);
+            self.image.stack[place] = Entry {
+                source,
+                address: self.code_address(wide),
+                psr: self.status(wide),
+                c0: self.random.below(8),
+            };
+            if ordered {
+                let (offset, field) = if source < 4 {
+                    (COP_INT_PRI, source)
+                } else {
+                    (EXT_INT_PRI, source - 4)
+                };
+                self.image.control[offset] |= 8 << (4 * field);
+            }
+        }
+        self.image.depth = depth as usize;
+        self.image.show_stack();
+    }
+
+    /// An instruction address for words of the given length, seldom a wrong one.
+    fn code_address(&mut self, wide: bool) -> u32 {
+        let address = program::code_address(self.random, self.regions, wide);
+        self.mostly(address)
+    }
+
+    fn entrance(&mut self, region: Region) -> u32 {
+        let address = program::word_of(self.random, region, region.wide);
+        self.mostly(address)
+    }
+
+    /// The address, or seldom one that is misaligned, absent, close to the end of the
+    /// 32-bit range, or anything.
+    fn mostly(&mut self, address: u32) -> u32 {
+        match self.random.below(128) {
+            0 | 1 => address + self.random.below(4),
+            2 | 3 => (self.program.len() as u32 & !3) + 4 * self.random.below(2),
+            4 => 0_u32.wrapping_sub(2 * self.random.range(1, 3)),
+            5 => self.random.number(),
+            _ => address,
+        }
+    }
+
+    /// A region, mostly one of the given role.
+    fn region(&mut self, role: Role) -> Region {
+        let mut region = self.random.pick(self.regions);
+        for _ in 0..4 {
+            if region.role == role {
+                break;
+            }
+            region = self.random.pick(self.regions);
+        }
+        region
+    }
+
+    /// A region, mostly one of 32-bit words and the given role.
+    fn wide_region(&mut self, role: Role) -> Region {
+        let mut region = self.region(role);
+        for _ in 0..6 {
+            if region.wide {
+                break;
+            }
+            region = self.random.pick(self.regions);
+        }
+        region
+    }
+}

@@ -1,0 +1,147 @@
+//! Instruction words in both widths (01, "Instruction words").
+
+/// The names of the operations 0 to 57.
+pub const NAMES: [&str; 58] = [
+    "nop", "add", "addu", "sub", "subu", "and", "or", "xor", "muls", "mulu", "mulus", "muls_16",
+    "mulu_16", "mulus_16", "sll", "srl", "sra", "sext", "addi", "addiu", "andi", "ori", "muli",
+    "slli", "srli", "srai", "sexti", "ld", "st", "mov", "not", "mulhi", "cmp", "cmpi", "lli",
+    "lui", "jmp", "jal", "jmpr", "jalr", "bc", "begt", "belt", "beq", "bgt", "blt", "bne", "bnc",
+    "scall", "retu", "reti", "chrs", "di", "ei", "swm", "trap", "scon", "rcon",
+];
+
+/// Operation numbers that the generator treats apart.
+pub const NOP: u32 = 0;
+pub const MULS: u32 = 8;
+pub const MULU: u32 = 9;
+pub const MULUS: u32 = 10;
+pub const MULI: u32 = 22;
+pub const LD: u32 = 27;
+pub const ST: u32 = 28;
+pub const MULHI: u32 = 31;
+pub const CMP: u32 = 32;
+pub const CMPI: u32 = 33;
+pub const LLI: u32 = 34;
+pub const LUI: u32 = 35;
+pub const JMP: u32 = 36;
+pub const JAL: u32 = 37;
+pub const JMPR: u32 = 38;
+pub const JALR: u32 = 39;
+pub const BRANCH: u32 = 40;
+pub const LAST_BRANCH: u32 = 47;
+pub const SCALL: u32 = 48;
+pub const RETU: u32 = 49;
+pub const RETI: u32 = 50;
+pub const CHRS: u32 = 51;
+pub const DI: u32 = 52;
+pub const EI: u32 = 53;
+pub const SWM: u32 = 54;
+pub const TRAP: u32 = 55;
+pub const SCON: u32 = 56;
+pub const RCON: u32 = 57;
+/// The first unknown operation.
+pub const UNKNOWN: u32 = 58;
+
+/// Whether the operation may not stand in a branch slot (stop 13).
+pub fn is_transfer(operation: u32) -> bool {
+    (JMP..=RETI).contains(&operation) || operation == SWM
+}
+
+/// Whether the operation holds its product for mulhi.
+pub fn holds_product(operation: u32) -> bool {
+    matches!(operation, MULS | MULU | MULUS | MULI)
+}
+
+/// Whether the operation takes the 9-bit or 7-bit immediate.
+pub fn has_immediate(operation: u32) -> bool {
+    matches!(operation, 18..=26 | CMPI)
+}
+
+/// "Never conditional, bit 25 ignored."
+pub fn never_conditional(operation: u32) -> bool {
+    matches!(operation, NOP | CMP..=JAL | BRANCH..=LAST_BRANCH | RETU..=RCON)
+}
+
+/// The operation number of a word.
+pub fn operation(word: u32, wide: bool) -> u32 {
+    if wide {
+        word >> 26
+    } else {
+        word >> 10
+    }
+}
+
+/// The bytes of a word.
+pub fn bytes(wide: bool) -> u32 {
+    if wide {
+        4
+    } else {
+        2
+    }
+}
+
+/// A 32-bit word of three registers.
+pub fn wide_registers(operation: u32, target: u32, first: u32, second: u32) -> u32 {
+    operation << 26 | target << 10 | first << 5 | second
+}
+
+/// A 32-bit word with a 9-bit immediate, "bits 18..15 above bits 4..0".
+pub fn wide_immediate(operation: u32, target: u32, first: u32, immediate: u32) -> u32 {
+    operation << 26 | (immediate >> 5 & 15) << 15 | target << 10 | first << 5 | immediate & 31
+}
+
+/// A 16-bit word of two registers, given by their low three bits.
+pub fn short_registers(operation: u32, sr: u32, dr: u32) -> u32 {
+    operation << 10 | (sr & 7) << 3 | dr & 7
+}
+
+/// A 16-bit word with a 7-bit immediate.
+pub fn short_immediate(operation: u32, dr: u32, immediate: u32) -> u32 {
+    operation << 10 | (immediate & 127) << 3 | dr & 7
+}
+
+/// A 16-bit ld or st.
+pub fn short_memory(operation: u32, sr: u32, dr: u32, immediate: u32) -> u32 {
+    operation << 10 | (immediate & 15) << 6 | (sr & 7) << 3 | dr & 7
+}
+
+/// The base register and the signed immediate of ld or st.
+pub fn memory_operand(word: u32, wide: bool) -> (usize, i64) {
+    if wide {
+        let immediate = i64::from(word >> 15 & 15) << 5 | i64::from(word & 31);
+        ((word >> 5 & 31) as usize, (immediate ^ 256) - 256)
+    } else {
+        let immediate = i64::from(word >> 6 & 15);
+        ((word >> 3 & 7) as usize + 24, (immediate ^ 8) - 8)
+    }
+}
+
+/// Whether a condition is true of a condition register (01: "Conditions 0 to 7").
+pub fn condition(number: u32, register: u32) -> bool {
+    let (z, n, c) = (register & 4 != 0, register & 2 != 0, register & 1 != 0);
+    match number {
+        0 => c,
+        1 => !n,
+        2 => n || z,
+        3 => z,
+        4 => !n && !z,
+        5 => n,
+        6 => !z,
+        _ => !c,
+    }
+}
+
+#[cfg(test)]
+mod tests {
+    use super::*;
+
+    /// The words that 01 gives.
+    #[test]
+    fn worked_by_hand() {
+        assert_eq!(short_registers(3, 26, 25), 0x0C11);
+        assert_eq!(wide_registers(SWM, 0, 0, 0), 0xD800_0000);
+        assert_eq!(wide_immediate(18, 2, 1, 0x1FF), 0x4807_883F);
+        assert_eq!(LLI << 26 | 1 << 16 | 5, 0x8801_0005);
+        assert_eq!(wide_registers(TRAP, 0, 0, 3), 0xDC00_0003);
+        assert_eq!(memory_operand(0x4807_883F, true), (1, -1));
+    }
+}

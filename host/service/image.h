@@ -1,0 +1,43 @@
+/* The layout of a machine image: 32-bit numbers, high byte first, in six sections, each
+   after its count. Places are counted in numbers from the image's front. */
+#ifndef IMAGE_H
+#define IMAGE_H
+
+#include <stddef.h>
+#include <stdint.h>
+
+enum {
+    SET_REGISTERS = 32,
+    CONDITIONS = 8,
+    CONTROL_REGISTERS = 45,
+    POSITION_NUMBERS = 6,
+    ENTRY_NUMBERS = 4,
+    SOURCES = 12,
+
+    /* Registers of set 2 that have a name of their own. */
+    PSR = 29,
+    SPSR = 30,
+
+    /* Each section's first number stands after its count. */
+    SET_1 = 1,
+    SET_2 = SET_1 + SET_REGISTERS + 1,
+    CONDITION = SET_2 + SET_REGISTERS + 1,
+    CONTROL = CONDITION + CONDITIONS + 1,
+    POSITION = CONTROL + CONTROL_REGISTERS + 1,
+    STACK = POSITION + POSITION_NUMBERS + 1,
+    STACK_COUNT = STACK - 1
+};
+
+/* A number of 32 bits from four bytes, high byte first. */
+uint32_t number_from(const uint8_t *bytes);
+
+/* A number of 32 bits as four bytes, high byte first. */
+void number_to(uint8_t *bytes, uint32_t number);
+
+/* The number at a place of an image. */
+uint32_t image_number(const uint8_t *image, size_t place);
+
+/* The length in bytes of an image that the library gave or accepted. */
+size_t image_length(const uint8_t *image);
+
+#endif

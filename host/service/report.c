@@ -1,0 +1,58 @@
+/* What the program says to its caller: complaints, and that its output went out. */
+#include "report.h"
+
+#include <ctype.h>
+#include <errno.h>
+#include <inttypes.h>
+#include <stdarg.h>
+#include <stddef.h>
+#include <stdio.h>
+#include <string.h>
+
+/* The library's refusals in words. */
+static const char *const reasons[] = {
+    [1] = "more than 65,536 bytes of program or 65,536 cells of data",
+    [2] = "not exactly the sections and counts of a machine image",
+    [3] = "an image with a number that its register cannot hold",
+    [4] = "an image with a PSR of user mode that uses set 2",
+    [5] = "an image whose stack, INT_SERV and RETI registers do not agree",
+    [6] = "a request above FFFh",
+    [7] = "a step limit above 1,000,000",
+    [8] = "a buffer too short for an image",
+};
+
+void complain(const char *name, const char *text, ...)
+{
+    va_list values;
+
+    fputs("service: ", stderr);
+    /* A name may hold line ends; the complaint stays one line. */
+    for (; *name != '\0'; name++)
+        fputc(iscntrl((unsigned char)*name) ? '?' : *name, stderr);
+    fputs(": ", stderr);
+    va_start(values, text);
+    vfprintf(stderr, text, values);
+    va_end(values);
+    fputc('\n', stderr);
+}
+
+void complain_of_errno(const char *name)
+{
+    complain(name, "%s", strerror(errno));
+}
+
+void complain_of_refusal(const char *name, uint32_t refusal)
+{
+    size_t known = sizeof reasons / sizeof reasons[0];
+
+    complain(name, "refused with %" PRIu32 ": %s", refusal,
+             refusal > 0 && refusal < known ? reasons[refusal] : "no reason that is known here");
+}
+
+bool end_output(void)
+{
+    if (fflush(stdout) == 0 && !ferror(stdout))
+        return true;
+    complain_of_errno("standard output");
+    return false;
+}
