@@ -170,7 +170,7 @@ zeros() {
 
 # Names, rights and contents of all that is in a folder.
 snapshot() {
-    (cd "$1" && ls -lAR --time-style=+ && find . -type f -exec cksum {} + | sort)
+    (cd "$1" && ls -lAR --time-style=+ && find . -type f -exec cksum {} + 2>/dev/null | sort)
 }
 
 # accepted NAME LINE COMMAND...: the command prints exactly this line (nothing, if it is empty),
