@@ -14,10 +14,10 @@ use Rattle.machine.specs.Stack.{popped, sourcesOf, shownTop, showStack, withSta
 use Rattle.machine.specs.Words.{machineOf}
 use Rattle.machine.specs.declared.Position.{Position}
 use Rattle.machine.specs.declared.Entry.{Entry}
-use Rattle.apply.specs.declared.Kind.{Kind}
-use Rattle.apply.specs.declared.Kind.the-variants as kind
-use Rattle.decide.specs.declared.Effect.{Effect}
-use Rattle.decide.specs.declared.Effect.the-variants.{Stopped, Raised, Next, Result, ResultFlags, ResultProduct, Compare, Conditions, StoreControl, StoreCell, Jump, JumpLink, EnableInterrupts, SwitchWidth, SystemCall, InterruptReturn, UserReturn, SelectSets}
+use Rattle.apply.specs.Kind.{Kind}
+use Rattle.apply.specs.Kind as kind
+use Rattle.decide.specs.Effect.{Effect}
+use Rattle.decide.specs.Effect.{Stopped, Raised, Next, Result, ResultFlags, ResultProduct, Compare, Conditions, StoreControl, StoreCell, Jump, JumpLink, EnableInterrupts, SwitchWidth, SystemCall, InterruptReturn, UserReturn, SelectSets}
 
 -- ---- registers; numbers of registers have five bits, of condition registers three, and each keeps its low bits
 
@@ -144,9 +144,32 @@ apply (SelectSets n) s = machineOnly kind.Ordinary (selectSets n) s
 abbrev pub stateOf : (words cells : List ℕ) → State
 stateOf words cells = record { machine = machineOf words; cells = cells }
 
--- the transition to that state
-abbrev pub transitionOf : Kind → (words cells : List ℕ) → Transition
-transitionOf k words cells = record { kind = k; after = stateOf words cells }
+-- ---- what the code tells of a transition
+
+-- the number of a stop; 0 for a step
+unfoldable pub stopNumber : Kind → ℕ
+stopNumber kind.Ordinary = 0
+stopNumber kind.Interrupt = 0
+stopNumber kind.SystemCall = 0
+stopNumber kind.InterruptReturn = 0
+stopNumber (kind.Exception c) = 0
+stopNumber (kind.Stop n) = n
+
+-- that number, and the state after it
+pub record Told : Type 0 where
+  pub stop : ℕ
+  pub after : State
+
+unfoldable pub told : Transition → Told
+told t = record { stop = stopNumber (t .kind); after = t .after }
+
+-- the same by an answer, and the words and cells that are left
+abbrev pub toldBy : (stop : ℕ) (words cells : List ℕ) → Told
+toldBy n words cells = record { stop = n; after = stateOf words cells }
+
+-- an effect carried out on the state that words and cells hold
+unfoldable pub effectOn : Effect → (words cells : List ℕ) → Told
+effectOn e words cells = told (apply e (stateOf words cells))
 
 -- the control block shows the stack, and the stack's sources are below 12 and all different (question 5)
 pub record StackShown (m : Machine) : Type 0 where

@@ -1,3 +1,4 @@
--- What an effect changes.
+-- What an effect changes (Apply), and what the step or stop was (Kind).
+pub mod Kind
 pub mod Apply
 pub mod Computed

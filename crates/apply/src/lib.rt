@@ -1,30 +1,16 @@
 // What an effect changes of the machine and the data memory.
-// Each function carries out the definition of its contract on the words that hold the machine.
+// Each function carries out the definition of its contract on the words that hold the machine. Those of effects tell 0: no effect but a
+// stop, which changes nothing, tells a number.
 ghost use mathlib.Core.Path.{_≡_};
-ghost use Prim.Native.Nat.{_%_, _<_, _^_};
+ghost use mathlib.Core.List.{List};
+ghost use Prim.Native.Nat.{ℕ, _%_, _<_, _^_};
 ghost use lib.ListN.{length, set};
 ghost use Rattle.machine.specs.Machine.{withModes, positionAt, withConditions, withPosition};
 ghost use Rattle.machine.specs.Stack.{popped, withStack};
 ghost use Rattle.machine.specs.Words.{WORDS, machineOf};
-ghost use Rattle.apply.specs.Apply.{writeRegister, writeFlags, unpacked, wordsOn, nextPc, advance, advanceHolding, jumpTo, raise, systemCall, userReturn, interruptReturn, enableInterrupts, switchWidth, selectSets, apply, StackShown, stateOf, transitionOf};
-use decide::Effect;
+ghost use Rattle.decide.specs.Effect.{Raised, Next, Result, ResultFlags, ResultProduct, Compare, Conditions, StoreControl, StoreCell, Jump, JumpLink, EnableInterrupts, SwitchWidth, SystemCall, InterruptReturn, UserReturn, SelectSets};
+ghost use Rattle.apply.specs.Apply.{writeRegister, writeFlags, unpacked, wordsOn, nextPc, advance, advanceHolding, jumpTo, StackShown, toldBy, effectOn};
 use machine::Position;
-
-// What a transition was.
-pub enum Kind {
-    // An instruction, with none of the effects below.
-    Ordinary,
-    // An interrupt was accepted.
-    Interrupt,
-    // scall.
-    SystemCall,
-    // reti.
-    InterruptReturn,
-    // An exception with its code.
-    Exception(u32),
-    // A stop with its number.
-    Stop(u32),
-}
 
 // Bits of PSR (002 section 2.4): registers written in set 2, 32-bit words, interrupts enabled.
 const RSWR: u32 = 2;
@@ -34,9 +20,7 @@ const IL: u32 = 3;
 const IE: u32 = 4;
 // PSR of scall and of exceptions.
 const SUPER: u32 = 0x0E;
-// Registers of set 2, and the link register of both sets.
-const PSR: u32 = 29;
-
+// A register of set 2, and the link register of both sets.
 const SPSR: u32 = 30;
 
 const LINK: u32 = 31;
@@ -58,14 +42,8 @@ fn write_register(w: &mut [u32], d: u32, x: u32)
     requires { ⌜ length (now w) ≡ WORDS ⌝ }
     ensures { λ _. ⌜ machineOf (now (w .exit)) ≡ writeRegister d x (machineOf (now (w .entry))) ⌝ }
 {
-    let n = d % 32;
-    if word::has_flag(machine::psr(w), RSWR) {
-        if n != PSR {
-            machine::set_register(w, true, n, x);
-        }
-    } else {
-        machine::set_register(w, false, n, x);
-    }
+    let second = word::has_flag(machine::psr(w), RSWR);
+    machine::write_register(w, second, d % 32, x);
 }
 
 // Condition register c takes flags.
@@ -185,9 +163,9 @@ fn jump_to(w: &mut [u32], target: u32)
 // ---- changes of mode
 
 // An exception: code, address and PSR are shown; PC is EXCEP_ADDR.
-fn raise(w: &mut [u32], code: u32)
+pub fn raise(w: &mut [u32], code: u32) -> u32
     requires { ⌜ length (now w) ≡ WORDS ⌝ }
-    ensures { λ _. ⌜ machineOf (now (w .exit)) ≡ raise code (machineOf (now (w .entry))) ⌝ }
+    ensures { λ r. ⌜ ((cells : List ℕ) → toldBy r (now (w .exit)) cells ≡ effectOn (Raised code) (now (w .entry)) cells) ⌝ }
 {
     let pc = machine::pc(w);
     let psr = machine::psr(w);
@@ -197,12 +175,13 @@ fn raise(w: &mut [u32], code: u32)
     machine::set_control(w, EXCEPTION_PSR, psr);
     machine::set_psr(w, SUPER);
     go_to(w, handler);
+    0
 }
 
 // scall: the link PR31 is two words on, SPSR takes PSR; PC is SYSTEM_ADDR.
-fn system_call(w: &mut [u32])
+pub fn system_call(w: &mut [u32]) -> u32
     requires { ⌜ length (now w) ≡ WORDS ⌝ }
-    ensures { λ _. ⌜ machineOf (now (w .exit)) ≡ systemCall (machineOf (now (w .entry))) ⌝ }
+    ensures { λ r. ⌜ ((cells : List ℕ) → toldBy r (now (w .exit)) cells ≡ effectOn SystemCall (now (w .entry)) cells) ⌝ }
 {
     let link = words_on(w, 2);
     let psr = machine::psr(w);
@@ -211,17 +190,19 @@ fn system_call(w: &mut [u32])
     machine::set_register(w, true, LINK, link);
     machine::set_psr(w, SUPER);
     go_to(w, handler);
+    0
 }
 
 // retu: PC from PR31; IE and IL from SPSR; user mode, set 1.
-fn user_return(w: &mut [u32])
+pub fn user_return(w: &mut [u32]) -> u32
     requires { ⌜ length (now w) ≡ WORDS ⌝ }
-    ensures { λ _. ⌜ machineOf (now (w .exit)) ≡ userReturn (machineOf (now (w .entry))) ⌝ }
+    ensures { λ r. ⌜ ((cells : List ℕ) → toldBy r (now (w .exit)) cells ≡ effectOn UserReturn (now (w .entry)) cells) ⌝ }
 {
     let pc = machine::register2(w, LINK);
     let saved = machine::register2(w, SPSR);
     machine::set_psr(w, saved / 8 % 4 * 8 + 1);
     go_to(w, pc);
+    0
 }
 
 // The top leaves the stack, if there is one.
@@ -235,15 +216,16 @@ fn pop(w: &mut [u32])
 }
 
 // reti pops: PC, PSR and C0 come back, and the source's flag is cleared.
-fn interrupt_return(w: &mut [u32])
+pub fn interrupt_return(w: &mut [u32]) -> u32
     requires { ⌜ (length (now w) ≡ WORDS) × StackShown (machineOf (now w)) ⌝ }
-    ensures { λ _. ⌜ machineOf (now (w .exit)) ≡ interruptReturn (machineOf (now (w .entry))) ⌝ }
+    ensures { λ r. ⌜ ((cells : List ℕ) → toldBy r (now (w .exit)) cells ≡ effectOn InterruptReturn (now (w .entry)) cells) ⌝ }
 {
     let e = machine::top(w);
     pop(w);
     machine::set_condition(w, 0, e.c0);
     machine::set_psr(w, e.psr);
     go_to(w, e.address);
+    0
 }
 
 // PSR with IL and IE set anew.
@@ -254,40 +236,43 @@ fn with_modes(psr: u32, wide: bool, enabled: bool) -> u32
 }
 
 // di and ei: IE is 0 or 1.
-fn enable_interrupts(w: &mut [u32], enabled: bool)
+pub fn enable_interrupts(w: &mut [u32], enabled: bool) -> u32
     requires { ⌜ length (now w) ≡ WORDS ⌝ }
-    ensures { λ _. ⌜ machineOf (now (w .exit)) ≡ enableInterrupts enabled (machineOf (now (w .entry))) ⌝ }
+    ensures { λ r. ⌜ ((cells : List ℕ) → toldBy r (now (w .exit)) cells ≡ effectOn (EnableInterrupts enabled) (now (w .entry)) cells) ⌝ }
 {
     let psr = machine::psr(w);
     advance(w);
     machine::set_psr(w, with_modes(psr, word::has_flag(psr, IL), enabled));
+    0
 }
 
 // swm: IL is 0 or 1; goes on three old-width words later.
-fn switch_width(w: &mut [u32], wide: bool)
+pub fn switch_width(w: &mut [u32], wide: bool) -> u32
     requires { ⌜ length (now w) ≡ WORDS ⌝ }
-    ensures { λ _. ⌜ machineOf (now (w .exit)) ≡ switchWidth wide (machineOf (now (w .entry))) ⌝ }
+    ensures { λ r. ⌜ ((cells : List ℕ) → toldBy r (now (w .exit)) cells ≡ effectOn (SwitchWidth wide) (now (w .entry)) cells) ⌝ }
 {
     let psr = machine::psr(w);
     let pc = words_on(w, 3);
     go_to(w, pc);
     machine::set_psr(w, with_modes(psr, wide, word::has_flag(psr, IE)));
+    0
 }
 
 // chrs: RSRD and RSWR.
-fn select_sets(w: &mut [u32], sets: u32)
+pub fn select_sets(w: &mut [u32], sets: u32) -> u32
     requires { ⌜ length (now w) ≡ WORDS ⌝ }
-    ensures { λ _. ⌜ machineOf (now (w .exit)) ≡ selectSets sets (machineOf (now (w .entry))) ⌝ }
+    ensures { λ r. ⌜ ((cells : List ℕ) → toldBy r (now (w .exit)) cells ≡ effectOn (SelectSets sets) (now (w .entry)) cells) ⌝ }
 {
     let psr = machine::psr(w);
     advance(w);
     machine::set_psr(w, psr % 2 + sets % 4 * 2 + psr / 8 * 8);
+    0
 }
 
-// ---- effects
+// ---- cells
 
 // A data cell takes a value; a store beyond the last cell changes nothing.
-fn store_cell(cells: &mut [u32], a: u32, x: u32)
+fn set_cell(cells: &mut [u32], a: u32, x: u32)
     ensures { λ _. ⌜ now (cells .exit) ≡ set (now (cells .entry)) a (x % 2 ^ 32) ⌝ }
 {
     let i = a as usize;
@@ -296,90 +281,110 @@ fn store_cell(cells: &mut [u32], a: u32, x: u32)
     }
 }
 
-// An effect is carried out; the answer is what it was.
-pub fn apply(e: Effect, w: &mut [u32], cells: &mut [u32]) -> Kind
-    requires { ⌜ (length (now w) ≡ WORDS) × StackShown (machineOf (now w)) ⌝ }
-    ensures { λ r. ⌜ transitionOf r (now (w .exit)) (now (cells .exit)) ≡ apply e (stateOf (now (w .entry)) (now (cells .entry))) ⌝ }
+// ---- results
+
+// Nothing but PC moves.
+pub fn next(w: &mut [u32]) -> u32
+    requires { ⌜ length (now w) ≡ WORDS ⌝ }
+    ensures { λ r. ⌜ ((cells : List ℕ) → toldBy r (now (w .exit)) cells ≡ effectOn Next (now (w .entry)) cells) ⌝ }
 {
-    match e {
-        Effect::Stopped(n) => Kind::Stop(n),
-        Effect::Raised(code) => {
-            raise(w, code);
-            Kind::Exception(code)
-        }
-        Effect::Next => {
-            advance(w);
-            Kind::Ordinary
-        }
-        Effect::Result(d, x) => {
-            write_register(w, d, x);
-            advance(w);
-            Kind::Ordinary
-        }
-        Effect::ResultFlags(d, x, flags) => {
-            write_register(w, d, x);
-            write_flags(w, 0, flags);
-            advance(w);
-            Kind::Ordinary
-        }
-        Effect::ResultProduct(d, high, low) => {
-            write_register(w, d, low);
-            advance_holding(w, high, low);
-            Kind::Ordinary
-        }
-        Effect::Compare(c, flags) => {
-            write_flags(w, c, flags);
-            advance(w);
-            Kind::Ordinary
-        }
-        Effect::Conditions(x) => {
-            unpack(w, x);
-            advance(w);
-            Kind::Ordinary
-        }
-        Effect::StoreControl(n, x) => {
-            machine::store_control(w, n, x);
-            advance(w);
-            Kind::Ordinary
-        }
-        Effect::StoreCell(a, x) => {
-            store_cell(cells, a, x);
-            advance(w);
-            Kind::Ordinary
-        }
-        Effect::Jump(target) => {
-            jump_to(w, target);
-            Kind::Ordinary
-        }
-        Effect::JumpLink(target) => {
-            let after_slot = words_on(w, 2);
-            write_register(w, LINK, after_slot);
-            jump_to(w, target);
-            Kind::Ordinary
-        }
-        Effect::EnableInterrupts(enabled) => {
-            enable_interrupts(w, enabled);
-            Kind::Ordinary
-        }
-        Effect::SwitchWidth(wide) => {
-            switch_width(w, wide);
-            Kind::Ordinary
-        }
-        Effect::SystemCall => {
-            system_call(w);
-            Kind::SystemCall
-        }
-        Effect::InterruptReturn => {
-            interrupt_return(w);
-            Kind::InterruptReturn
-        }
-        Effect::UserReturn => {
-            user_return(w);
-            Kind::Ordinary
-        }
-        Effect::SelectSets(sets) => {
-            select_sets(w, sets);
-            Kind::Ordinary
-        }
-    }
+    advance(w);
+    0
+}
+
+// A register takes a value. Where control goes on does not depend on it: a write to PSR is ignored.
+pub fn result(w: &mut [u32], d: u32, x: u32) -> u32
+    requires { ⌜ length (now w) ≡ WORDS ⌝ }
+    ensures { λ r. ⌜ ((cells : List ℕ) → toldBy r (now (w .exit)) cells ≡ effectOn (Result d x) (now (w .entry)) cells) ⌝ }
+{
+    let pc = next_pc(w);
+    write_register(w, d, x);
+    go_to(w, pc);
+    0
+}
+
+// A register takes a value, and C0 flags.
+pub fn result_flags(w: &mut [u32], d: u32, x: u32, flags: u32) -> u32
+    requires { ⌜ length (now w) ≡ WORDS ⌝ }
+    ensures { λ r. ⌜ ((cells : List ℕ) → toldBy r (now (w .exit)) cells ≡ effectOn (ResultFlags d x flags) (now (w .entry)) cells) ⌝ }
+{
+    let pc = next_pc(w);
+    write_register(w, d, x);
+    write_flags(w, 0, flags);
+    go_to(w, pc);
+    0
+}
+
+// A register takes the low half of a product, which is held.
+pub fn result_product(w: &mut [u32], d: u32, high: u32, low: u32) -> u32
+    requires { ⌜ length (now w) ≡ WORDS ⌝ }
+    ensures { λ r. ⌜ ((cells : List ℕ) → toldBy r (now (w .exit)) cells ≡ effectOn (ResultProduct d high low) (now (w .entry)) cells) ⌝ }
+{
+    write_register(w, d, low);
+    advance_holding(w, high, low);
+    0
+}
+
+// A condition register takes flags.
+pub fn compare(w: &mut [u32], c: u32, flags: u32) -> u32
+    requires { ⌜ length (now w) ≡ WORDS ⌝ }
+    ensures { λ r. ⌜ ((cells : List ℕ) → toldBy r (now (w .exit)) cells ≡ effectOn (Compare c flags) (now (w .entry)) cells) ⌝ }
+{
+    write_flags(w, c, flags);
+    advance(w);
+    0
+}
+
+// All condition registers are taken from a word.
+pub fn conditions(w: &mut [u32], x: u32) -> u32
+    requires { ⌜ length (now w) ≡ WORDS ⌝ }
+    ensures { λ r. ⌜ ((cells : List ℕ) → toldBy r (now (w .exit)) cells ≡ effectOn (Conditions x) (now (w .entry)) cells) ⌝ }
+{
+    unpack(w, x);
+    advance(w);
+    0
+}
+
+// ---- stores
+
+// A register of the control block is stored to.
+pub fn store_control(w: &mut [u32], n: u32, x: u32) -> u32
+    requires { ⌜ length (now w) ≡ WORDS ⌝ }
+    ensures { λ r. ⌜ ((cells : List ℕ) → toldBy r (now (w .exit)) cells ≡ effectOn (StoreControl n x) (now (w .entry)) cells) ⌝ }
+{
+    machine::store_control(w, n, x);
+    advance(w);
+    0
+}
+
+// A data cell takes a value; a store beyond the last cell changes nothing.
+pub fn store_cell(w: &mut [u32], cells: &mut [u32], a: u32, x: u32) -> u32
+    requires { ⌜ length (now w) ≡ WORDS ⌝ }
+    ensures { λ r. ⌜ toldBy r (now (w .exit)) (now (cells .exit)) ≡ effectOn (StoreCell a x) (now (w .entry)) (now (cells .entry)) ⌝ }
+{
+    set_cell(cells, a, x);
+    advance(w);
+    0
+}
+
+// ---- jumps
+
+// To a target, after the slot.
+pub fn jump(w: &mut [u32], target: u32) -> u32
+    requires { ⌜ length (now w) ≡ WORDS ⌝ }
+    ensures { λ r. ⌜ ((cells : List ℕ) → toldBy r (now (w .exit)) cells ≡ effectOn (Jump target) (now (w .entry)) cells) ⌝ }
+{
+    jump_to(w, target);
+    0
+}
+
+// The same, with the address after the slot in the link register.
+pub fn jump_link(w: &mut [u32], target: u32) -> u32
+    requires { ⌜ length (now w) ≡ WORDS ⌝ }
+    ensures { λ r. ⌜ ((cells : List ℕ) → toldBy r (now (w .exit)) cells ≡ effectOn (JumpLink target) (now (w .entry)) cells) ⌝ }
+{
+    let after_slot = words_on(w, 2);
+    write_register(w, LINK, after_slot);
+    jump_to(w, target);
+    0
 }

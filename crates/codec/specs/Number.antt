@@ -13,6 +13,14 @@ numberOf a b c d = ((a * 256 + b) * 256 + c) * 256 + d
 abbrev pub numberAt : (bytes : List ℕ) (at : ℕ) → ℕ
 numberAt s at = numberOf (getD s at 0) (getD s (at + 1) 0) (getD s (at + 2) 0) (getD s (at + 3) 0)
 
+-- the same with the low byte first
+abbrev pub lowFirstAt : (bytes : List ℕ) (at : ℕ) → ℕ
+lowFirstAt s at = numberOf (getD s (at + 3) 0) (getD s (at + 2) 0) (getD s (at + 1) 0) (getD s at 0)
+
+-- the number with its bytes in the other order
+abbrev pub reversed : ℕ → ℕ
+reversed n = numberOf (n % 256) (n / 256 % 256) (n / 65536 % 256) (n / 16777216)
+
 -- the four bytes of a number
 abbrev pub bytesOfNumber : ℕ → List ℕ
 bytesOfNumber n = n / 2 ^ 24 % 256 ∷ n / 2 ^ 16 % 256 ∷ n / 2 ^ 8 % 256 ∷ n % 256 ∷ []

@@ -2,7 +2,7 @@
 ghost use mathlib.Core.Path.{_≡_};
 ghost use Prim.Native.Nat.{_+_, _*_, _/_, _≤_};
 ghost use lib.ListN.{length};
-ghost use Rattle.codec.specs.Number.{numberOf, numberAt, bytesOfNumber, numbersOf, bytesOf, stored, over};
+ghost use Rattle.codec.specs.Number.{numberOf, numberAt, lowFirstAt, reversed, bytesOfNumber, numbersOf, bytesOf, stored, over};
 
 // The number that four bytes stand for, high byte first.
 fn number(a: u8, b: u8, c: u8, d: u8) -> u32
@@ -11,12 +11,27 @@ fn number(a: u8, b: u8, c: u8, d: u8) -> u32
     ((a as u32 * 256 + b as u32) * 256 + c as u32) * 256 + d as u32
 }
 
-// Reads the number in the four bytes from a place on.
+// Reads the number in the four bytes from a place on, low byte first.
+fn low_first_at(bytes: &[u8], at: usize) -> u32
+    requires { ⌜ at + 4 ≤ length (now bytes) ⌝ }
+    ensures { λ r. ⌜ r ≡ lowFirstAt (now (bytes .entry)) at ⌝ }
+{
+    number(bytes[at + 3], bytes[at + 2], bytes[at + 1], bytes[at])
+}
+
+// The number with its four bytes in the other order.
+fn reversed(n: u32) -> u32
+    ensures { λ r. ⌜ r ≡ reversed n ⌝ }
+{
+    ((n % 256 * 256 + n / 256 % 256) * 256 + n / 65536 % 256) * 256 + n / 16777216
+}
+
+// Reads the number in the four bytes from a place on: one load and one reversal of bytes.
 pub fn number_at(bytes: &[u8], at: usize) -> u32
     requires { ⌜ at + 4 ≤ length (now bytes) ⌝ }
     ensures { λ r. ⌜ r ≡ numberAt (now (bytes .entry)) at ⌝ }
 {
-    number(bytes[at], bytes[at + 1], bytes[at + 2], bytes[at + 3])
+    reversed(low_first_at(bytes, at))
 }
 
 // Writes a number to the four bytes from a place on.

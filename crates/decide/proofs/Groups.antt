@@ -9,7 +9,7 @@ use Rattle.isa.specs.Condition.{conditions, conditionOf}
 use Rattle.isa.specs.declared.Instruction.{Instruction}
 use Rattle.isa.proofs.Table.{values, agree}
 use Rattle.decide.specs.View.{View}
-use Rattle.decide.specs.declared.Effect.the-variants.{Jump, JumpLink}
+use Rattle.decide.specs.Effect.{Jump, JumpLink}
 use Rattle.decide.specs.Execute.{targetBy, jumped, branch, execute}
 
 module _ (v : View) (i : Instruction) (x y op : ℕ) where

@@ -1,19 +1,11 @@
-// Data memory: what an address names, loads and stores.
+// Data memory: what an address names, and what a cell holds.
 ghost use mathlib.Core.Path.{_≡_};
 ghost use mathlib.Core.Bool.{_&&_};
-ghost use mathlib.Core.List.{List};
-ghost use Prim.Native.Nat.{ℕ, _≤_, _<_};
 ghost use lib.ListN.{length, getD};
-ghost use Rattle.isa.specs.Operation.{operationOf};
 ghost use Rattle.machine.specs.Control.{controlAt, within, CCB-BASE, DMEM-BOUND-LO, DMEM-BOUND-HI};
 ghost use Rattle.machine.specs.Words.{WORDS, machineOf};
-ghost use Rattle.decide.specs.View.{inBlock, placeAt, heldAt, viewOf};
-ghost use Rattle.decide.specs.Execute.{loaded, stored, execute};
-use crate::Effect;
+ghost use Rattle.decide.specs.View.{inBlock, placeAt};
 use crate::Place;
-use crate::RSRD;
-use crate::UM;
-use isa::Instruction;
 
 // Offsets in the control block: its own base, and the bounds.
 const CCB_BASE: u32 = 0x00;
@@ -46,7 +38,7 @@ fn in_block(base: u32, a: u32) -> bool
 }
 
 // What a data address names: 08h, 07h, the control block, a cell, or nothing.
-fn place(w: &[u32], user: bool, count: usize, address: i64) -> Place
+pub fn place(w: &[u32], user: bool, count: usize, address: i64) -> Place
     requires { ⌜ length (now w) ≡ WORDS ⌝ }
     ensures { λ r. ⌜ r ≡ placeAt user (controlAt (machineOf (now (w .entry))) DMEM-BOUND-LO) (controlAt (machineOf (now (w .entry))) DMEM-BOUND-HI) (controlAt (machineOf (now (w .entry))) CCB-BASE) count address ⌝ }
 {
@@ -66,51 +58,9 @@ fn place(w: &[u32], user: bool, count: usize, address: i64) -> Place
 }
 
 // The cell at an address, 0 beyond the last.
-fn cell(cells: &[u32], a: u32) -> u32
+pub fn cell(cells: &[u32], a: u32) -> u32
     ensures { λ r. ⌜ r ≡ getD (now (cells .entry)) a 0 ⌝ }
 {
     let at = a as usize;
     if at < cells.len() { cells[at] } else { 0 }
-}
-
-// A register takes what is at a place.
-fn loaded(w: &[u32], cells: &[u32], d: u32, place: Place) -> Effect
-    requires { ⌜ length (now w) ≡ WORDS ⌝ }
-    ensures { λ r. ⌜ r ≡ loaded d (heldAt (record { machine = machineOf (now (w .entry)); cells = now (cells .entry) }) place) place ⌝ }
-{
-    match place {
-        Place::Block(n) => Effect::Result(d, machine::control_at(w, n)),
-        Place::Cell(a) => Effect::Result(d, cell(cells, a)),
-        Place::Refused(code) => Effect::Raised(code),
-        Place::Missing => Effect::Stopped(12),
-    }
-}
-
-// A place takes x.
-fn stored(x: u32, place: Place) -> Effect
-    ensures { λ r. ⌜ r ≡ stored x place ⌝ }
-{
-    match place {
-        Place::Block(n) => Effect::StoreControl(n, x),
-        Place::Cell(a) => Effect::StoreCell(a, x),
-        Place::Refused(code) => Effect::Raised(code),
-        Place::Missing => Effect::Stopped(12),
-    }
-}
-
-// Operations 27 and 28: ld and st.
-pub fn access(w: &[u32], cells: &[u32], op: u32, i: Instruction, x: u32) -> Effect
-    requires { ⌜ (length (now w) ≡ WORDS) × (i .dreg < 32) × (27 ≤ op) × (op ≤ 28) ⌝ }
-    ensures { λ r. ⌜ ((p : List ℕ) (y : ℕ) → r ≡ execute (operationOf op) (viewOf p (now (w .entry)) (now (cells .entry))) i x y) ⌝ }
-{
-    let psr = machine::psr(w);
-    let address = word::offset_by(x, i.immediate);
-    let place = place(w, word::has_flag(psr, UM), cells.len(), address);
-    match op {
-        27 => loaded(w, cells, i.dreg, place),
-        _ => stored(
-            machine::register(w, word::has_flag(psr, RSRD), i.dreg),
-            place,
-        ),
-    }
 }

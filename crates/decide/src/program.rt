@@ -38,16 +38,9 @@ pub fn closed(w: &[u32], user: bool, a: u32, n: u32) -> bool
     requires { ⌜ (length (now w) ≡ WORDS) × (0 < n) × (a + n ≤ 2 ^ 32) ⌝ }
     ensures { λ r. ⌜ r ≡ user && anyWithin (controlAt (machineOf (now (w .entry))) IMEM-BOUND-LO) (controlAt (machineOf (now (w .entry))) IMEM-BOUND-HI) a n ⌝ }
 {
-    if user {
-        any_within(
-            machine::control(w, IMEM_BOUND_LO),
-            machine::control(w, IMEM_BOUND_HI),
-            a,
-            n,
-        )
-    } else {
-        false
-    }
+    let low = machine::control(w, IMEM_BOUND_LO);
+    let high = machine::control(w, IMEM_BOUND_HI);
+    user & any_within(low, high, a, n)
 }
 
 // The bytes of the instruction word at an address, if all are there.

@@ -14,8 +14,8 @@ use Rattle.image.specs.Image.{writeImage}
 use Rattle.image.proofs.Formed.{true-formed, formed-true, stacked-depth}
 use Rattle.image.proofs.Image.{accepted-formed}
 use Rattle.apply.specs.Apply.{Transition, stateOf, transitionOf}
-use Rattle.apply.specs.declared.Kind.{Kind}
-use Rattle.apply.specs.declared.Kind.the-variants.{Ordinary, Interrupt, SystemCall, InterruptReturn, Exception, Stop}
+use Rattle.apply.specs.Kind.{Kind}
+use Rattle.apply.specs.Kind.{Ordinary, Interrupt, SystemCall, InterruptReturn, Exception, Stop}
 use Rattle.step.specs.Step.{isStop, step}
 use Rattle.step.proofs.Formed.{step-formed}
 use Rattle.emulator.specs.Run.{Call, RunResult, stopNumber, resultFrom, resultBy, No, Start, ask, askedBy, outcome, runCall}

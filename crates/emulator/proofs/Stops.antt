@@ -7,10 +7,10 @@ use Prim.Native.Nat.{ℕ, _≤_}
 use Rattle.machine.specs.Machine.{State}
 use Rattle.decide.specs.View.{View, view}
 use Rattle.decide.specs.Decide.{decide}
-use Rattle.decide.specs.declared.Effect.{Effect}
-use Rattle.decide.specs.declared.Effect.the-variants.{Stopped, Raised, Next, Result, ResultFlags, ResultProduct, Compare, Conditions, StoreControl, StoreCell, Jump, JumpLink, EnableInterrupts, SwitchWidth, SystemCall, InterruptReturn, UserReturn, SelectSets}
+use Rattle.decide.specs.Effect.{Effect}
+use Rattle.decide.specs.Effect.{Stopped, Raised, Next, Result, ResultFlags, ResultProduct, Compare, Conditions, StoreControl, StoreCell, Jump, JumpLink, EnableInterrupts, SwitchWidth, SystemCall, InterruptReturn, UserReturn, SelectSets}
 use Rattle.apply.specs.Apply.{Transition, machineOnly, storeCell, apply}
-use Rattle.apply.specs.declared.Kind.{Kind}
+use Rattle.apply.specs.Kind.{Kind}
 use Rattle.step.specs.Interrupt.{withRequests, acceptedSource}
 use Rattle.step.specs.Step.{isStop, interruptOr, step}
 use Rattle.step.proofs.Safe.{Safe, decide-safe}

@@ -13,13 +13,13 @@ use Rattle.machine.specs.Control.{controlAt, within, protectedCell, DMEM-BOUND-
 use Rattle.machine.proofs.Lists.{at-set-other, at-set-same}
 use Rattle.decide.specs.View.{View, view}
 use Rattle.decide.specs.Decide.{decide}
-use Rattle.decide.specs.declared.Effect.{Effect}
-use Rattle.decide.specs.declared.Effect.the-variants.{Stopped, Raised, Next, Result, ResultFlags, ResultProduct, Compare, Conditions, StoreControl, StoreCell, Jump, JumpLink, EnableInterrupts, SwitchWidth, SystemCall, InterruptReturn, UserReturn, SelectSets}
+use Rattle.decide.specs.Effect.{Effect}
+use Rattle.decide.specs.Effect.{Stopped, Raised, Next, Result, ResultFlags, ResultProduct, Compare, Conditions, StoreControl, StoreCell, Jump, JumpLink, EnableInterrupts, SwitchWidth, SystemCall, InterruptReturn, UserReturn, SelectSets}
 use Rattle.step.proofs.Safe.{Safe, decide-safe}
 use Rattle.step.proofs.Addresses.{reached-cell, reached-block}
 use Rattle.apply.specs.Apply.{wordsOn, Transition, machineOnly, storeCell, apply, unpacked}
-use Rattle.apply.specs.declared.Kind.{Kind}
-use Rattle.apply.specs.declared.Kind.the-variants as kind
+use Rattle.apply.specs.Kind.{Kind}
+use Rattle.apply.specs.Kind as kind
 use Rattle.step.specs.Interrupt.{withRequests, acceptedSource}
 use Rattle.step.specs.Step.{isStop, interruptOr, step}
 use Rattle.emulator.specs.Isolation.{Kept, isExit, isPreemption}

@@ -10,10 +10,8 @@ use Rattle.machine.specs.Machine.{Machine, State}
 use Rattle.machine.specs.Words.{machineOf}
 use Rattle.image.specs.Questions.{allBelow}
 use Rattle.image.specs.Image.{Read, Refused, Accepted, readImage, writeImage}
-use Rattle.apply.specs.Apply.{Transition}
+use Rattle.apply.specs.Apply.{Transition, stopNumber}
 use Rattle.step.specs.Step.{isStop, step}
-use Rattle.apply.specs.declared.Kind.{Kind}
-use Rattle.apply.specs.declared.Kind.the-variants.{Ordinary, Interrupt, SystemCall, InterruptReturn, Exception, Stop}
 use Rattle.emulator.specs.declared.Ended.{Ended}
 use Rattle.emulator.specs.declared.Answer.{Answer}
 use Rattle.emulator.specs.declared.Answer.the-variants.{Refusal, Ran}
@@ -39,15 +37,6 @@ pub record RunResult : Type 0 where
   pub steps : ℕ
   pub ending : ℕ
   pub after : State
-
--- the number of a stop
-unfoldable pub stopNumber : Kind → ℕ
-stopNumber Ordinary = 0
-stopNumber Interrupt = 0
-stopNumber SystemCall = 0
-stopNumber InterruptReturn = 0
-stopNumber (Exception c) = 0
-stopNumber (Stop n) = n
 
 -- where transitions lead: a stop is not a step
 unfoldable pub resultOf : (done : ℕ) → State → List Transition → RunResult

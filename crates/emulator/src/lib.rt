@@ -6,9 +6,8 @@ ghost use lib.ListN.{length, getD};
 ghost use Rattle.machine.specs.Words.{WORDS, machineOf};
 ghost use Rattle.image.specs.Questions.{wellFormed};
 ghost use Rattle.apply.specs.Apply.{stateOf};
-ghost use Rattle.emulator.specs.Run.{stopNumber, resultFrom, resultBy, ask, askedBy, outcome, runCall};
+ghost use Rattle.emulator.specs.Run.{resultFrom, resultBy, ask, askedBy, outcome, runCall};
 ghost use Rattle.emulator.specs.Reset.{resetOutcome, resetCall};
-use apply::Kind;
 
 // What a run call answers.
 pub enum Answer {
@@ -76,20 +75,6 @@ fn refusal(
 
 // ---- the steps
 
-// The number of a stop; 0 for a step.
-fn stop_number(k: Kind) -> u32
-    ensures { λ r. ⌜ r ≡ stopNumber k ⌝ }
-{
-    match k {
-        Kind::Ordinary => 0,
-        Kind::Interrupt => 0,
-        Kind::SystemCall => 0,
-        Kind::InterruptReturn => 0,
-        Kind::Exception(_) => 0,
-        Kind::Stop(n) => n,
-    }
-}
-
 // The requests of a step; a step past the list has none.
 fn request_at(requests: &[u32], n: usize) -> u32
     ensures { λ r. ⌜ r ≡ getD (now (requests .entry)) n 0 ⌝ }
@@ -110,8 +95,7 @@ fn run_steps(
 {
     let mut done: u32 = 0;
     while done < limit {
-        let kind = step::step(program, w, cells, request_at(requests, done as usize));
-        let stop = stop_number(kind);
+        let stop = step::step(program, w, cells, request_at(requests, done as usize));
         if stop != 0 {
             return Ended {
                 steps: done,

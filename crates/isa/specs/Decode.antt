@@ -43,15 +43,13 @@ operandsOf width form word =
 unfoldable pub opcodeOf : Width → (word : ℕ) → ℕ
 opcodeOf width word = fieldsOf (operationField width) word
 
--- the instruction of a word. Bits that it does not use are ignored; bit 25 is, where the operation may not be conditional
-unfoldable pub decode : Width → (word : ℕ) → Instruction
-decode width word =
-    let opcode = opcodeOf width word in
-    let p = properties (operationOf opcode) in
-    let o = operandsOf width (p .form) word in
+-- the instruction of a word, from its operation's number, whether the operation may be conditional, and its operands. Bits that it does
+-- not use are ignored; bit 25 is, where the operation may not be conditional
+unfoldable pub assembled : Width → (word opcode : ℕ) (conditional : Bool) → Operands → Instruction
+assembled width word opcode conditional o =
     record {
       opcode = opcode;
-      conditional = eqb (fieldsOf (conditionalField width) word) 1 && p .conditional;
+      conditional = eqb (fieldsOf (conditionalField width) word) 1 && conditional;
       creg = fieldsOf (cregField width) word;
       condition = fieldsOf (conditionField width) word;
       dreg = o .dreg;
@@ -59,3 +57,10 @@ decode width word =
       sreg2 = o .sreg2;
       immediate = o .immediate;
     }
+
+-- the instruction of a word
+unfoldable pub decode : Width → (word : ℕ) → Instruction
+decode width word =
+    let opcode = opcodeOf width word in
+    let p = properties (operationOf opcode) in
+    assembled width word opcode (p .conditional) (operandsOf width (p .form) word)

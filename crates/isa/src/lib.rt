@@ -5,7 +5,7 @@ ghost use lib.IntN.{pos};
 ghost use Rattle.word.specs.Word.{signedOf};
 ghost use Rattle.isa.specs.Operation.{operationOf, properties, Properties, w16, w32, widthBy, unavailable, codeOf};
 ghost use Rattle.isa.specs.Condition.{conditionOf, holds};
-ghost use Rattle.isa.specs.Decode.{opcodeOf, operandsOf, decode};
+ghost use Rattle.isa.specs.Decode.{opcodeOf, operandsOf, assembled, decode};
 
 // The operands of an instruction; one that it does not have is 0.
 pub struct Operands {
@@ -104,9 +104,17 @@ fn signed(dreg: u32, sreg1: u32, n: u32, k: u32) -> Operands
     }
 }
 
-// 32-bit words of addi to sexti, ld, st.
+// 32-bit words of add to sext.
+fn wide_registers(op: u32, w: u32) -> Operands
+    requires { ⌜ (1 ≤ op) × (op ≤ 17) ⌝ }
+    ensures { λ r. ⌜ r ≡ operandsOf w32 (properties (operationOf op) .form) w ⌝ }
+{
+    registers(w / 1024 % 32, w / 32 % 32, w % 32)
+}
+
+// 32-bit words of addi to sexti.
 fn wide_immediate(op: u32, w: u32) -> Operands
-    requires { ⌜ (18 ≤ op) × (op ≤ 28) ⌝ }
+    requires { ⌜ (18 ≤ op) × (op ≤ 26) ⌝ }
     ensures { λ r. ⌜ r ≡ operandsOf w32 (properties (operationOf op) .form) w ⌝ }
 {
     let d = w / 1024 % 32;
@@ -116,9 +124,16 @@ fn wide_immediate(op: u32, w: u32) -> Operands
         18 => signed(d, s, n, 9),
         19..=21 => unsigned(d, s, n),
         22 => signed(d, s, n, 9),
-        23..=26 => unsigned(d, s, w % 32),
-        _ => signed(d, s, n, 9),
+        _ => unsigned(d, s, w % 32),
     }
+}
+
+// 32-bit words of ld and st.
+fn wide_access(op: u32, w: u32) -> Operands
+    requires { ⌜ (27 ≤ op) × (op ≤ 28) ⌝ }
+    ensures { λ r. ⌜ r ≡ operandsOf w32 (properties (operationOf op) .form) w ⌝ }
+{
+    signed(w / 1024 % 32, w / 32 % 32, w / 0x8000 % 16 * 32 + w % 32, 9)
 }
 
 // 32-bit words of mov, not, mulhi, cmp, cmpi, lli, lui.
@@ -165,24 +180,18 @@ fn wide_system(op: u32, w: u32) -> Operands
     }
 }
 
-// The operands of a 32-bit word.
-fn wide_operands(op: u32, w: u32) -> Operands
-    ensures { λ r. ⌜ r ≡ operandsOf w32 (properties (operationOf op) .form) w ⌝ }
+// 16-bit words of add to sext: the second source is the target.
+fn narrow_registers(op: u32, w: u32) -> Operands
+    requires { ⌜ (1 ≤ op) × (op ≤ 17) ⌝ }
+    ensures { λ r. ⌜ r ≡ operandsOf w16 (properties (operationOf op) .form) w ⌝ }
 {
-    match op {
-        0 => registers(0, 0, 0),
-        1..=17 => registers(w / 1024 % 32, w / 32 % 32, w % 32),
-        18..=28 => wide_immediate(op, w),
-        29..=35 => wide_move(op, w),
-        36..=47 => wide_jump(op, w),
-        48..=57 => wide_system(op, w),
-        _ => registers(0, 0, 0),
-    }
+    let d = w % 8 + 24;
+    registers(d, w / 8 % 8 + 24, d)
 }
 
-// 16-bit words of addi to sexti, ld, st.
+// 16-bit words of addi to sexti.
 fn narrow_immediate(op: u32, w: u32) -> Operands
-    requires { ⌜ (18 ≤ op) × (op ≤ 28) ⌝ }
+    requires { ⌜ (18 ≤ op) × (op ≤ 26) ⌝ }
     ensures { λ r. ⌜ r ≡ operandsOf w16 (properties (operationOf op) .form) w ⌝ }
 {
     let d = w % 8 + 24;
@@ -191,9 +200,16 @@ fn narrow_immediate(op: u32, w: u32) -> Operands
         18 => signed(d, d, n, 7),
         19..=21 => unsigned(d, d, n),
         22 => signed(d, d, n, 7),
-        23..=26 => unsigned(d, d, w / 8 % 32),
-        _ => signed(d, w / 8 % 8 + 24, w / 64 % 16, 4),
+        _ => unsigned(d, d, w / 8 % 32),
     }
+}
+
+// 16-bit words of ld and st.
+fn narrow_access(op: u32, w: u32) -> Operands
+    requires { ⌜ (27 ≤ op) × (op ≤ 28) ⌝ }
+    ensures { λ r. ⌜ r ≡ operandsOf w16 (properties (operationOf op) .form) w ⌝ }
+{
+    signed(w % 8 + 24, w / 8 % 8 + 24, w / 64 % 16, 4)
 }
 
 // 16-bit words of mov, not, mulhi, cmp, cmpi; lli and lui have no operands there.
@@ -240,32 +256,14 @@ fn narrow_system(op: u32, w: u32) -> Operands
     }
 }
 
-// The operands of a 16-bit word: the second source is the target.
-fn narrow_operands(op: u32, w: u32) -> Operands
-    ensures { λ r. ⌜ r ≡ operandsOf w16 (properties (operationOf op) .form) w ⌝ }
+// The instruction of a word, from the parts that its group of operations gives.
+fn assembled(word: u32, wide: bool, op: u32, conditional: bool, o: Operands) -> Instruction
+    ensures { λ r. ⌜ r ≡ assembled (widthBy wide) word op conditional o ⌝ }
 {
-    let d = w % 8 + 24;
-    match op {
-        0 => registers(0, 0, 0),
-        1..=17 => registers(d, w / 8 % 8 + 24, d),
-        18..=28 => narrow_immediate(op, w),
-        29..=35 => narrow_move(op, w),
-        36..=47 => narrow_jump(op, w),
-        48..=57 => narrow_system(op, w),
-        _ => registers(0, 0, 0),
-    }
-}
-
-// The instruction of a word of either width.
-pub fn decode(word: u32, wide: bool) -> Instruction
-    ensures { λ r. ⌜ r ≡ decode (widthBy wide) word ⌝ }
-{
-    let op = opcode(word, wide);
     if wide {
-        let o = wide_operands(op, word);
         Instruction {
             opcode: op,
-            conditional: (word / 0x0200_0000 % 2 == 1) & is_conditional(op),
+            conditional: (word / 0x0200_0000 % 2 == 1) & conditional,
             creg: word / 0x0040_0000 % 8,
             condition: word / 0x0008_0000 % 8,
             dreg: o.dreg,
@@ -274,7 +272,6 @@ pub fn decode(word: u32, wide: bool) -> Instruction
             immediate: o.immediate,
         }
     } else {
-        let o = narrow_operands(op, word);
         Instruction {
             opcode: op,
             conditional: false,
@@ -285,6 +282,80 @@ pub fn decode(word: u32, wide: bool) -> Instruction
             sreg2: o.sreg2,
             immediate: o.immediate,
         }
+    }
+}
+
+// ---- decoding, a function for each group of operations; op is the number of the word's operation
+
+// Operations 1 to 17: add to sext.
+pub fn decode_registers(word: u32, wide: bool, op: u32) -> Instruction
+    requires { ⌜ (op ≡ opcodeOf (widthBy wide) word) × (1 ≤ op) × (op ≤ 17) ⌝ }
+    ensures { λ r. ⌜ r ≡ decode (widthBy wide) word ⌝ }
+{
+    if wide {
+        assembled(word, wide, op, is_conditional(op), wide_registers(op, word))
+    } else {
+        assembled(word, wide, op, is_conditional(op), narrow_registers(op, word))
+    }
+}
+
+// Operations 18 to 26: addi to sexti.
+pub fn decode_immediate(word: u32, wide: bool, op: u32) -> Instruction
+    requires { ⌜ (op ≡ opcodeOf (widthBy wide) word) × (18 ≤ op) × (op ≤ 26) ⌝ }
+    ensures { λ r. ⌜ r ≡ decode (widthBy wide) word ⌝ }
+{
+    if wide {
+        assembled(word, wide, op, is_conditional(op), wide_immediate(op, word))
+    } else {
+        assembled(word, wide, op, is_conditional(op), narrow_immediate(op, word))
+    }
+}
+
+// Operations 27 and 28: ld and st.
+pub fn decode_access(word: u32, wide: bool, op: u32) -> Instruction
+    requires { ⌜ (op ≡ opcodeOf (widthBy wide) word) × (27 ≤ op) × (op ≤ 28) ⌝ }
+    ensures { λ r. ⌜ r ≡ decode (widthBy wide) word ⌝ }
+{
+    if wide {
+        assembled(word, wide, op, is_conditional(op), wide_access(op, word))
+    } else {
+        assembled(word, wide, op, is_conditional(op), narrow_access(op, word))
+    }
+}
+
+// Operations 29 to 35: mov to lui.
+pub fn decode_move(word: u32, wide: bool, op: u32) -> Instruction
+    requires { ⌜ (op ≡ opcodeOf (widthBy wide) word) × (29 ≤ op) × (op ≤ 35) ⌝ }
+    ensures { λ r. ⌜ r ≡ decode (widthBy wide) word ⌝ }
+{
+    if wide {
+        assembled(word, wide, op, is_conditional(op), wide_move(op, word))
+    } else {
+        assembled(word, wide, op, is_conditional(op), narrow_move(op, word))
+    }
+}
+
+// Operations 36 to 47: jmp, jal, jmpr, jalr and the branches.
+pub fn decode_jump(word: u32, wide: bool, op: u32) -> Instruction
+    requires { ⌜ (op ≡ opcodeOf (widthBy wide) word) × (36 ≤ op) × (op ≤ 47) ⌝ }
+    ensures { λ r. ⌜ r ≡ decode (widthBy wide) word ⌝ }
+{
+    if wide {
+        assembled(word, wide, op, is_conditional(op), wide_jump(op, word))
+    } else {
+        assembled(word, wide, op, is_conditional(op), narrow_jump(op, word))
+    }
+}
+
+// Operations 48 to 57: scall to rcon.
+pub fn decode_system(word: u32, wide: bool, op: u32) -> Instruction
+    requires { ⌜ (op ≡ opcodeOf (widthBy wide) word) × (48 ≤ op) × (op ≤ 57) ⌝ }
+    ensures { λ r. ⌜ r ≡ decode (widthBy wide) word ⌝ }
+{
+    if wide {
+        assembled(word, wide, op, is_conditional(op), wide_system(op, word))
+    } else {
+        assembled(word, wide, op, is_conditional(op), narrow_system(op, word))
     }
 }
 

@@ -1,8 +1,10 @@
 -- The machine's state (002 section 2; 01 "Machine image"). Assumes nothing.
-use mathlib.Core.Bool.{Bool, true, false}
+use mathlib.Core.Bool.{Bool, true, false, _&&_}
 use mathlib.Core.List.{List}
 use Prim.Native.Nat.{ℕ, _+_, _*_, _%_}
 use lib.ListN.{getD, set}
+use lib.Dec.{eqb}
+use Rattle.word.specs.Choice.{if_then_else_}
 use Rattle.word.specs.Word.{bitAt, bitOf}
 use Rattle.isa.specs.Operation.{Width, widthBy}
 use Rattle.machine.specs.declared.Position.{Position}
@@ -72,6 +74,10 @@ psr m = getD (m .set2) PSR 0
 
 unfoldable pub withPsr : ℕ → Machine → Machine
 withPsr q m = withSet2 (set (m .set2) PSR q) m
+
+-- register n of a set replaced, but for PSR: "a write to PSR is ignored" (002 section 2.4)
+unfoldable pub written : (second : Bool) (n x : ℕ) → Machine → Machine
+written second n x m = if second && eqb n PSR then m else withRegister second n x m
 
 -- ---- the bits of PSR (002 section 2.4)
 

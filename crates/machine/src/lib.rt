@@ -6,7 +6,7 @@ ghost use mathlib.Core.List.{_∷_};
 ghost use Prim.Native.Nat.{_+_, _<_, _≤_};
 ghost use lib.ListN.{length, getD, set};
 ghost use Rattle.word.specs.Flags.{distinctBelow};
-ghost use Rattle.machine.specs.Machine.{psr, setBy, withRegister, withPsr, withConditions, withControl, withPosition};
+ghost use Rattle.machine.specs.Machine.{psr, setBy, withRegister, written, withPsr, withConditions, withControl, withPosition};
 ghost use Rattle.machine.specs.Control.{registerAt, controlAt, largest, keptBy, isWritable, storedControl, within, INT-SERV};
 ghost use Rattle.machine.specs.Stack.{popped, sourcesOf, serviceFlags, shownTop, showTop, withStack};
 ghost use Rattle.machine.specs.Words.{WORDS, startBy, machineOf};
@@ -130,6 +130,17 @@ pub fn set_register(w: &mut [u32], second: bool, n: u32, x: u32)
     ensures { λ _. ⌜ machineOf (now (w .exit)) ≡ withRegister second n x (machineOf (now (w .entry))) ⌝ }
 {
     w[place(second, n)] = x;
+}
+
+// Register n of the set that a bit of PSR names takes x; a write to PSR is ignored.
+pub fn write_register(w: &mut [u32], second: bool, n: u32, x: u32)
+    requires { ⌜ (length (now w) ≡ WORDS) × (n < 32) ⌝ }
+    ensures { λ _. ⌜ machineOf (now (w .exit)) ≡ written second n x (machineOf (now (w .entry))) ⌝ }
+{
+    let at = place(second, n);
+    if at != PSR {
+        w[at] = x;
+    }
 }
 
 // The program status register takes q.

@@ -10,10 +10,10 @@ use Rattle.machine.specs.Machine.{State}
 use Rattle.machine.specs.Control.{controlAt, INT-PEND}
 use Rattle.decide.specs.View.{view}
 use Rattle.decide.specs.Decide.{decide}
-use Rattle.decide.specs.declared.Effect.{Effect}
-use Rattle.decide.specs.declared.Effect.the-variants.{Stopped, Raised, Next, Result, ResultFlags, ResultProduct, Compare, Conditions, StoreControl, StoreCell, Jump, JumpLink, EnableInterrupts, SwitchWidth, SystemCall, InterruptReturn, UserReturn, SelectSets}
+use Rattle.decide.specs.Effect.{Effect}
+use Rattle.decide.specs.Effect.{Stopped, Raised, Next, Result, ResultFlags, ResultProduct, Compare, Conditions, StoreControl, StoreCell, Jump, JumpLink, EnableInterrupts, SwitchWidth, SystemCall, InterruptReturn, UserReturn, SelectSets}
 use Rattle.apply.specs.Apply.{Transition, machineOnly, storeCell, apply}
-use Rattle.apply.specs.declared.Kind.the-variants.{Interrupt}
+use Rattle.apply.specs.Kind.{Interrupt}
 use Rattle.step.specs.Interrupt.{withPending, withRequests, acceptedSource, accept}
 use Rattle.step.specs.Step.{isStop, interruptOr, step}
 use Rattle.step.proofs.Requests.{pending-back}

@@ -10,11 +10,10 @@ ghost use Rattle.machine.specs.Stack.{sourcesOf};
 ghost use Rattle.machine.specs.Words.{WORDS, machineOf};
 ghost use Rattle.image.specs.Questions.{wellFormed};
 ghost use Rattle.decide.specs.View.{viewOf};
-ghost use Rattle.apply.specs.Apply.{stateOf, transitionOf};
+ghost use Rattle.apply.specs.Apply.{stateOf, told, toldBy};
 ghost use Rattle.step.specs.Interrupt.{addRequests, priority, candidate, isMulhi, mayAccept, acceptedSource, servicePsr, entryFor, accept};
-ghost use Rattle.step.specs.Step.{isStop, step};
+ghost use Rattle.step.specs.Step.{step};
 ghost use Rattle.step.specs.Search.{sourceNumber, waiting, mostUrgent, serviceFloor};
-use apply::Kind;
 use decide::Fetched;
 use machine::Entry;
 use machine::Position;
@@ -138,10 +137,8 @@ fn may_accept(program: &[u8], w: &[u32]) -> bool
     requires { ⌜ length (now w) ≡ WORDS ⌝ }
     ensures { λ r. ⌜ ((cells : List ℕ) → r ≡ mayAccept (viewOf (now (program .entry)) (now (w .entry)) cells)) ⌝ }
 {
-    if word::has_flag(machine::psr(w), IE) {
-        if machine::slot(w) == 1 {
-            false
-        } else if machine::held(w) == 1 {
+    if word::has_flag(machine::psr(w), IE) & (machine::slot(w) != 1) {
+        if machine::held(w) == 1 {
             !next_is_mulhi(program, w)
         } else {
             true
@@ -221,36 +218,21 @@ fn accept(w: &mut [u32], n: u32)
 
 // ---- the step
 
-// Whether a transition is a stop.
-fn is_stop(k: Kind) -> bool
-    ensures { λ r. ⌜ r ≡ isStop k ⌝ }
-{
-    match k {
-        Kind::Ordinary => false,
-        Kind::Interrupt => false,
-        Kind::SystemCall => false,
-        Kind::InterruptReturn => false,
-        Kind::Exception(_) => false,
-        Kind::Stop(_) => true,
-    }
-}
-
-// One step with its requests; or a stop, which leaves everything as before it.
-pub fn step(program: &[u8], w: &mut [u32], cells: &mut [u32], requests: u32) -> Kind
+// One step with its requests, which gives 0; or a stop, which gives its number and leaves everything as before it.
+pub fn step(program: &[u8], w: &mut [u32], cells: &mut [u32], requests: u32) -> u32
     requires { ⌜ (length (now w) ≡ WORDS) × (length (now program) ≤ 65536) × (wellFormed (machineOf (now w)) ≡ true) ⌝ }
-    ensures { λ r. ⌜ transitionOf r (now (w .exit)) (now (cells .exit)) ≡ step (now (program .entry)) (stateOf (now (w .entry)) (now (cells .entry))) requests ⌝ }
+    ensures { λ r. ⌜ toldBy r (now (w .exit)) (now (cells .exit)) ≡ told (step (now (program .entry)) (stateOf (now (w .entry)) (now (cells .entry))) requests) ⌝ }
 {
     let pending = machine::control(w, INT_PEND);
     add_requests(w, requests);
     let n = accepted_source(program, w);
     if n < SOURCES {
         accept(w, n);
-        return Kind::Interrupt;
+        return 0;
     }
-    let e = decide::decide(program, w, cells);
-    let k = apply::apply(e, w, cells);
-    if is_stop(k) {
+    let stop = execute::execute(program, w, cells);
+    if stop != 0 {
         machine::set_control(w, INT_PEND, pending);
     }
-    k
+    stop
 }

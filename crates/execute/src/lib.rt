@@ -1,0 +1,213 @@
+// The next instruction, carried out in place: its number chooses a group of operations once; the group's function decodes the word, asks
+// the questions that its operations have, and does what the operation does.
+ghost use mathlib.Core.Path.{_≡_};
+ghost use mathlib.Core.List.{List};
+ghost use Prim.Native.Nat.{ℕ, _≤_, _<_};
+ghost use lib.ListN.{length};
+ghost use Rattle.word.specs.Word.{wordOf};
+ghost use Rattle.isa.specs.Operation.{operationOf, Properties, properties, unavailable, codeOf};
+ghost use Rattle.isa.specs.Decode.{opcodeOf};
+ghost use Rattle.machine.specs.Machine.{psr, userMode, wideWords, widthOf};
+ghost use Rattle.machine.specs.Words.{WORDS, machineOf};
+ghost use Rattle.decide.specs.View.{viewOf};
+ghost use Rattle.decide.specs.declared.Fetched.the-variants.{Word};
+ghost use Rattle.decide.specs.Decide.{fetchedThen, decide};
+ghost use Rattle.apply.specs.Apply.{StackShown, toldBy, effectOn};
+
+mod arithmetic;
+mod jump;
+mod memory;
+mod moves;
+mod system;
+
+use apply::next;
+use arithmetic::immediates;
+use arithmetic::registers;
+use decide::Fetched;
+use decide::condition_false;
+use decide::source;
+use isa::Instruction;
+use jump::jumps;
+use memory::access;
+use moves::moves;
+use system::system;
+
+// Bits of PSR (002 section 2.4): user mode, 32-bit words.
+const UM: u32 = 0;
+
+const IL: u32 = 3;
+
+// An instruction's immediate as a word.
+fn immediate_value(i: Instruction) -> u32
+    ensures { λ r. ⌜ r ≡ wordOf 32 (i .immediate) ⌝ }
+{
+    word::word(i.immediate)
+}
+
+// Whether words have 32 bits.
+fn wide_words(w: &[u32]) -> bool
+    requires { ⌜ length (now w) ≡ WORDS ⌝ }
+    ensures { λ r. ⌜ r ≡ wideWords (psr (machineOf (now (w .entry)))) ⌝ }
+{
+    word::has_flag(machine::psr(w), IL)
+}
+
+// The code of the exception where an operation may not be used, by the width and the mode; 0 where it may.
+fn unavailability(w: &[u32], op: u32) -> u32
+    requires { ⌜ length (now w) ≡ WORDS ⌝ }
+    ensures { λ r. ⌜ r ≡ codeOf (unavailable (properties (operationOf op) .availability) (widthOf (psr (machineOf (now (w .entry))))) (userMode (psr (machineOf (now (w .entry)))))) ⌝ }
+{
+    isa::unavailability(op, wide_words(w), word::has_flag(machine::psr(w), UM))
+}
+
+// Words of operations 1 to 17: add to sext.
+fn register_word(w: &mut [u32], word: u32, op: u32) -> u32
+    requires { ⌜ (length (now w) ≡ WORDS) × (op ≡ opcodeOf (widthOf (psr (machineOf (now w)))) word) × (1 ≤ op) × (op ≤ 17) ⌝ }
+    ensures { λ r. ⌜ ((p cells : List ℕ) → toldBy r (now (w .exit)) cells ≡ effectOn (fetchedThen (viewOf p (now (w .entry)) cells) (Word word)) (now (w .entry)) cells) ⌝ }
+{
+    let i = isa::decode_registers(word, wide_words(w), op);
+    if condition_false(w, i) {
+        next(w)
+    } else {
+        let x = source(w, i.sreg1);
+        let y = source(w, i.sreg2);
+        registers(w, i, x, y)
+    }
+}
+
+// Words of operations 18 to 26: addi to sexti.
+fn immediate_word(w: &mut [u32], word: u32, op: u32) -> u32
+    requires { ⌜ (length (now w) ≡ WORDS) × (op ≡ opcodeOf (widthOf (psr (machineOf (now w)))) word) × (18 ≤ op) × (op ≤ 26) ⌝ }
+    ensures { λ r. ⌜ ((p cells : List ℕ) → toldBy r (now (w .exit)) cells ≡ effectOn (fetchedThen (viewOf p (now (w .entry)) cells) (Word word)) (now (w .entry)) cells) ⌝ }
+{
+    let i = isa::decode_immediate(word, wide_words(w), op);
+    if condition_false(w, i) {
+        next(w)
+    } else {
+        let x = source(w, i.sreg1);
+        immediates(w, i, x)
+    }
+}
+
+// Words of operations 27 and 28: ld and st.
+fn access_word(w: &mut [u32], cells: &mut [u32], word: u32, op: u32) -> u32
+    requires { ⌜ (length (now w) ≡ WORDS) × (op ≡ opcodeOf (widthOf (psr (machineOf (now w)))) word) × (27 ≤ op) × (op ≤ 28) ⌝ }
+    ensures { λ r. ⌜ ((p : List ℕ) → toldBy r (now (w .exit)) (now (cells .exit)) ≡ effectOn (fetchedThen (viewOf p (now (w .entry)) (now (cells .entry))) (Word word)) (now (w .entry)) (now (cells .entry))) ⌝ }
+{
+    let i = isa::decode_access(word, wide_words(w), op);
+    if condition_false(w, i) {
+        next(w)
+    } else {
+        let x = source(w, i.sreg1);
+        access(w, cells, i, x)
+    }
+}
+
+// Words of operations 29 to 35: mov to lui. lli and lui are not there in 16-bit words.
+fn move_word(w: &mut [u32], word: u32, op: u32) -> u32
+    requires { ⌜ (length (now w) ≡ WORDS) × (op ≡ opcodeOf (widthOf (psr (machineOf (now w)))) word) × (29 ≤ op) × (op ≤ 35) ⌝ }
+    ensures { λ r. ⌜ ((p cells : List ℕ) → toldBy r (now (w .exit)) cells ≡ effectOn (fetchedThen (viewOf p (now (w .entry)) cells) (Word word)) (now (w .entry)) cells) ⌝ }
+{
+    let code = unavailability(w, op);
+    if code != 0 {
+        return apply::raise(w, code);
+    }
+    let i = isa::decode_move(word, wide_words(w), op);
+    if condition_false(w, i) {
+        next(w)
+    } else {
+        let x = source(w, i.sreg1);
+        let y = source(w, i.sreg2);
+        moves(w, i, x, y)
+    }
+}
+
+// Words of operations 36 to 47: jumps and branches, stop 13 in a slot.
+fn jump_word(w: &mut [u32], word: u32, op: u32) -> u32
+    requires { ⌜ (length (now w) ≡ WORDS) × (machineOf (now w) .position .pc < 65536) × (op ≡ opcodeOf (widthOf (psr (machineOf (now w)))) word) × (36 ≤ op) × (op ≤ 47) ⌝ }
+    ensures { λ r. ⌜ ((p cells : List ℕ) → toldBy r (now (w .exit)) cells ≡ effectOn (fetchedThen (viewOf p (now (w .entry)) cells) (Word word)) (now (w .entry)) cells) ⌝ }
+{
+    if machine::slot(w) == 1 {
+        return 13;
+    }
+    let i = isa::decode_jump(word, wide_words(w), op);
+    if condition_false(w, i) {
+        next(w)
+    } else {
+        let x = source(w, i.sreg1);
+        jumps(w, i, x)
+    }
+}
+
+// Words of operations 48 to 57: scall to rcon.
+fn system_word(w: &mut [u32], word: u32, op: u32) -> u32
+    requires { ⌜ (length (now w) ≡ WORDS) × StackShown (machineOf (now w)) × (op ≡ opcodeOf (widthOf (psr (machineOf (now w)))) word) × (48 ≤ op) × (op ≤ 57) ⌝ }
+    ensures { λ r. ⌜ ((p cells : List ℕ) → toldBy r (now (w .exit)) cells ≡ effectOn (fetchedThen (viewOf p (now (w .entry)) cells) (Word word)) (now (w .entry)) cells) ⌝ }
+{
+    let code = unavailability(w, op);
+    if code != 0 {
+        return apply::raise(w, code);
+    }
+    if isa::is_transfer(op) & (machine::slot(w) == 1) {
+        return 13;
+    }
+    let i = isa::decode_system(word, wide_words(w), op);
+    if condition_false(w, i) {
+        next(w)
+    } else {
+        let x = source(w, i.sreg1);
+        system(w, i, x)
+    }
+}
+
+// Words of operations 0 to 28: nop to st.
+fn low_word(w: &mut [u32], cells: &mut [u32], word: u32, op: u32) -> u32
+    requires { ⌜ (length (now w) ≡ WORDS) × (op ≡ opcodeOf (widthOf (psr (machineOf (now w)))) word) × (op < 29) ⌝ }
+    ensures { λ r. ⌜ ((p : List ℕ) → toldBy r (now (w .exit)) (now (cells .exit)) ≡ effectOn (fetchedThen (viewOf p (now (w .entry)) (now (cells .entry))) (Word word)) (now (w .entry)) (now (cells .entry))) ⌝ }
+{
+    match op {
+        0 => next(w),
+        1..=17 => register_word(w, word, op),
+        18..=26 => immediate_word(w, word, op),
+        _ => access_word(w, cells, word, op),
+    }
+}
+
+// Words of the other operations: mov to rcon, and those that are unknown.
+fn high_word(w: &mut [u32], word: u32, op: u32) -> u32
+    requires { ⌜ (length (now w) ≡ WORDS) × (machineOf (now w) .position .pc < 65536) × StackShown (machineOf (now w)) × (op ≡ opcodeOf (widthOf (psr (machineOf (now w)))) word) × (29 ≤ op) ⌝ }
+    ensures { λ r. ⌜ ((p cells : List ℕ) → toldBy r (now (w .exit)) cells ≡ effectOn (fetchedThen (viewOf p (now (w .entry)) cells) (Word word)) (now (w .entry)) cells) ⌝ }
+{
+    match op {
+        0..=35 => move_word(w, word, op),
+        36..=47 => jump_word(w, word, op),
+        48..=57 => system_word(w, word, op),
+        _ => apply::raise(w, 0x01),
+    }
+}
+
+// An instruction word, by the number of its operation, in two halves: in one chain of tests the compiler takes the last groups for rare.
+fn instruction(w: &mut [u32], cells: &mut [u32], word: u32) -> u32
+    requires { ⌜ (length (now w) ≡ WORDS) × (machineOf (now w) .position .pc < 65536) × StackShown (machineOf (now w)) ⌝ }
+    ensures { λ r. ⌜ ((p : List ℕ) → toldBy r (now (w .exit)) (now (cells .exit)) ≡ effectOn (fetchedThen (viewOf p (now (w .entry)) (now (cells .entry))) (Word word)) (now (w .entry)) (now (cells .entry))) ⌝ }
+{
+    let op = isa::opcode(word, wide_words(w));
+    if op < 29 {
+        low_word(w, cells, word, op)
+    } else {
+        high_word(w, word, op)
+    }
+}
+
+// The next instruction: 05h, 00h or stop 11, then the instruction word.
+pub fn execute(program: &[u8], w: &mut [u32], cells: &mut [u32]) -> u32
+    requires { ⌜ (length (now w) ≡ WORDS) × (length (now program) ≤ 65536) × StackShown (machineOf (now w)) ⌝ }
+    ensures { λ r. ⌜ toldBy r (now (w .exit)) (now (cells .exit)) ≡ effectOn (decide (viewOf (now (program .entry)) (now (w .entry)) (now (cells .entry)))) (now (w .entry)) (now (cells .entry)) ⌝ }
+{
+    let fetched = decide::fetch(program, w);
+    match fetched {
+        Fetched::Word(word) => instruction(w, cells, word),
+        Fetched::Fault(code) => apply::raise(w, code),
+        Fetched::Absent => 11,
+    }
+}
