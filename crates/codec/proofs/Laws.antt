@@ -7,7 +7,7 @@ use native.Mathlib.Numerals.{add-one, unary-clauses}
 use lib.ListN.{length, take, drop, getD, set, length-append, length-take, length-drop, List·getD-append}
 use lib.Seq.{sets-eq, take-at, drop-at, drop-drop, take-suc, take-append-seam, drop-append-seam, drop-append-add, getD-append-add, getD-drop, length-take-le, set-getD}
 use lib.Pow.{shr-shr}
-use Rattle.codec.specs.Number.{numberOf, numberAt, bytesOfNumber, numbersOf, bytesOf, stored, over}
+use Rattle.codec.specs.Number.{numberOf, numberAt, lowFirstAt, reversed, bytesOfNumber, numbersOf, bytesOf, stored, over}
 
 -- every element of a list is below a bound
 abbrev pub Below : (k : ℕ) (s : List ℕ) → Type 0
@@ -35,6 +35,19 @@ bytesOfNumber-numberOf a b c d ha hb hc hd =
     let e3 : numberOf a b c d / 256 % 256 ≡ c = omega arith in
     let e4 : numberOf a b c d % 256 ≡ d = omega arith in
     cc
+
+-- the bytes in the other order, and back
+pub reversed-numberOf : (a b c d : ℕ) → a < 256 → b < 256 → c < 256 → d < 256 → reversed (numberOf d c b a) ≡ numberOf a b c d
+reversed-numberOf a b c d ha hb hc hd =
+    let e1 : numberOf d c b a / 16777216 ≡ d = omega arith in
+    let e2 : numberOf d c b a / 65536 % 256 ≡ c = omega arith in
+    let e3 : numberOf d c b a / 256 % 256 ≡ b = omega arith in
+    let e4 : numberOf d c b a % 256 ≡ a = omega arith in
+    rw (e1, e2, e3, e4)
+
+-- bytes read low first and reversed are those read high first
+pub reversed-lowFirstAt : (s : List ℕ) (at : ℕ) → Below 256 s → reversed (lowFirstAt s at) ≡ numberAt s at
+reversed-lowFirstAt s at h = reversed-numberOf _ _ _ _ (h at) (h (at + 1)) (h (at + 2)) (h (at + 3))
 
 -- the number of four bytes has 32 bits
 pub numberAt-lt : (s : List ℕ) (at : ℕ) → Below 256 s → numberAt s at < 2 ^ 32
