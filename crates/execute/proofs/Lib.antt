@@ -1,2 +1,3 @@
--- Laws of the groups of operations.
+-- Laws of the groups of operations, and of instruction words by what their tests give.
 pub mod Groups
+pub mod Tests

@@ -1,58 +1,60 @@
+-- `execute::register_word` meets its contract: by the condition. Assumes nothing.
+use mathlib.Core.Path.{_≡_, sym, _∙_}
+use native.Mathlib.Omega.{arith}
+use denote.Ref.{now}
 use borrow.Author.Needs.{needs}
+use Rattle.machine.specs.Machine.{widthOf}
+use Rattle.execute.proofs.Tests.{Decoded, decoded, low-skipped, low-performed}
 use Rattle.execute.proofs.register_word.Statement.{statement}
 use Rattle.execute.proofs.register_word.Tie as tie
-use Rattle.execute.proofs.register_word.Reads as reads
-use Rattle.execute.proofs.register_word.Lts as lts
-use Rattle.apply.proofs.next.Reads as next-reads
-use Rattle.decide.proofs.condition_false.Reads as condition-false-reads
-use Rattle.decide.proofs.source.Reads as source-reads
-use Rattle.execute.proofs.arithmetic.registers.Reads as registers-reads
-use Rattle.execute.proofs.wide_words.Reads as wide-words-reads
-use Rattle.isa.proofs.decode_registers.Reads as decode-registers-reads
 
--- src/lib.rt:68:41
+abbrev entry : tie.After-decode-registers → tie.Start
+entry c = c .before .before .before .before
+
+given : (c : tie.After-decode-registers) → Decoded (now (entry c .args .w)) (entry c .args .word) (entry c .args .op) (c .decode-registers .result)
+given c = decoded _ _ _ _ _ (c .before .wide-words .ensures) (c .decode-registers .ensures) (entry c .pre .1)
+
 wide-words-requires : tie.Need-wide-words-requires
 wide-words-requires c κs = search needs
 
--- src/lib.rt:68:9
 decode-registers-requires : tie.Need-decode-registers-requires
-decode-registers-requires c κs = ?
+unfolding widthOf
+decode-registers-requires c κs = (rw (c .wide-words .ensures) (c .before .before .before .pre .1), search needs, search needs)
 
--- src/lib.rt:69:8
 condition-false-requires : tie.Need-condition-false-requires
-condition-false-requires c κs = ?
+condition-false-requires c κs = (search needs, given (c .before) .range .creg)
 
--- src/lib.rt:70:9
 next-requires : tie.Need-next-requires
 next-requires c κs = search needs
 
--- src/lib.rt:72:13
 source-requires : tie.Need-source-requires
-source-requires c κs = ?
+source-requires c κs = (search needs, given (c .before .before .before .before) .range .sreg1)
 
--- src/lib.rt:73:13
 source-requires-2 : tie.Need-source-requires-2
-source-requires-2 c κs = ?
+source-requires-2 c κs = (search needs, given (c .before .before .before .before .before .before) .range .sreg2)
 
--- src/lib.rt:74:9
 registers-requires : tie.Need-registers-requires
-registers-requires c κs = ?
+registers-requires c κs = let e = given (c .before .before .before .before .before .before .before .before) .number in (search needs, omega arith, omega arith)
 
--- src/lib.rt:64:1
 same-length : tie.Need-same-length
 same-length c = search needs
 
--- src/lib.rt:64:1
 returns : tie.Need-returns
-returns c = ?
+returns c p cells =
+    let tested = c .before .before .before .before .before in
+    c .before .before .next .ensures cells
+    ∙ sym (low-skipped p _ cells (given (tested .before .before)) (omega arith) (sym (tested .condition-false .ensures p cells) ∙ c .before .before .before .before .if1 .taken))
 
--- src/lib.rt:64:1
 same-length-2 : tie.Need-same-length-2
 same-length-2 c = search needs
 
--- src/lib.rt:64:1
 returns-2 : tie.Need-returns-2
-returns-2 c = ?
+returns-2 c p cells =
+    let read = c .before .before .before .before in
+    let left = read .before .before .before .before in
+    c .before .before .registers .ensures _ cells
+    ∙ sym (low-performed p _ cells (given (left .before .before .before)) (omega arith) (sym (left .before .condition-false .ensures p cells) ∙ left .if1 .left)
+      _ _ (read .before .before .source .ensures p cells) (read .source2 .ensures p cells))
 
 pub register-word-spec : {M : Type 1} → statement M
 register-word-spec =
