@@ -1,17 +1,16 @@
+-- `execute::immediate_value` meets its contract. Assumes nothing.
+use native.Mathlib.Omega.{arith}
 use borrow.Author.Needs.{needs}
+use Rattle.word.specs.Word.{wordOf}
+use Rattle.decide.proofs.Signed.{handed}
 use Rattle.execute.proofs.immediate_value.Statement.{statement}
 use Rattle.execute.proofs.immediate_value.Tie as tie
-use Rattle.execute.proofs.immediate_value.Reads as reads
-use Rattle.execute.proofs.immediate_value.Lts as lts
-use Rattle.word.proofs.word.Reads as word-reads
 
--- src/lib.rt:44:5
 word-requires : tie.Need-word-requires
 word-requires c κs = search needs
 
--- src/lib.rt:41:1
 returns : tie.Need-returns
-returns c = ?
+returns c = handed (wordOf 32) (record { sfits = omega arith }) (c .word .ensures)
 
 pub immediate-value-spec : {M : Type 1} → statement M
 immediate-value-spec = tie.close (tie.spec word-requires returns)
