@@ -1,14 +1,17 @@
 -- An instruction word carried out, by what the tests of its instruction give. Assumes nothing.
 use mathlib.Core.Path.{_≡_, refl, sym, ap, _∙_}
-use mathlib.Core.Bool.{Bool, true, false}
+use mathlib.Core.Bool.{Bool, true, false, _&&_}
 use mathlib.Core.List.{List}
 use Prim.Native.Nat.{ℕ, _<_}
 use native.Mathlib.Omega.{arith}
-use Rattle.isa.specs.Operation.{operationOf, widthBy}
+use lib.Dec.{eqb}
+use Rattle.isa.specs.Operation.{operationOf, widthBy, Properties, properties, unavailable, codeOf}
 use Rattle.isa.specs.Decode.{opcodeOf, assembled, decode}
+use Rattle.isa.specs.Computed.{instructions}
 use Rattle.isa.specs.declared.Instruction.{Instruction}
 use Rattle.isa.proofs.Decoded.{InRange, in-range}
-use Rattle.machine.specs.Machine.{psr, wideWords, widthOf}
+use Rattle.machine.specs.Machine.{Machine, psr, userMode, wideWords, widthOf}
+use Rattle.machine.specs.declared.Position.{Position}
 use Rattle.machine.specs.Words.{machineOf}
 use Rattle.decide.specs.View.{View, view, viewOf}
 use Rattle.decide.specs.Effect.{Effect, Stopped, Raised, Next}
@@ -36,6 +39,11 @@ decoded w word op wide i q e o =
       range = rw e (in-range (widthBy wide) word);
     }
 
+-- as the definition does
+pub decoded-word : (w : List ℕ) (word op : ℕ) → op ≡ opcodeOf (widthOf (psr (machineOf w))) word → Decoded w word op (decode (widthOf (psr (machineOf w))) word)
+unfolding widthOf
+decoded-word w word op o = decoded w word op (wideWords (psr (machineOf w))) (decode (widthOf (psr (machineOf w))) word) refl refl o
+
 module _ (p w cells : List ℕ) {word op : ℕ} {i : Instruction} (d : Decoded w word op i) where
   abbrev v : View
   v = viewOf p w cells
@@ -47,43 +55,67 @@ module _ (p w cells : List ℕ) {word op : ℕ} {i : Instruction} (d : Decoded w
   by : (e : Effect) → fetchedThen v (Word word) ≡ e → done ≡ effectOn e w cells
   by e = ap (λ (e : Effect). effectOn e w cells)
 
+  -- ---- its tests, by its number
+
+  -- the code of the exception where it may not be used, or 0
+  abbrev code-now : ℕ
+  code-now = codeOf (unavailable (properties (operationOf op) .availability) (widthOf (psr (machineOf w))) (userMode (psr (machineOf w))))
+
+  same-code : codeFor v i ≡ code-now
+  unfolding view
+  same-code = rw (d .number)
+
+  -- whether it is a control transfer in a slot
+  abbrev transfer-now : Bool
+  transfer-now = properties (operationOf op) .transfer && eqb (machineOf w .position .slot) 1
+
+  same-transfer : transferInSlot v i ≡ transfer-now
+  unfolding view
+  same-transfer = rw (d .number)
+
   -- it may not be used
-  pub word-barred : (code : ℕ) → code ≡ codeFor v i → (code ≡ 0 → ⊥) → done ≡ effectOn (Raised code) w cells
+  pub word-barred : (code : ℕ) → code ≡ code-now → (code ≡ 0 → ⊥) → done ≡ effectOn (Raised code) w cells
   unfolding view fetchedThen
-  word-barred code c n = by (Raised code) (rw (← (d .same)) (barred v i code c n))
+  word-barred code c n = by (Raised code) (rw (← (d .same)) (barred v i code (c ∙ sym same-code) n))
 
-  module _ (usable : codeFor v i ≡ 0) where
+  module _ (usable : code-now ≡ 0) where
     -- stop 13
-    pub word-in-slot : transferInSlot v i ≡ true → done ≡ effectOn (Stopped 13) w cells
+    pub word-in-slot : transfer-now ≡ true → done ≡ effectOn (Stopped 13) w cells
     unfolding view fetchedThen
-    word-in-slot t = by (Stopped 13) (rw (← (d .same)) (in-slot v i usable t))
+    word-in-slot t = by (Stopped 13) (rw (← (d .same)) (in-slot v i (same-code ∙ usable) (same-transfer ∙ t)))
 
-    module _ (t : transferInSlot v i ≡ false) where
+    module _ (t : transfer-now ≡ false) where
       -- its condition is false
       pub word-skipped : conditionFalse v i ≡ true → done ≡ effectOn Next w cells
       unfolding view fetchedThen
-      word-skipped c = by Next (rw (← (d .same)) (skipped v i usable t c))
+      word-skipped c = by Next (rw (← (d .same)) (skipped v i (same-code ∙ usable) (same-transfer ∙ t) c))
 
       -- its own effect, on its two sources
       pub word-performed : conditionFalse v i ≡ false → (x y : ℕ) → x ≡ v .source (i .sreg1) → y ≡ v .source (i .sreg2)
           → done ≡ effectOn (execute (operationOf (i .opcode)) v i x y) w cells
       unfolding view fetchedThen perform
-      word-performed c x y a b = by (execute (operationOf (i .opcode)) v i x y) (rw (← (d .same), a, b) (performed v i usable t c))
+      word-performed c x y a b = by (execute (operationOf (i .opcode)) v i x y) (rw (← (d .same), a, b) (performed v i (same-code ∙ usable) (same-transfer ∙ t) c))
 
   -- nop to cmpi: only the condition is asked
   module _ (h : op < 34) where
-    low : i .opcode < 34
-    low = let e = d .number in omega arith
-
-    low-usable : codeFor v i ≡ 0
-    low-usable = usable-low _ _ (i .opcode) low
-
-    low-stays : transferInSlot v i ≡ false
-    low-stays = let l = low in rw (no-transfer (i .opcode) (omega arith))
+    stays : transfer-now ≡ false
+    stays = rw (no-transfer op (omega arith))
 
     pub low-skipped : conditionFalse v i ≡ true → done ≡ effectOn Next w cells
-    low-skipped = word-skipped low-usable low-stays
+    low-skipped = word-skipped (usable-low _ _ op h) stays
 
     pub low-performed : conditionFalse v i ≡ false → (x y : ℕ) → x ≡ v .source (i .sreg1) → y ≡ v .source (i .sreg2)
         → done ≡ effectOn (execute (operationOf (i .opcode)) v i x y) w cells
-    low-performed = word-performed low-usable low-stays
+    low-performed = word-performed (usable-low _ _ op h) stays
+
+  -- nop: conditional or not, nothing but PC moves
+  pub word-nothing : op ≡ 0 → done ≡ effectOn Next w cells
+  unfolding instructions execute
+  word-nothing z = go (conditionFalse v i) refl
+    where
+      e : i .opcode ≡ 0
+      e = d .number ∙ z
+
+      go : (b : Bool) → conditionFalse v i ≡ b → done ≡ effectOn Next w cells
+      go true c = low-skipped (omega arith) c
+      go false c = low-performed (omega arith) c _ _ refl refl ∙ rw e

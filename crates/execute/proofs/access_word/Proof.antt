@@ -1,58 +1,64 @@
+-- `execute::access_word` meets its contract: by the condition. Assumes nothing.
+use mathlib.Core.Path.{_≡_, refl, sym, _∙_}
+use native.Mathlib.Omega.{arith}
+use denote.Ref.{now}
 use borrow.Author.Needs.{needs}
+use Rattle.machine.specs.Machine.{widthOf}
+use Rattle.execute.proofs.Tests.{Decoded, decoded, low-skipped, low-performed}
 use Rattle.execute.proofs.access_word.Statement.{statement}
 use Rattle.execute.proofs.access_word.Tie as tie
-use Rattle.execute.proofs.access_word.Reads as reads
-use Rattle.execute.proofs.access_word.Lts as lts
-use Rattle.apply.proofs.next.Reads as next-reads
-use Rattle.decide.proofs.condition_false.Reads as condition-false-reads
-use Rattle.decide.proofs.source.Reads as source-reads
-use Rattle.execute.proofs.memory.access.Reads as access-reads
-use Rattle.execute.proofs.wide_words.Reads as wide-words-reads
-use Rattle.isa.proofs.decode_access.Reads as decode-access-reads
 
--- src/lib.rt:97:38
+abbrev entry : tie.After-decode-access → tie.Start
+entry c = c .before .before .before .before .before
+
+given : (c : tie.After-decode-access) → Decoded (now (entry c .args .w)) (entry c .args .word) (entry c .args .op) (c .decode-access .result)
+given c = decoded _ _ _ _ _ (c .before .wide-words .ensures) (c .decode-access .ensures) (entry c .pre .1)
+
 wide-words-requires : tie.Need-wide-words-requires
 wide-words-requires c κs = search needs
 
--- src/lib.rt:97:9
 decode-access-requires : tie.Need-decode-access-requires
-decode-access-requires c κs = ?
+unfolding widthOf
+decode-access-requires c κs = (rw (c .wide-words .ensures) (c .before .before .before .before .pre .1), search needs, search needs)
 
--- src/lib.rt:98:8
 condition-false-requires : tie.Need-condition-false-requires
-condition-false-requires c κs = ?
+condition-false-requires c κs = (search needs, given (c .before) .range .creg)
 
--- src/lib.rt:99:9
 next-requires : tie.Need-next-requires
 next-requires c κs = search needs
 
--- src/lib.rt:101:13
 source-requires : tie.Need-source-requires
-source-requires c κs = ?
+source-requires c κs = (search needs, given (c .before .before .before .before) .range .sreg1)
 
--- src/lib.rt:102:9
 access-requires : tie.Need-access-requires
-access-requires c κs = ?
+access-requires c κs = let d = given (c .before .before .before .before .before .before .before) in let e = d .number in (search needs, d .range .dreg, omega arith, omega arith)
 
--- src/lib.rt:93:1
 same-length : tie.Need-same-length
 same-length c = search needs
 
--- src/lib.rt:93:1
 returns : tie.Need-returns
-returns c = ?
+returns c p =
+    let tested = c .before .before .before .before .before in
+    let d = tested .before .before in
+    let cells = now (entry d .args .cells) in
+    c .before .before .next .ensures cells
+    ∙ sym (low-skipped p _ cells (given d) (omega arith) (sym (tested .condition-false .ensures p cells) ∙ c .before .before .before .before .if1 .taken))
 
--- src/lib.rt:93:1
 same-length-2 : tie.Need-same-length-2
 same-length-2 c = search needs
 
--- src/lib.rt:93:1
 same-length-3 : tie.Need-same-length-3
 same-length-3 c = search needs
 
--- src/lib.rt:93:1
 returns-2 : tie.Need-returns-2
-returns-2 c = ?
+returns-2 c p =
+    let read = c .before .before .before .before .before .before .before in
+    let left = read .before .before in
+    let d = left .before .before .before in
+    let cells = now (entry d .args .cells) in
+    c .before .before .before .before .access .ensures p _
+    ∙ sym (low-performed p _ cells (given d) (omega arith) (sym (left .before .condition-false .ensures p cells) ∙ left .if1 .left)
+      _ _ (read .source .ensures p cells) refl)
 
 pub access-word-spec : {M : Type 1} → statement M
 access-word-spec =

@@ -1,54 +1,57 @@
+-- `execute::immediate_word` meets its contract: by the condition. Assumes nothing.
+use mathlib.Core.Path.{_≡_, refl, sym, _∙_}
+use native.Mathlib.Omega.{arith}
+use denote.Ref.{now}
 use borrow.Author.Needs.{needs}
+use Rattle.machine.specs.Machine.{widthOf}
+use Rattle.execute.proofs.Tests.{Decoded, decoded, low-skipped, low-performed}
 use Rattle.execute.proofs.immediate_word.Statement.{statement}
 use Rattle.execute.proofs.immediate_word.Tie as tie
-use Rattle.execute.proofs.immediate_word.Reads as reads
-use Rattle.execute.proofs.immediate_word.Lts as lts
-use Rattle.apply.proofs.next.Reads as next-reads
-use Rattle.decide.proofs.condition_false.Reads as condition-false-reads
-use Rattle.decide.proofs.source.Reads as source-reads
-use Rattle.execute.proofs.arithmetic.immediates.Reads as immediates-reads
-use Rattle.execute.proofs.wide_words.Reads as wide-words-reads
-use Rattle.isa.proofs.decode_immediate.Reads as decode-immediate-reads
 
--- src/lib.rt:83:41
+abbrev entry : tie.After-decode-immediate → tie.Start
+entry c = c .before .before .before .before
+
+given : (c : tie.After-decode-immediate) → Decoded (now (entry c .args .w)) (entry c .args .word) (entry c .args .op) (c .decode-immediate .result)
+given c = decoded _ _ _ _ _ (c .before .wide-words .ensures) (c .decode-immediate .ensures) (entry c .pre .1)
+
 wide-words-requires : tie.Need-wide-words-requires
 wide-words-requires c κs = search needs
 
--- src/lib.rt:83:9
 decode-immediate-requires : tie.Need-decode-immediate-requires
-decode-immediate-requires c κs = ?
+unfolding widthOf
+decode-immediate-requires c κs = (rw (c .wide-words .ensures) (c .before .before .before .pre .1), search needs, search needs)
 
--- src/lib.rt:84:8
 condition-false-requires : tie.Need-condition-false-requires
-condition-false-requires c κs = ?
+condition-false-requires c κs = (search needs, given (c .before) .range .creg)
 
--- src/lib.rt:85:9
 next-requires : tie.Need-next-requires
 next-requires c κs = search needs
 
--- src/lib.rt:87:13
 source-requires : tie.Need-source-requires
-source-requires c κs = ?
+source-requires c κs = (search needs, given (c .before .before .before .before) .range .sreg1)
 
--- src/lib.rt:88:9
 immediates-requires : tie.Need-immediates-requires
-immediates-requires c κs = ?
+immediates-requires c κs = let e = given (c .before .before .before .before .before .before) .number in (search needs, omega arith, omega arith)
 
--- src/lib.rt:79:1
 same-length : tie.Need-same-length
 same-length c = search needs
 
--- src/lib.rt:79:1
 returns : tie.Need-returns
-returns c = ?
+returns c p cells =
+    let tested = c .before .before .before .before .before in
+    c .before .before .next .ensures cells
+    ∙ sym (low-skipped p _ cells (given (tested .before .before)) (omega arith) (sym (tested .condition-false .ensures p cells) ∙ c .before .before .before .before .if1 .taken))
 
--- src/lib.rt:79:1
 same-length-2 : tie.Need-same-length-2
 same-length-2 c = search needs
 
--- src/lib.rt:79:1
 returns-2 : tie.Need-returns-2
-returns-2 c = ?
+returns-2 c p cells =
+    let read = c .before .before .before .before in
+    let left = read .before .before in
+    c .before .before .immediates .ensures _ _ cells
+    ∙ sym (low-performed p _ cells (given (left .before .before .before)) (omega arith) (sym (left .before .condition-false .ensures p cells) ∙ left .if1 .left)
+      _ _ (read .source .ensures p cells) refl)
 
 pub immediate-word-spec : {M : Type 1} → statement M
 immediate-word-spec =

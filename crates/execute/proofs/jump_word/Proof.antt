@@ -1,67 +1,92 @@
+-- `execute::jump_word` meets its contract: by the slot and the condition. Assumes nothing.
+use mathlib.Core.Path.{_≡_, refl, sym, _∙_}
+use mathlib.Core.Bool.{false, _&&_}
+use native.Mathlib.Omega.{arith}
+use lib.Dec.{eqb}
+use denote.Ref.{now}
 use borrow.Author.Needs.{needs}
+use borrow.Author.Tests.{ne-eqb}
+use Rattle.isa.specs.Operation.{operationOf, Properties, properties, unavailable, codeOf}
+use Rattle.machine.specs.Machine.{Machine, psr, userMode, widthOf}
+use Rattle.machine.specs.Words.{machineOf}
+use Rattle.machine.specs.declared.Position.{Position}
+use Rattle.apply.specs.Apply.{apply, stopNumber, told, effectOn}
+use Rattle.execute.proofs.Groups.{usable-jump, transfers}
+use Rattle.execute.proofs.Tests.{Decoded, decoded, decoded-word, word-in-slot, word-skipped, word-performed}
 use Rattle.execute.proofs.jump_word.Statement.{statement}
 use Rattle.execute.proofs.jump_word.Tie as tie
-use Rattle.execute.proofs.jump_word.Reads as reads
-use Rattle.execute.proofs.jump_word.Lts as lts
-use Rattle.apply.proofs.next.Reads as next-reads
-use Rattle.decide.proofs.condition_false.Reads as condition-false-reads
-use Rattle.decide.proofs.source.Reads as source-reads
-use Rattle.execute.proofs.jump.jumps.Reads as jumps-reads
-use Rattle.execute.proofs.wide_words.Reads as wide-words-reads
-use Rattle.isa.proofs.decode_jump.Reads as decode-jump-reads
-use Rattle.machine.proofs.slot.Reads as slot-reads
 
--- src/lib.rt:130:8
+abbrev entry : tie.After-decode-jump → tie.Start
+entry c = c .before .before .before .before .before .before .before
+
+given : (c : tie.After-decode-jump) → Decoded (now (entry c .args .w)) (entry c .args .word) (entry c .args .op) (c .decode-jump .result)
+given c = decoded _ _ _ _ _ (c .before .wide-words .ensures) (c .decode-jump .ensures) (entry c .pre .2)
+
+stays : (c : tie.After-decode-jump) → properties (operationOf (entry c .args .op)) .transfer && eqb (machineOf (now (entry c .args .w)) .position .slot) 1 ≡ false
+stays c =
+    let left = c .before .before .before in
+    rw (transfers (entry c .args .op) (omega arith) (omega arith), ← (left .before .slot .ensures)) (ne-eqb _ 1 (left .if1 .left))
+
+usable : (c : tie.After-decode-jump) → let m = machineOf (now (entry c .args .w)) in
+    codeOf (unavailable (properties (operationOf (entry c .args .op)) .availability) (widthOf (psr m)) (userMode (psr m))) ≡ 0
+usable c = usable-jump _ _ (entry c .args .op) (omega arith) (omega arith)
+
 slot-requires : tie.Need-slot-requires
 slot-requires c κs = search needs
 
--- src/lib.rt:131:9
 same-length : tie.Need-same-length
 same-length c = search needs
 
--- src/lib.rt:131:9
 returns : tie.Need-returns
-returns c = ?
+unfolding effectOn told stopNumber apply
+returns c p cells =
+    let s = c .before .before .before .before in
+    sym (word-in-slot p _ cells (decoded-word (now (s .args .w)) _ _ (s .pre .2)) (usable-jump _ _ (s .args .op) (omega arith) (omega arith))
+      (rw (transfers (s .args .op) (omega arith) (omega arith), ← (c .before .slot .ensures), c .if1 .taken)))
 
--- src/lib.rt:133:36
 wide-words-requires : tie.Need-wide-words-requires
 wide-words-requires c κs = search needs
 
--- src/lib.rt:133:9
 decode-jump-requires : tie.Need-decode-jump-requires
-decode-jump-requires c κs = ?
+unfolding widthOf
+decode-jump-requires c κs = (rw (c .wide-words .ensures) (c .before .before .before .before .before .before .pre .2), search needs, search needs)
 
--- src/lib.rt:134:8
 condition-false-requires : tie.Need-condition-false-requires
-condition-false-requires c κs = ?
+condition-false-requires c κs = (search needs, given (c .before) .range .creg)
 
--- src/lib.rt:135:9
 next-requires : tie.Need-next-requires
 next-requires c κs = search needs
 
--- src/lib.rt:137:13
 source-requires : tie.Need-source-requires
-source-requires c κs = ?
+source-requires c κs = (search needs, given (c .before .before .before .before) .range .sreg1)
 
--- src/lib.rt:138:9
 jumps-requires : tie.Need-jumps-requires
-jumps-requires c κs = ?
+jumps-requires c κs =
+    let d = given (c .before .before .before .before .before .before) in
+    let e = d .number in
+    (search needs, search needs, d .range .creg, omega arith, omega arith)
 
--- src/lib.rt:126:1
 same-length-2 : tie.Need-same-length-2
 same-length-2 c = search needs
 
--- src/lib.rt:126:1
 returns-2 : tie.Need-returns-2
-returns-2 c = ?
+returns-2 c p cells =
+    let tested = c .before .before .before .before .before in
+    let d = tested .before .before in
+    c .before .before .next .ensures cells
+    ∙ sym (word-skipped p _ cells (given d) (usable d) (stays d) (sym (tested .condition-false .ensures p cells) ∙ c .before .before .before .before .if2 .taken))
 
--- src/lib.rt:126:1
 same-length-3 : tie.Need-same-length-3
 same-length-3 c = search needs
 
--- src/lib.rt:126:1
 returns-3 : tie.Need-returns-3
-returns-3 c = ?
+returns-3 c p cells =
+    let read = c .before .before .before .before in
+    let left = read .before .before in
+    let d = left .before .before .before in
+    c .before .before .jumps .ensures p cells _
+    ∙ sym (word-performed p _ cells (given d) (usable d) (stays d) (sym (left .before .condition-false .ensures p cells) ∙ left .if2 .left)
+      _ _ (read .source .ensures p cells) refl)
 
 pub jump-word-spec : {M : Type 1} → statement M
 jump-word-spec =

@@ -1,76 +1,92 @@
+-- `execute::move_word` meets its contract: by whether it may be used, and the condition. Assumes nothing.
+use mathlib.Core.Path.{_≡_, sym, _∙_}
+use mathlib.Core.Bool.{false, _&&_}
+use native.Mathlib.Omega.{arith}
+use lib.Dec.{eqb}
+use denote.Ref.{now}
 use borrow.Author.Needs.{needs}
+use Rattle.isa.specs.Operation.{operationOf, Properties, properties}
+use Rattle.machine.specs.Machine.{Machine, widthOf}
+use Rattle.machine.specs.Words.{machineOf}
+use Rattle.machine.specs.declared.Position.{Position}
+use Rattle.execute.proofs.Groups.{no-transfer}
+use Rattle.execute.proofs.Tests.{Decoded, decoded, decoded-word, word-barred, word-skipped, word-performed}
 use Rattle.execute.proofs.move_word.Statement.{statement}
 use Rattle.execute.proofs.move_word.Tie as tie
-use Rattle.execute.proofs.move_word.Reads as reads
-use Rattle.execute.proofs.move_word.Lts as lts
-use Rattle.apply.proofs.next.Reads as next-reads
-use Rattle.apply.proofs.raise.Reads as raise-reads
-use Rattle.decide.proofs.condition_false.Reads as condition-false-reads
-use Rattle.decide.proofs.source.Reads as source-reads
-use Rattle.execute.proofs.moves.moves.Reads as moves-reads
-use Rattle.execute.proofs.unavailability.Reads as unavailability-reads
-use Rattle.execute.proofs.wide_words.Reads as wide-words-reads
-use Rattle.isa.proofs.decode_move.Reads as decode-move-reads
 
--- src/lib.rt:111:9
+abbrev entry : tie.After-decode-move → tie.Start
+entry c = c .before .before .before .before .before .before .before
+
+given : (c : tie.After-decode-move) → Decoded (now (entry c .args .w)) (entry c .args .word) (entry c .args .op) (c .decode-move .result)
+given c = decoded _ _ _ _ _ (c .before .wide-words .ensures) (c .decode-move .ensures) (entry c .pre .1)
+
+stays : (c : tie.After-decode-move) → properties (operationOf (entry c .args .op)) .transfer && eqb (machineOf (now (entry c .args .w)) .position .slot) 1 ≡ false
+stays c = rw (no-transfer (entry c .args .op) (omega arith))
+
 unavailability-requires : tie.Need-unavailability-requires
 unavailability-requires c κs = search needs
 
--- src/lib.rt:113:9
 raise-requires : tie.Need-raise-requires
 raise-requires c κs = search needs
 
--- src/lib.rt:113:9
 same-length : tie.Need-same-length
 same-length c = search needs
 
--- src/lib.rt:113:9
 returns : tie.Need-returns
-returns c = ?
+returns c p cells =
+    let told = c .before .before .before .before .before in
+    let s = told .before .before .before in
+    c .before .before .raise .ensures cells
+    ∙ sym (word-barred p _ cells (decoded-word (now (s .args .w)) _ _ (s .pre .1)) _ (told .unavailability .ensures) (c .before .before .before .before .if1 .taken))
 
--- src/lib.rt:115:36
 wide-words-requires : tie.Need-wide-words-requires
 wide-words-requires c κs = search needs
 
--- src/lib.rt:115:9
 decode-move-requires : tie.Need-decode-move-requires
-decode-move-requires c κs = ?
+unfolding widthOf
+decode-move-requires c κs = (rw (c .wide-words .ensures) (c .before .before .before .before .before .before .pre .1), search needs, search needs)
 
--- src/lib.rt:116:8
 condition-false-requires : tie.Need-condition-false-requires
-condition-false-requires c κs = ?
+condition-false-requires c κs = (search needs, given (c .before) .range .creg)
 
--- src/lib.rt:117:9
 next-requires : tie.Need-next-requires
 next-requires c κs = search needs
 
--- src/lib.rt:119:13
 source-requires : tie.Need-source-requires
-source-requires c κs = ?
+source-requires c κs = (search needs, given (c .before .before .before .before) .range .sreg1)
 
--- src/lib.rt:120:13
 source-requires-2 : tie.Need-source-requires-2
-source-requires-2 c κs = ?
+source-requires-2 c κs = (search needs, given (c .before .before .before .before .before .before) .range .sreg2)
 
--- src/lib.rt:121:9
 moves-requires : tie.Need-moves-requires
-moves-requires c κs = ?
+moves-requires c κs =
+    let d = given (c .before .before .before .before .before .before .before .before) in
+    let e = d .number in
+    (search needs, d .range .dreg, omega arith, omega arith)
 
--- src/lib.rt:107:1
 same-length-2 : tie.Need-same-length-2
 same-length-2 c = search needs
 
--- src/lib.rt:107:1
 returns-2 : tie.Need-returns-2
-returns-2 c = ?
+returns-2 c p cells =
+    let tested = c .before .before .before .before .before in
+    let d = tested .before .before in
+    let free = d .before .before .before in
+    c .before .before .next .ensures cells
+    ∙ sym (word-skipped p _ cells (given d) (sym (free .before .unavailability .ensures) ∙ free .if1 .left) (stays d) (sym (tested .condition-false .ensures p cells) ∙ c .before .before .before .before .if2 .taken))
 
--- src/lib.rt:107:1
 same-length-3 : tie.Need-same-length-3
 same-length-3 c = search needs
 
--- src/lib.rt:107:1
 returns-3 : tie.Need-returns-3
-returns-3 c = ?
+returns-3 c p cells =
+    let read = c .before .before .before .before in
+    let left = read .before .before .before .before in
+    let d = left .before .before .before in
+    let free = d .before .before .before in
+    c .before .before .moves .ensures p cells
+    ∙ sym (word-performed p _ cells (given d) (sym (free .before .unavailability .ensures) ∙ free .if1 .left) (stays d) (sym (left .before .condition-false .ensures p cells) ∙ left .if2 .left)
+      _ _ (read .before .before .source .ensures p cells) (read .source2 .ensures p cells))
 
 pub move-word-spec : {M : Type 1} → statement M
 move-word-spec =
