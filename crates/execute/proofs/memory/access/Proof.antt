@@ -1,143 +1,187 @@
+-- `execute::memory::access` meets its contract: by the place that base and immediate name. Assumes nothing.
+use mathlib.Core.Path.{_≡_, _∙_}
+use mathlib.Core.List.{List}
+use Prim.Native.Nat.{ℕ, _≤_}
+use native.Mathlib.Omega.{arith}
+use lib.IntN.{pos, _+ℤ_}
+use mir.Syntax.{w32, w64}
+use mir.Val.{toZ, ofZ}
+use denote.Ref.{now}
 use borrow.Author.Needs.{needs}
+use Rattle.word.proofs.Integers.{back}
+use Rattle.isa.specs.Operation.{operations, operationOf}
+use Rattle.machine.specs.Machine.{userMode}
+use Rattle.decide.specs.Execute.{loaded, stored, execute}
+use Rattle.decide.specs.View.{View, heldAt, view, viewOf}
+use Rattle.apply.specs.Apply.{apply, stopNumber, told, effectOn}
+use Rattle.execute.proofs.Groups.{access-refused, access-missing}
 use Rattle.execute.proofs.memory.access.Statement.{statement}
 use Rattle.execute.proofs.memory.access.Tie as tie
-use Rattle.execute.proofs.memory.access.Reads as reads
-use Rattle.execute.proofs.memory.access.Lts as lts
-use Rattle.apply.proofs.raise.Reads as raise-reads
-use Rattle.apply.proofs.result.Reads as result-reads
-use Rattle.apply.proofs.store_cell.Reads as store-cell-reads
-use Rattle.apply.proofs.store_control.Reads as store-control-reads
-use Rattle.decide.proofs.cell.Reads as cell-reads
-use Rattle.decide.proofs.place_at.Reads as place-reads
-use Rattle.decide.proofs.source.Reads as source-reads
-use Rattle.machine.proofs.control_at.Reads as control-at-reads
-use Rattle.machine.proofs.psr.Reads as psr-reads
-use Rattle.word.proofs.has_flag.Reads as has-flag-reads
-use Rattle.word.proofs.offset_by.Reads as offset-by-reads
 
--- src/memory.rt:25:9
+-- the address that base and immediate give
+address : (c : tie.After-offset-by)
+    → let a = c .before .before .before .before .args in toZ w64 (ofZ w64 (c .offset-by .result)) ≡ pos (a .x) +ℤ a .i .immediate
+address c =
+    rw (
+      back w64 (c .offset-by .result) (c .offset-by .ok),
+      c .offset-by .ensures,
+      back w32 (c .before .before .before .before .args .i .immediate) (omega arith),
+    )
+
+-- the place that it names
+named : (c : tie.After-place) (p : List ℕ)
+    → let a = c .before .before .before .before .before .before .before .before .before .args in
+    viewOf p (now (a .w)) (now (a .cells)) .place (pos (a .x) +ℤ a .i .immediate) ≡ c .place .result
+unfolding userMode view
+named c p =
+    let d = c .before .before in
+    rw (c .place .ensures, address (d .before .before .before), d .has-flag .ensures, d .before .psr .ensures)
+
+-- what is not ld is st
+store : {op : ℕ} → 27 ≤ op → op ≤ 28 → (op ≡ 27 → ⊥) → op ≡ 28
+store l h n = omega arith
+
 offset-by-requires : tie.Need-offset-by-requires
 offset-by-requires c κs = search needs
 
--- src/memory.rt:26:31
 psr-requires : tie.Need-psr-requires
 psr-requires c κs = search needs
 
--- src/memory.rt:26:9
 has-flag-requires : tie.Need-has-flag-requires
 has-flag-requires c κs = search needs
 
--- src/memory.rt:27:9
 place-requires : tie.Need-place-requires
 place-requires c κs = search needs
 
--- src/memory.rt:29:22
 enum-known-place : tie.Need-enum-known-place
 enum-known-place c = search needs
 
--- src/memory.rt:31:21
 control-at-requires : tie.Need-control-at-requires
 control-at-requires c κs = search needs
 
--- src/memory.rt:32:17
 result-requires : tie.Need-result-requires
 result-requires c κs = search needs
 
--- src/memory.rt:34:21
 source-requires : tie.Need-source-requires
 source-requires c κs = search needs
 
--- src/memory.rt:35:17
 store-control-requires : tie.Need-store-control-requires
 store-control-requires c κs = search needs
 
--- src/memory.rt:38:21
 enum-known-place-2 : tie.Need-enum-known-place-2
 enum-known-place-2 c = search needs
 
--- src/memory.rt:40:37
 cell-requires : tie.Need-cell-requires
 cell-requires c κs = search needs
 
--- src/memory.rt:40:17
 result-requires-2 : tie.Need-result-requires-2
 result-requires-2 c κs = search needs
 
--- src/memory.rt:42:21
 source-requires-2 : tie.Need-source-requires-2
 source-requires-2 c κs = search needs
 
--- src/memory.rt:43:17
 store-cell-requires : tie.Need-store-cell-requires
 store-cell-requires c κs = search needs
 
--- src/memory.rt:46:24
 enum-known-place-3 : tie.Need-enum-known-place-3
 enum-known-place-3 c = search needs
 
--- src/memory.rt:46:33
 raise-requires : tie.Need-raise-requires
 raise-requires c κs = search needs
 
--- src/memory.rt:47:27
 enum-told : tie.Need-enum-told
 enum-told c = search needs
 
--- src/memory.rt:19:1
 same-length : tie.Need-same-length
 same-length c = search needs
 
--- src/memory.rt:19:1
 returns : tie.Need-returns
-returns c = ?
+unfolding operations operationOf heldAt view loaded execute
+returns c p y =
+    let b = c .before .before in
+    let d = b .before .before in
+    let t = d .before .before in
+    let e = t .before .before in
+    rw (t .if1 .taken, named (e .before .before) p ∙ e .place2 .given .1, ← (d .control-at .ensures))
+    (b .result .ensures _)
 
--- src/memory.rt:19:1
 same-length-2 : tie.Need-same-length-2
 same-length-2 c = search needs
 
--- src/memory.rt:19:1
 returns-2 : tie.Need-returns-2
-returns-2 c = ?
+unfolding operations operationOf stored execute
+returns-2 c p y =
+    let b = c .before .before in
+    let d = b .before .before in
+    let t = d .before .before in
+    let e = t .before .before in
+    let s = e .before .before .before .before .before .before .before .before .before .before .before in
+    rw (
+      store (s .pre .2) (s .pre .3) (t .if1 .left),
+      named (e .before .before) p ∙ e .place2 .given .1,
+      ← (d .source .ensures p (now (s .args .cells))),
+    )
+    (b .store-control .ensures _)
 
--- src/memory.rt:19:1
 same-length-3 : tie.Need-same-length-3
 same-length-3 c = search needs
 
--- src/memory.rt:19:1
 same-length-4 : tie.Need-same-length-4
 same-length-4 c = search needs
 
--- src/memory.rt:19:1
 returns-3 : tie.Need-returns-3
-returns-3 c = ?
+unfolding operations operationOf heldAt view loaded execute
+returns-3 c p y =
+    let b = c .before .before in
+    let t = b .before .before .before .before in
+    let e = t .before .before in
+    rw (t .if2 .taken, named (e .before .before) p ∙ e .place3 .given .1, ← (b .before .cell .ensures))
+    (b .result2 .ensures _)
 
--- src/memory.rt:19:1
 same-length-5 : tie.Need-same-length-5
 same-length-5 c = search needs
 
--- src/memory.rt:19:1
 same-length-6 : tie.Need-same-length-6
 same-length-6 c = search needs
 
--- src/memory.rt:19:1
 returns-4 : tie.Need-returns-4
-returns-4 c = ?
+unfolding operations operationOf stored execute
+returns-4 c p y =
+    let b = c .before .before .before .before in
+    let d = b .before .before .before in
+    let t = d .before .before in
+    let e = t .before .before in
+    let s = e .before .before .before .before .before .before .before .before .before .before .before in
+    rw (
+      store (s .pre .2) (s .pre .3) (t .if2 .left),
+      named (e .before .before) p ∙ e .place3 .given .1,
+      ← (d .source2 .ensures p (now (s .args .cells))),
+    )
+    (b .store-cell .ensures)
 
--- src/memory.rt:19:1
 same-length-7 : tie.Need-same-length-7
 same-length-7 c = search needs
 
--- src/memory.rt:19:1
 returns-5 : tie.Need-returns-5
-returns-5 c = ?
+returns-5 c p y =
+    let b = c .before .before in
+    let e = b .before .before .before in
+    let s = e .before .before .before .before .before .before .before .before .before .before .before in
+    let a = s .args in
+    let here = named (e .before .before) p ∙ e .place4 .given .1 in
+    rw (access-refused (viewOf p (now (a .w)) (now (a .cells))) (a .i) (a .x) y (a .i .opcode) _ here (s .pre .2) (s .pre .3))
+    (b .raise .ensures _)
 
--- src/memory.rt:19:1
 same-length-8 : tie.Need-same-length-8
 same-length-8 c = search needs
 
--- src/memory.rt:19:1
 returns-6 : tie.Need-returns-6
-returns-6 c = ?
+unfolding apply stopNumber told effectOn
+returns-6 c p y =
+    let s = c .before .before .before .before .before .before .before .before .before .before .before in
+    let a = s .args in
+    let here = named (c .before .before) p ∙ c .enum-told .given .1 in
+    rw (access-missing (viewOf p (now (a .w)) (now (a .cells))) (a .i) (a .x) y (a .i .opcode) here (s .pre .2) (s .pre .3))
 
 pub access-spec : {M : Type 1} → statement M
 access-spec =

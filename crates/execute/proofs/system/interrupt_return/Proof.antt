@@ -1,36 +1,37 @@
+-- `execute::system::interrupt_return` meets its contract: by the depth. Assumes nothing.
+use mathlib.Core.Path.{sym, _∙_}
 use borrow.Author.Needs.{needs}
+use Rattle.word.specs.Choice.{if_then_else_}
+use Rattle.decide.specs.Execute.{execute}
+use Rattle.decide.specs.View.{view}
+use Rattle.decide.proofs.Values.{nested-none, nested-some}
+use Rattle.apply.specs.Apply.{apply, stopNumber, told, effectOn}
 use Rattle.execute.proofs.system.interrupt_return.Statement.{statement}
 use Rattle.execute.proofs.system.interrupt_return.Tie as tie
-use Rattle.execute.proofs.system.interrupt_return.Reads as reads
-use Rattle.execute.proofs.system.interrupt_return.Lts as lts
-use Rattle.apply.proofs.interrupt_return.Reads as interrupt-return-reads
-use Rattle.machine.proofs.depth.Reads as depth-reads
 
--- src/system.rt:33:8
 depth-requires : tie.Need-depth-requires
 depth-requires c κs = search needs
 
--- src/system.rt:36:9
 interrupt-return-requires : tie.Need-interrupt-return-requires
 interrupt-return-requires c κs = search needs
 
--- src/system.rt:29:1
 same-length : tie.Need-same-length
 same-length c = search needs
 
--- src/system.rt:29:1
 returns : tie.Need-returns
-returns c = ?
+unfolding if_then_else_ view execute apply stopNumber told effectOn
+returns c q cells x y = rw (nested-none _ (sym (c .before .depth .ensures) ∙ c .if1 .taken))
 
--- src/system.rt:29:1
 same-length-2 : tie.Need-same-length-2
 same-length-2 c = search needs
 
--- src/system.rt:29:1
 returns-2 : tie.Need-returns-2
-returns-2 c = ?
+unfolding if_then_else_ view execute
+returns-2 c q cells x y =
+    let b = c .before .before in
+    let d = b .before .before in
+    rw (nested-some _ (λ e. d .if1 .left (d .before .depth .ensures ∙ e))) (b .interrupt-return .ensures cells)
 
 pub interrupt-return-spec : {M : Type 1} → statement M
 interrupt-return-spec =
-    tie.close
-    (tie.spec depth-requires interrupt-return-requires same-length returns same-length-2 returns-2)
+    tie.close (tie.spec depth-requires interrupt-return-requires same-length returns same-length-2 returns-2)

@@ -1,58 +1,61 @@
+-- `execute::system::packed` meets its contract. The loop's invariant: x holds the condition registers from n on. Assumes nothing.
+use mathlib.Core.Path.{_≡_, sym}
+use Prim.Native.Nat.{suc, _+_, _-_, _*_, _%_, _^_, _≤_, _<_}
+use native.Mathlib.Omega.{arith}
+use lib.ListN.{drop, length-drop, drop-of-length-le}
+use denote.Ref.{now}
+use Rattle.machine.specs.Machine.{Machine}
+use Rattle.machine.specs.Words.{machineOf}
+use Rattle.decide.specs.Execute.{packed}
+use Rattle.decide.proofs.Values.{conditions-length, packed-below, packed-from}
 use Rattle.execute.proofs.system.packed.Statement.{statement}
 use Rattle.execute.proofs.system.packed.Tie as tie
-use Rattle.execute.proofs.system.packed.Reads as reads
-use Rattle.execute.proofs.system.packed.Lts as lts
-use Rattle.machine.proofs.condition.Reads as condition-reads
 
 abbrev Inv-loop : tie.InvT-loop
-Inv-loop w x₀ n₀ x n = ?
+Inv-loop w x₀ n₀ x n = (n ≤ 8) × ((x < 8 ^ 8) × (x ≡ packed (drop n (machineOf w .conditions))))
 
 abbrev μ-loop : tie.MeasureT-loop
-μ-loop w x₀ n₀ x n = ?
+μ-loop w x₀ n₀ x n = n
 
--- src/system.rt:21:5
 loop-holds : tie.Need-loop-holds Inv-loop μ-loop
-loop-holds c = ?
+unfolding packed
+loop-holds c =
+    let l = conditions-length (now (c .before .args .w)) (c .before .pre) in
+    (omega arith, (omega arith, rw (drop-of-length-le (machineOf (now (c .before .args .w)) .conditions) {i = 8} (omega arith))))
 
--- src/system.rt:22:9
 sub-n : tie.Need-sub-n Inv-loop μ-loop
-sub-n c = ?
+sub-n c = omega arith
 
--- src/system.rt:23:13
 condition-requires : tie.Need-condition-requires Inv-loop μ-loop
-condition-requires c κs = ?
+condition-requires c κs = omega arith
 
--- src/system.rt:23:44
 mul-x : tie.Need-mul-x Inv-loop μ-loop
-mul-x c = ?
+mul-x c = omega arith
 
--- src/system.rt:23:13
 add-x : tie.Need-add-x Inv-loop μ-loop
-add-x c = ?
+add-x c = omega arith
 
--- src/system.rt:21:5
 loop-less : tie.Need-loop-less Inv-loop μ-loop
-loop-less c = ?
+loop-less c = omega arith
 
--- src/system.rt:21:5
 loop-again : tie.Need-loop-again Inv-loop μ-loop
-loop-again c = ?
+loop-again c =
+    let w = now (c .before .before .before .before .args .w) in
+    let l = machineOf w .conditions in
+    let h = conditions-length w (c .before .before .before .before .pre) in
+    let n = c .before .before .loop .n in
+    let e : n ≡ suc (n - 1) = omega arith in
+    let rest = rw e at (c .before .before .loop .inv .1 .1) in
+    let more : c .condition .result % 8 + 8 * c .before .before .loop .x ≡ packed (drop (n - 1) l) =
+    rw (c .condition .ensures, rest) (sym (packed-from l (n - 1) (omega arith)))
+    in
+    (omega arith, (rw more (packed-below 8 (drop (n - 1) l) (simp length-drop (omega arith))), more))
 
--- src/system.rt:15:1
 returns : tie.Need-returns Inv-loop μ-loop
-returns c = ?
+returns c =
+    let i = c .before .loop .inv in
+    let z : c .before .loop .n ≡ 0 = omega arith in
+    rw z at (i .1 .1)
 
 pub packed-spec : {M : Type 1} → statement M
-packed-spec =
-    tie.close
-    (tie.spec
-    Inv-loop
-    μ-loop
-    loop-holds
-    sub-n
-    condition-requires
-    mul-x
-    add-x
-    loop-less
-    loop-again
-    returns)
+packed-spec = tie.close (tie.spec Inv-loop μ-loop loop-holds sub-n condition-requires mul-x add-x loop-less loop-again returns)
