@@ -10,7 +10,7 @@ use Rattle.word.specs.Choice.{if_then_else_}
 use Rattle.isa.specs.Operation.{operationOf, Width, w16, w32, unavailable, codeOf, Properties, properties}
 use Rattle.isa.specs.Computed.{instructions}
 use Rattle.isa.specs.declared.Instruction.{Instruction}
-use Rattle.isa.proofs.Table.{values, agree}
+use Rattle.isa.proofs.Table.{values, agree, unknown-from}
 use Rattle.decide.specs.View.{View}
 use Rattle.decide.specs.declared.Place.the-variants.{Refused, Missing}
 use Rattle.decide.specs.Effect.{Stopped, Raised, Next, Jump, JumpLink}
@@ -44,6 +44,11 @@ usable-jump width user = agree (codeAt width user) (λ n. 0) 36 12 (computed wid
     computed w16 false = refl
     computed w32 true = refl
     computed w32 false = refl
+
+-- from 58 on they are unknown, 01h
+pub unknown-code : (width : Width) (user : Bool) (n : ℕ) → 58 ≤ n → codeAt width user n ≡ 0x01
+unfolding instructions
+unknown-code width user n h = rw (unknown-from n h)
 
 -- nop to lui are no control transfers
 pub no-transfer : (n : ℕ) → n < 36 → properties (operationOf n) .transfer ≡ false

@@ -1,63 +1,84 @@
+-- `execute::execute` meets its contract: by what is fetched. Assumes nothing.
+use mathlib.Core.Path.{_≡_, sym, ap, _∙_}
+use native.Mathlib.Omega.{arith}
+use denote.Ref.{now}
 use borrow.Author.Needs.{needs}
+use Rattle.machine.specs.Machine.{psr, widthOf}
+use Rattle.machine.specs.Words.{machineOf}
+use Rattle.decide.specs.View.{View, view, viewOf}
+use Rattle.decide.specs.Effect.{Effect}
+use Rattle.decide.specs.Decide.{fetchedThen, decide}
+use Rattle.decide.specs.declared.Fetched.{Fetched}
+use Rattle.decide.proofs.Bytes.{bytes-positive, fetched-inside}
+use Rattle.apply.specs.Apply.{apply, stopNumber, told, effectOn}
 use Rattle.execute.proofs.execute.Statement.{statement}
 use Rattle.execute.proofs.execute.Tie as tie
-use Rattle.execute.proofs.execute.Reads as reads
-use Rattle.execute.proofs.execute.Lts as lts
-use Rattle.apply.proofs.raise.Reads as raise-reads
-use Rattle.decide.proofs.fetch.Reads as fetch-reads
-use Rattle.execute.proofs.instruction.Reads as instruction-reads
 
--- src/lib.rt:207:9
+abbrev entry : tie.After-fetch → tie.Start
+entry c = c .before .before .before .before .before
+
+-- what was fetched decides
+given : (c : tie.After-fetch) (f : Fetched) → c .fetch .result ≡ f
+    → let a = entry c .args in
+    let v = viewOf (now (a .program)) (now (a .w)) (now (a .cells)) in
+    effectOn (fetchedThen v f) (now (a .w)) (now (a .cells)) ≡ effectOn (decide v) (now (a .w)) (now (a .cells))
+unfolding decide
+given c f e =
+    let a = entry c .args in
+    let cells = now (a .cells) in
+    ap (λ (f : Fetched). effectOn (fetchedThen (viewOf (now (a .program)) (now (a .w)) cells) f) (now (a .w)) cells) (sym e ∙ c .fetch .ensures cells)
+
 fetch-requires : tie.Need-fetch-requires
 fetch-requires c κs = search needs
 
--- src/lib.rt:209:23
 enum-known-fetched : tie.Need-enum-known-fetched
 enum-known-fetched c = search needs
 
--- src/lib.rt:209:32
 instruction-requires : tie.Need-instruction-requires
-instruction-requires c κs = ?
+unfolding view
+instruction-requires c κs =
+    let f = c .before .before .before .before .before in
+    let a = entry f .args in
+    let n = bytes-positive (widthOf (psr (machineOf (now (a .w))))) in
+    let l = fetched-inside (now (a .program)) _ _ _ _ _ _ n (sym (f .fetch .ensures (now (a .cells))) ∙ c .before .before .before .fetched .given .1) in
+    let p = entry f .pre .1 in
+    (search needs, omega arith, entry f .pre .2)
 
--- src/lib.rt:210:24
 enum-known-fetched-2 : tie.Need-enum-known-fetched-2
 enum-known-fetched-2 c = search needs
 
--- src/lib.rt:210:33
 raise-requires : tie.Need-raise-requires
 raise-requires c κs = search needs
 
--- src/lib.rt:211:28
 enum-told : tie.Need-enum-told
 enum-told c = search needs
 
--- src/lib.rt:203:1
 same-length : tie.Need-same-length
 same-length c = search needs
 
--- src/lib.rt:203:1
 same-length-2 : tie.Need-same-length-2
 same-length-2 c = search needs
 
--- src/lib.rt:203:1
 returns : tie.Need-returns
-returns c = ?
+returns c =
+    let match = c .before .before .before .before .before .before .before .before .before in
+    c .before .before .before .before .instruction .ensures (now (entry (match .before) .args .program)) ∙ given (match .before) _ (c .before .before .before .before .before .before .before .before .fetched .given .1)
 
--- src/lib.rt:203:1
 same-length-3 : tie.Need-same-length-3
 same-length-3 c = search needs
 
--- src/lib.rt:203:1
 returns-2 : tie.Need-returns-2
-returns-2 c = ?
+unfolding fetchedThen
+returns-2 c =
+    let match = c .before .before .before .before .before .before in
+    c .before .before .raise .ensures (now (entry (match .before) .args .cells)) ∙ given (match .before) _ (c .before .before .before .before .before .fetched2 .given .1)
 
--- src/lib.rt:203:1
 same-length-4 : tie.Need-same-length-4
 same-length-4 c = search needs
 
--- src/lib.rt:203:1
 returns-3 : tie.Need-returns-3
-returns-3 c = ?
+unfolding fetchedThen effectOn told stopNumber apply
+returns-3 c = given (c .before .before) _ (c .enum-told .given .1)
 
 pub execute-spec : {M : Type 1} → statement M
 execute-spec =

@@ -1,59 +1,46 @@
+-- `execute::instruction` meets its contract: by the half that the number is in. Assumes nothing.
+use mathlib.Core.Path.{_≡_, _∙_}
+use denote.Ref.{now}
 use borrow.Author.Needs.{needs}
+use Rattle.isa.specs.Decode.{opcodeOf}
+use Rattle.machine.specs.Machine.{psr, widthOf}
+use Rattle.machine.specs.Words.{machineOf}
 use Rattle.execute.proofs.instruction.Statement.{statement}
 use Rattle.execute.proofs.instruction.Tie as tie
-use Rattle.execute.proofs.instruction.Reads as reads
-use Rattle.execute.proofs.instruction.Lts as lts
-use Rattle.execute.proofs.high_word.Reads as high-word-reads
-use Rattle.execute.proofs.low_word.Reads as low-word-reads
-use Rattle.execute.proofs.wide_words.Reads as wide-words-reads
-use Rattle.isa.proofs.opcode.Reads as opcode-reads
 
--- src/lib.rt:194:32
+abbrev entry : tie.After-opcode → tie.Start
+entry c = c .before .before .before .before .before
+
+number : (c : tie.After-opcode) → c .opcode .result ≡ opcodeOf (widthOf (psr (machineOf (now (entry c .args .w))))) (entry c .args .word)
+unfolding widthOf
+number c = c .opcode .ensures ∙ rw (c .before .wide-words .ensures)
+
 wide-words-requires : tie.Need-wide-words-requires
 wide-words-requires c κs = search needs
 
--- src/lib.rt:194:9
 opcode-requires : tie.Need-opcode-requires
 opcode-requires c κs = search needs
 
--- src/lib.rt:196:9
 low-word-requires : tie.Need-low-word-requires
-low-word-requires c κs = ?
+low-word-requires c κs = (search needs, number (c .before .before .before), search needs)
 
--- src/lib.rt:198:9
 high-word-requires : tie.Need-high-word-requires
-high-word-requires c κs = ?
+high-word-requires c κs = let o = c .before .before in (search needs, entry o .pre .1, entry o .pre .2, number o, search needs)
 
--- src/lib.rt:190:1
 same-length : tie.Need-same-length
 same-length c = search needs
 
--- src/lib.rt:190:1
 same-length-2 : tie.Need-same-length-2
 same-length-2 c = search needs
 
--- src/lib.rt:190:1
 returns : tie.Need-returns
 returns c = search needs
 
--- src/lib.rt:190:1
 same-length-3 : tie.Need-same-length-3
 same-length-3 c = search needs
 
--- src/lib.rt:190:1
 returns-2 : tie.Need-returns-2
-returns-2 c = ?
+returns-2 c p = let o = c .before .before .before .before .before in c .before .before .high-word .ensures p (now (entry o .args .cells))
 
 pub instruction-spec : {M : Type 1} → statement M
-instruction-spec =
-    tie.close
-    (tie.spec
-    wide-words-requires
-    opcode-requires
-    low-word-requires
-    high-word-requires
-    same-length
-    same-length-2
-    returns
-    same-length-3
-    returns-2)
+instruction-spec = tie.close (tie.spec wide-words-requires opcode-requires low-word-requires high-word-requires same-length same-length-2 returns same-length-3 returns-2)

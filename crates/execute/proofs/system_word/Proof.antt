@@ -1,90 +1,110 @@
+-- `execute::system_word` meets its contract: by whether it may be used, the slot and the condition. Assumes nothing.
+use mathlib.Core.Path.{_≡_, refl, sym, _∙_}
+use mathlib.Core.Bool.{false, _&&_}
+use lib.Dec.{eqb}
+use denote.Ref.{now}
 use borrow.Author.Needs.{needs}
+use Rattle.isa.specs.Operation.{operationOf, Properties, properties, unavailable, codeOf}
+use Rattle.machine.specs.Machine.{Machine, psr, userMode, widthOf}
+use Rattle.machine.specs.Words.{machineOf}
+use Rattle.machine.specs.declared.Position.{Position}
+use Rattle.apply.specs.Apply.{apply, stopNumber, told, effectOn}
+use Rattle.execute.proofs.Tests.{Decoded, decoded, decoded-word, word-barred, word-in-slot, word-skipped, word-performed}
 use Rattle.execute.proofs.system_word.Statement.{statement}
 use Rattle.execute.proofs.system_word.Tie as tie
-use Rattle.execute.proofs.system_word.Reads as reads
-use Rattle.execute.proofs.system_word.Lts as lts
-use Rattle.apply.proofs.next.Reads as next-reads
-use Rattle.apply.proofs.raise.Reads as raise-reads
-use Rattle.decide.proofs.condition_false.Reads as condition-false-reads
-use Rattle.decide.proofs.source.Reads as source-reads
-use Rattle.execute.proofs.system.system.Reads as system-reads
-use Rattle.execute.proofs.unavailability.Reads as unavailability-reads
-use Rattle.execute.proofs.wide_words.Reads as wide-words-reads
-use Rattle.isa.proofs.decode_system.Reads as decode-system-reads
-use Rattle.isa.proofs.is_transfer.Reads as is-transfer-reads
-use Rattle.machine.proofs.slot.Reads as slot-reads
 
--- src/lib.rt:147:9
+abbrev asked : tie.After-decode-system → tie.Else2
+asked c = c .before .before .before
+
+abbrev entry : tie.After-decode-system → tie.Start
+entry c = asked c .before .before .before .before .before .before .before .before
+
+given : (c : tie.After-decode-system) → Decoded (now (entry c .args .w)) (entry c .args .word) (entry c .args .op) (c .decode-system .result)
+given c = decoded _ _ _ _ _ (c .before .wide-words .ensures) (c .decode-system .ensures) (entry c .pre .2)
+
+usable : (c : tie.After-decode-system) → let m = machineOf (now (entry c .args .w)) in
+    codeOf (unavailable (properties (operationOf (entry c .args .op)) .availability) (widthOf (psr m)) (userMode (psr m))) ≡ 0
+usable c = let free = asked c .before .before .before .before in sym (free .before .unavailability .ensures) ∙ free .if1 .left
+
+stays : (c : tie.After-decode-system) → properties (operationOf (entry c .args .op)) .transfer && eqb (machineOf (now (entry c .args .w)) .position .slot) 1 ≡ false
+stays c = rw (← (asked c .before .before .before .is-transfer .ensures), ← (asked c .before .slot .ensures)) (asked c .if2 .left)
+
 unavailability-requires : tie.Need-unavailability-requires
 unavailability-requires c κs = search needs
 
--- src/lib.rt:149:9
 raise-requires : tie.Need-raise-requires
 raise-requires c κs = search needs
 
--- src/lib.rt:149:9
 same-length : tie.Need-same-length
 same-length c = search needs
 
--- src/lib.rt:149:9
 returns : tie.Need-returns
-returns c = ?
+returns c p cells =
+    let told = c .before .before .before .before .before in
+    let s = told .before .before .before in
+    c .before .before .raise .ensures cells
+    ∙ sym (word-barred p _ cells (decoded-word (now (s .args .w)) _ _ (s .pre .2)) _ (told .unavailability .ensures) (c .before .before .before .before .if1 .taken))
 
--- src/lib.rt:151:8
 is-transfer-requires : tie.Need-is-transfer-requires
 is-transfer-requires c κs = search needs
 
--- src/lib.rt:151:32
 slot-requires : tie.Need-slot-requires
 slot-requires c κs = search needs
 
--- src/lib.rt:152:9
 same-length-2 : tie.Need-same-length-2
 same-length-2 c = search needs
 
--- src/lib.rt:152:9
 returns-2 : tie.Need-returns-2
-returns-2 c = ?
+unfolding effectOn told stopNumber apply
+returns-2 c p cells =
+    let free = c .before .before .before .before in
+    let s = c .before .before .before .before .before .before .before .before in
+    sym (word-in-slot p _ cells (decoded-word (now (s .args .w)) _ _ (s .pre .2)) (sym (free .before .unavailability .ensures) ∙ free .if1 .left)
+      (rw (← (c .before .before .before .is-transfer .ensures), ← (c .before .slot .ensures)) (c .if2 .taken)))
 
--- src/lib.rt:154:38
 wide-words-requires : tie.Need-wide-words-requires
 wide-words-requires c κs = search needs
 
--- src/lib.rt:154:9
 decode-system-requires : tie.Need-decode-system-requires
-decode-system-requires c κs = ?
+unfolding widthOf
+decode-system-requires c κs = let s = c .before .before .before .before .before .before .before .before .before .before in (rw (c .wide-words .ensures) (s .pre .2), s .pre .3, s .pre .4)
 
--- src/lib.rt:155:8
 condition-false-requires : tie.Need-condition-false-requires
-condition-false-requires c κs = ?
+condition-false-requires c κs = (search needs, given (c .before) .range .creg)
 
--- src/lib.rt:156:9
 next-requires : tie.Need-next-requires
 next-requires c κs = search needs
 
--- src/lib.rt:158:13
 source-requires : tie.Need-source-requires
-source-requires c κs = ?
+source-requires c κs = (search needs, given (c .before .before .before .before) .range .sreg1)
 
--- src/lib.rt:159:9
 system-requires : tie.Need-system-requires
-system-requires c κs = ?
+system-requires c κs =
+    let d = c .before .before .before .before .before .before in
+    let s = entry d in
+    (search needs, s .pre .1, rw (given d .number) (s .pre .3), rw (given d .number) (s .pre .4))
 
--- src/lib.rt:143:1
 same-length-3 : tie.Need-same-length-3
 same-length-3 c = search needs
 
--- src/lib.rt:143:1
 returns-3 : tie.Need-returns-3
-returns-3 c = ?
+returns-3 c p cells =
+    let tested = c .before .before .before .before .before in
+    let d = tested .before .before in
+    c .before .before .next .ensures cells
+    ∙ sym (word-skipped p _ cells (given d) (usable d) (stays d) (sym (tested .condition-false .ensures p cells) ∙ c .before .before .before .before .if3 .taken))
 
--- src/lib.rt:143:1
 same-length-4 : tie.Need-same-length-4
 same-length-4 c = search needs
 
--- src/lib.rt:143:1
 returns-4 : tie.Need-returns-4
-returns-4 c = ?
+returns-4 c p cells =
+    let read = c .before .before .before .before in
+    let left = read .before .before in
+    let d = left .before .before .before in
+    c .before .before .system .ensures p cells _
+    ∙ sym (word-performed p _ cells (given d) (usable d) (stays d) (sym (left .before .condition-false .ensures p cells) ∙ left .if3 .left)
+      _ _ (read .source .ensures p cells) refl)
 
 pub system-word-spec : {M : Type 1} → statement M
 system-word-spec =
