@@ -1,7 +1,9 @@
 -- `execute::instruction` meets its contract: by the half that the number is in. Assumes nothing.
-use mathlib.Core.Path.{_≡_, _∙_}
+use mathlib.Core.Path.{_≡_, ap, _∙_}
+use mathlib.Core.Bool.{Bool}
 use denote.Ref.{now}
 use borrow.Author.Needs.{needs}
+use Rattle.isa.specs.Operation.{widthBy}
 use Rattle.isa.specs.Decode.{opcodeOf}
 use Rattle.machine.specs.Machine.{psr, widthOf}
 use Rattle.machine.specs.Words.{machineOf}
@@ -13,7 +15,7 @@ entry c = c .before .before .before .before .before
 
 number : (c : tie.After-opcode) → c .opcode .result ≡ opcodeOf (widthOf (psr (machineOf (now (entry c .args .w))))) (entry c .args .word)
 unfolding widthOf
-number c = c .opcode .ensures ∙ rw (c .before .wide-words .ensures)
+number c = c .opcode .ensures ∙ ap (λ (wide : Bool). opcodeOf (widthBy wide) (entry c .args .word)) (c .before .wide-words .ensures)
 
 wide-words-requires : tie.Need-wide-words-requires
 wide-words-requires c κs = search needs
