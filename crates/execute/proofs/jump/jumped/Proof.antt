@@ -28,7 +28,7 @@ address-is c = handed isAddress (c .before .before .before .before .before .befo
 -- past the first two tests only protection is asked
 aligned : (c : tie.After-closed) (p cells : List ℕ) (taken : ℕ → Effect)
     → jumped (viewOf p (now (c .before .before .before .before .before .before .before .before .before .before .before .before .args .w)) cells) (c .before .before .before .before .before .before .before .before .before .before .before .before .args .target) taken
-      ≡ if c .closed .result then Raised 0x09 else taken (c .before .before .before .before .before .before .low-word .result)
+    ≡ if c .closed .result then Raised 0x09 else taken (c .before .before .before .before .before .before .low-word .result)
 unfolding userMode wideWords widthOf if_then_else_ view jumped
 aligned c p cells taken =
     rw (
