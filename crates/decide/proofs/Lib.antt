@@ -2,7 +2,6 @@
 pub mod Ranges
 pub mod Bytes
 pub mod Bounds
-pub mod Groups
 pub mod Values
 pub mod Signed
 pub mod Order

@@ -1,134 +1,138 @@
+-- `execute::jump::jumped` meets its contract: test by test. Assumes nothing.
+use mathlib.Core.Path.{_≡_}
+use mathlib.Core.List.{List}
+use Prim.Native.Nat.{ℕ}
+use native.Mathlib.Omega.{arith}
+use denote.Ref.{now}
 use borrow.Author.Needs.{needs}
+use borrow.Author.Tests.{eq-eqb, ne-eqb}
+use Rattle.word.specs.Choice.{if_then_else_}
+use Rattle.word.specs.Word.{wordOf, isAddress}
+use Rattle.isa.specs.Operation.{widthBy}
+use Rattle.machine.specs.Machine.{userMode, wideWords, widthOf}
+use Rattle.decide.specs.View.{view, viewOf}
+use Rattle.decide.specs.Effect.{Effect, Raised}
+use Rattle.decide.specs.Execute.{jumped}
+use Rattle.decide.proofs.Signed.{handed}
+use Rattle.decide.proofs.Bytes.{bytes-positive, aligned-fits}
 use Rattle.execute.proofs.jump.jumped.Statement.{statement}
 use Rattle.execute.proofs.jump.jumped.Tie as tie
-use Rattle.execute.proofs.jump.jumped.Reads as reads
-use Rattle.execute.proofs.jump.jumped.Lts as lts
-use Rattle.apply.proofs.jump.Reads as jump-reads
-use Rattle.apply.proofs.jump_link.Reads as jump-link-reads
-use Rattle.apply.proofs.raise.Reads as raise-reads
-use Rattle.decide.proofs.closed.Reads as closed-reads
-use Rattle.decide.proofs.word_bytes.Reads as word-bytes-reads
-use Rattle.machine.proofs.psr.Reads as psr-reads
-use Rattle.word.proofs.has_flag.Reads as has-flag-reads
-use Rattle.word.proofs.is_address.Reads as is-address-reads
-use Rattle.word.proofs.low_word.Reads as low-word-reads
 
--- src/jump.rt:23:9
+-- the target's low word, and whether it has 32 bits
+word-is : (c : tie.After-low-word) → c .low-word .result ≡ wordOf 32 (c .before .before .before .before .before .before .args .target)
+word-is c = handed (wordOf 32) (c .before .before .before .before .before .before .fits .target) (c .low-word .ensures)
+
+address-is : (c : tie.After-is-address) → c .is-address .result ≡ isAddress (c .before .before .before .before .before .before .before .args .target)
+address-is c = handed isAddress (c .before .before .before .before .before .before .before .fits .target) (c .is-address .ensures)
+
+-- past the first two tests only protection is asked
+aligned : (c : tie.After-closed) (p cells : List ℕ) (taken : ℕ → Effect)
+    → jumped (viewOf p (now (c .before .before .before .before .before .before .before .before .before .before .before .before .args .w)) cells) (c .before .before .before .before .before .before .before .before .before .before .before .before .args .target) taken
+    ≡ if c .closed .result then Raised 0x09 else taken (c .before .before .before .before .before .before .low-word .result)
+unfolding userMode wideWords widthOf if_then_else_ view jumped
+aligned c p cells taken =
+    rw (
+      ← (address-is (c .before .before .before .before .before)),
+      ← (word-is (c .before .before .before .before .before .before)),
+      ← (c .before .before .before .before .before .before .before .before .before .psr .ensures),
+      ← (c .before .before .before .before .before .before .before .before .has-flag .ensures),
+      ← (c .before .before .before .before .before .before .before .word-bytes .ensures),
+      ← (c .before .has-flag2 .ensures),
+      ← (c .closed .ensures),
+      c .before .before .before .before .if1 .left,
+      eq-eqb _ _ (c .before .before .before .if2 .left),
+    )
+
 psr-requires : tie.Need-psr-requires
 psr-requires c κs = search needs
 
--- src/jump.rt:24:32
 has-flag-requires : tie.Need-has-flag-requires
 has-flag-requires c κs = search needs
 
--- src/jump.rt:24:9
 word-bytes-requires : tie.Need-word-bytes-requires
 word-bytes-requires c κs = search needs
 
--- src/jump.rt:25:9
 low-word-requires : tie.Need-low-word-requires
 low-word-requires c κs = search needs
 
--- src/jump.rt:26:9
 is-address-requires : tie.Need-is-address-requires
 is-address-requires c κs = search needs
 
--- src/jump.rt:27:9
 raise-requires : tie.Need-raise-requires
 raise-requires c κs = search needs
 
--- src/jump.rt:28:15
 rem-if2 : tie.Need-rem-if2
-rem-if2 c = ?
+rem-if2 c = rw (c .before .before .before .word-bytes .ensures) (bytes-positive (widthBy (c .before .before .before .before .has-flag .result)))
 
--- src/jump.rt:29:9
 raise-requires-2 : tie.Need-raise-requires-2
 raise-requires-2 c κs = search needs
 
--- src/jump.rt:30:33
 has-flag-requires-2 : tie.Need-has-flag-requires-2
 has-flag-requires-2 c κs = search needs
 
--- src/jump.rt:30:15
 closed-requires : tie.Need-closed-requires
-closed-requires c κs = ?
+closed-requires c κs =
+    let wide = c .before .before .before .before .before .before .before .has-flag .result in
+    let bytes = c .before .before .before .before .before .before .word-bytes in
+    (search needs, rw (bytes .ensures) (bytes-positive (widthBy wide)), aligned-fits (widthBy wide) _ _ (bytes .ensures) (omega arith) (c .before .before .if2 .left))
 
--- src/jump.rt:31:9
 raise-requires-3 : tie.Need-raise-requires-3
 raise-requires-3 c κs = search needs
 
--- src/jump.rt:33:9
 jump-link-requires : tie.Need-jump-link-requires
 jump-link-requires c κs = search needs
 
--- src/jump.rt:35:9
 jump-requires : tie.Need-jump-requires
 jump-requires c κs = search needs
 
--- src/jump.rt:19:1
 same-length : tie.Need-same-length
 same-length c = search needs
 
--- src/jump.rt:19:1
 returns : tie.Need-returns
-returns c = ?
+unfolding if_then_else_ jumped
+returns c p cells = rw (← (address-is (c .before .before .before .before .before)), c .before .before .before .before .if1 .taken) (c .before .before .raise .ensures cells)
 
--- src/jump.rt:19:1
 same-length-2 : tie.Need-same-length-2
 same-length-2 c = search needs
 
--- src/jump.rt:19:1
 returns-2 : tie.Need-returns-2
-returns-2 c = ?
+unfolding wideWords widthOf if_then_else_ view jumped
+returns-2 c p cells =
+    rw (
+      ← (address-is (c .before .before .before .before .before .before)),
+      ← (word-is (c .before .before .before .before .before .before .before)),
+      ← (c .before .before .before .before .before .before .before .before .before .before .psr .ensures),
+      ← (c .before .before .before .before .before .before .before .before .before .has-flag .ensures),
+      ← (c .before .before .before .before .before .before .before .before .word-bytes .ensures),
+      c .before .before .before .before .before .if1 .left,
+      ne-eqb _ _ (c .before .before .before .before .if2 .taken),
+    )
+    (c .before .before .raise2 .ensures cells)
 
--- src/jump.rt:19:1
 same-length-3 : tie.Need-same-length-3
 same-length-3 c = search needs
 
--- src/jump.rt:19:1
 returns-3 : tie.Need-returns-3
-returns-3 c = ?
+unfolding if_then_else_
+returns-3 c p cells = rw (aligned (c .before .before .before .before .before) p cells _, c .before .before .before .before .if3 .taken) (c .before .before .raise3 .ensures cells)
 
--- src/jump.rt:19:1
 same-length-4 : tie.Need-same-length-4
 same-length-4 c = search needs
 
--- src/jump.rt:19:1
 returns-4 : tie.Need-returns-4
-returns-4 c = ?
+unfolding if_then_else_
+returns-4 c p cells =
+    rw (aligned (c .before .before .before .before .before .before) p cells _, c .before .before .before .before .before .if3 .left, c .before .before .before .before .if4 .taken)
+    (c .before .before .jump-link .ensures cells)
 
--- src/jump.rt:19:1
 same-length-5 : tie.Need-same-length-5
 same-length-5 c = search needs
 
--- src/jump.rt:19:1
 returns-5 : tie.Need-returns-5
-returns-5 c = ?
+unfolding if_then_else_
+returns-5 c p cells =
+    rw (aligned (c .before .before .before .before .before .before) p cells _, c .before .before .before .before .before .if3 .left, c .before .before .before .before .if4 .left)
+    (c .before .before .jump .ensures cells)
 
 pub jumped-spec : {M : Type 1} → statement M
-jumped-spec =
-    tie.close
-    (tie.spec
-    psr-requires
-    has-flag-requires
-    word-bytes-requires
-    low-word-requires
-    is-address-requires
-    raise-requires
-    rem-if2
-    raise-requires-2
-    has-flag-requires-2
-    closed-requires
-    raise-requires-3
-    jump-link-requires
-    jump-requires
-    same-length
-    returns
-    same-length-2
-    returns-2
-    same-length-3
-    returns-3
-    same-length-4
-    returns-4
-    same-length-5
-    returns-5)
+jumped-spec = tie.close (tie.spec psr-requires has-flag-requires word-bytes-requires low-word-requires is-address-requires raise-requires rem-if2 raise-requires-2 has-flag-requires-2 closed-requires raise-requires-3 jump-link-requires jump-requires same-length returns same-length-2 returns-2 same-length-3 returns-3 same-length-4 returns-4 same-length-5 returns-5)

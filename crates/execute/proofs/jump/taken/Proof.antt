@@ -1,26 +1,25 @@
+-- `execute::jump::taken` meets its contract: by the test. Assumes nothing.
 use borrow.Author.Needs.{needs}
+use borrow.Author.Tests.{le-leb, lt-leb}
+use Rattle.word.specs.Choice.{if_then_else_}
+use Rattle.decide.specs.View.{view}
+use Rattle.execute.specs.Jumps.{taken}
 use Rattle.execute.proofs.jump.taken.Statement.{statement}
 use Rattle.execute.proofs.jump.taken.Tie as tie
-use Rattle.execute.proofs.jump.taken.Reads as reads
-use Rattle.execute.proofs.jump.taken.Lts as lts
-use Rattle.isa.proofs.holds.Reads as holds-reads
-use Rattle.machine.proofs.condition.Reads as condition-reads
 
--- src/jump.rt:46:29
 condition-requires : tie.Need-condition-requires
 condition-requires c κs = search needs
 
--- src/jump.rt:46:9
 holds-requires : tie.Need-holds-requires
 holds-requires c κs = search needs
 
--- src/jump.rt:40:1
 returns : tie.Need-returns
-returns c = ?
+unfolding if_then_else_ view taken
+returns c p cells = rw (le-leb 40 _ (c .before .before .if1 .taken), ← (c .before .condition .ensures)) (c .holds .ensures)
 
--- src/jump.rt:40:1
 returns-2 : tie.Need-returns-2
-returns-2 c = ?
+unfolding if_then_else_ taken
+returns-2 c p cells = rw (lt-leb 40 _ (c .if1 .left))
 
 pub taken-spec : {M : Type 1} → statement M
 taken-spec = tie.close (tie.spec condition-requires holds-requires returns returns-2)

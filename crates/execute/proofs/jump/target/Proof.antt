@@ -1,60 +1,54 @@
+-- `execute::jump::target` meets its contract: by the test; the slot's address fits. Assumes nothing.
+use native.Mathlib.Omega.{arith}
+use mir.Facts.{toZ-pos}
+use mir.Syntax.{w32, w64}
 use borrow.Author.Needs.{needs}
+use Rattle.word.specs.Choice.{if_then_else_}
+use Rattle.word.proofs.Integers.{back}
+use Rattle.isa.specs.Operation.{widthBy}
+use Rattle.machine.specs.Machine.{wideWords, widthOf}
+use Rattle.decide.specs.Execute.{afterThis, targetBy}
+use Rattle.decide.specs.View.{view}
+use Rattle.decide.proofs.Bytes.{bytes-most}
+use Rattle.execute.specs.Jumps.{targetOf}
 use Rattle.execute.proofs.jump.target.Statement.{statement}
 use Rattle.execute.proofs.jump.target.Tie as tie
-use Rattle.execute.proofs.jump.target.Reads as reads
-use Rattle.execute.proofs.jump.target.Lts as lts
-use Rattle.decide.proofs.word_bytes.Reads as word-bytes-reads
-use Rattle.machine.proofs.pc.Reads as pc-reads
-use Rattle.machine.proofs.psr.Reads as psr-reads
-use Rattle.word.proofs.has_flag.Reads as has-flag-reads
-use Rattle.word.proofs.jump_target.Reads as jump-target-reads
 
--- src/jump.rt:59:9
 cast-result : tie.Need-cast-result
 cast-result c = search needs
 
--- src/jump.rt:61:51
 psr-requires : tie.Need-psr-requires
 psr-requires c κs = search needs
 
--- src/jump.rt:61:36
 has-flag-requires : tie.Need-has-flag-requires
 has-flag-requires c κs = search needs
 
--- src/jump.rt:61:13
 word-bytes-requires : tie.Need-word-bytes-requires
 word-bytes-requires c κs = search needs
 
--- src/jump.rt:62:27
 pc-requires : tie.Need-pc-requires
 pc-requires c κs = search needs
 
--- src/jump.rt:62:27
 add-jump-target : tie.Need-add-jump-target
-add-jump-target c = ?
+add-jump-target c = omega (arith, c .pc .ensures, c .before .word-bytes .ensures, bytes-most (widthBy (c .before .before .has-flag .result)))
 
--- src/jump.rt:62:9
 jump-target-requires : tie.Need-jump-target-requires
 jump-target-requires c κs = search needs
 
--- src/jump.rt:53:1
 returns : tie.Need-returns
-returns c = ?
+unfolding if_then_else_ targetOf
+returns c p cells = rw (c .if1 .taken) (toZ-pos w64 (omega arith))
 
--- src/jump.rt:53:1
 returns-2 : tie.Need-returns-2
-returns-2 c = ?
+unfolding if_then_else_ wideWords widthOf view afterThis targetBy targetOf
+returns-2 c p cells =
+    rw (
+      c .before .before .before .before .before .before .if1 .left,
+      back w64 (c .jump-target .result) (c .jump-target .ok),
+      c .jump-target .ensures,
+      back w32 (c .before .before .before .before .before .before .before .before .args .i .immediate) (omega arith),
+    )
+    (simp (c .before .before .pc .ensures, c .before .before .before .word-bytes .ensures, c .before .before .before .before .has-flag .ensures, c .before .before .before .before .before .psr .ensures))
 
 pub target-spec : {M : Type 1} → statement M
-target-spec =
-    tie.close
-    (tie.spec
-    cast-result
-    psr-requires
-    has-flag-requires
-    word-bytes-requires
-    pc-requires
-    add-jump-target
-    jump-target-requires
-    returns
-    returns-2)
+target-spec = tie.close (tie.spec cast-result psr-requires has-flag-requires word-bytes-requires pc-requires add-jump-target jump-target-requires returns returns-2)
