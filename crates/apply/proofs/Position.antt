@@ -24,6 +24,7 @@ next-by : (m k : Machine) → k .position ≡ m .position → psr k ≡ psr m �
 unfolding nextPc wordsOn
 next-by m k p q = λ i. if_then_else_ (eqb (p i .slot) 1) (p i .target) ((p i .pc + 1 * bytesOf (widthOf (q i))) % 2 ^ 32)
 
+-- no write changes it
 pub next-written : (m : Machine) (d x : ℕ) → nextPc (writeRegister d x m) ≡ nextPc m
 next-written m d x = next-by m (writeRegister d x m) (write-position m d x) (write-psr m d x)
 

@@ -1,44 +1,52 @@
--- A register written: the set that RSWR names, and PSR, which stays. Assumes nothing.
-use mathlib.Core.Path.{_≡_, refl, sym, _∙_}
+-- A register written: in the set that RSWR names, and never PSR. Assumes nothing.
+use mathlib.Core.Path.{_≡_, refl, sym, ap, _∙_}
 use mathlib.Core.Bool.{Bool, true, false}
-use Prim.Native.Nat.{ℕ, _%_, _^_, _<_}
-use native.Mathlib.Nat.{mod-eq-of-lt}
+use Prim.Native.Nat.{ℕ, _%_, _^_}
 use lib.ListN.{set}
 use lib.Seq.{getD-set-other}
 use lib.Dec.{eqb}
 use borrow.Author.Tests.{eqb-false}
 use Rattle.word.specs.Choice.{if_then_else_}
 use Rattle.machine.specs.Machine.{Machine, PSR, psr, writesSet2, withSet1, withSet2, withRegister, written}
-use Rattle.machine.specs.declared.Position.{Position}
 use Rattle.apply.specs.Apply.{writeRegister}
 
--- a word written in the set that RSWR names
-pub write-by : (m : Machine) (d x : ℕ) → x < 2 ^ 32 → written (writesSet2 (psr m)) (d % 32) x m ≡ writeRegister d x m
-unfolding writeRegister written withRegister if_then_else_
-write-by m d x h = rw (mod-eq-of-lt h) (go (writesSet2 (psr m)))
-  where
-    go : (second : Bool) → written second (d % 32) x m ≡ if_then_else_ second (if_then_else_ (eqb (d % 32) PSR) m (withSet2 (set (m .set2) (d % 32) x) m)) (withSet1 (set (m .set1) (d % 32) x) m)
-    go true = refl
-    go false = refl
+module _ (m : Machine) (n x : ℕ) where
+  -- both sets by one test
+  written-by : (second : Bool)
+      → if_then_else_ second (if_then_else_ (eqb n PSR) m (withSet2 (set (m .set2) n x) m)) (withSet1 (set (m .set1) n x) m) ≡ written second n x m
+  unfolding written withRegister if_then_else_
+  written-by true = refl
+  written-by false = refl
 
--- a write leaves PSR and the position
-module _ (m : Machine) (d x : ℕ) where
-  pub write-psr : psr (writeRegister d x m) ≡ psr m
-  unfolding writeRegister if_then_else_ psr withSet1 withSet2
-  write-psr = go (writesSet2 (psr m)) (eqb (d % 32) PSR) refl
+  -- PSR stays
+  psr-kept : (second : Bool) → psr (written second n x m) ≡ psr m
+  unfolding written withRegister if_then_else_ psr withSet1 withSet2
+  psr-kept false = refl
+  psr-kept true = go (eqb n PSR) refl
     where
-      go : (second status : Bool) → eqb (d % 32) PSR ≡ status
-          → psr (if_then_else_ second (if_then_else_ status m (withSet2 (set (m .set2) (d % 32) (x % 2 ^ 32)) m)) (withSet1 (set (m .set1) (d % 32) (x % 2 ^ 32)) m)) ≡ psr m
-      go true true e = refl
-      go true false e = getD-set-other (m .set2) (d % 32) PSR (x % 2 ^ 32) 0 (λ q. eqb-false (d % 32) PSR e (sym q))
-      go false status e = refl
+      go : (status : Bool) → eqb n PSR ≡ status → psr (if_then_else_ status m (withRegister true n x m)) ≡ psr m
+      go true e = refl
+      go false e = getD-set-other (m .set2) n PSR x 0 (λ q. eqb-false n PSR e (sym q))
+
+  -- and so does the position
+  position-kept : (second : Bool) → written second n x m .position ≡ m .position
+  unfolding written withRegister if_then_else_ withSet1 withSet2
+  position-kept false = refl
+  position-kept true = go (eqb n PSR)
+    where
+      go : (status : Bool) → if_then_else_ status m (withRegister true n x m) .position ≡ m .position
+      go true = refl
+      go false = refl
+
+module _ (m : Machine) (d x : ℕ) where
+  -- a write by RSWR
+  pub write-by : writeRegister d x m ≡ written (writesSet2 (psr m)) (d % 32) (x % 2 ^ 32) m
+  unfolding writeRegister
+  write-by = written-by m (d % 32) (x % 2 ^ 32) (writesSet2 (psr m))
+
+  -- it leaves PSR and the position
+  pub write-psr : psr (writeRegister d x m) ≡ psr m
+  write-psr = ap psr write-by ∙ psr-kept m (d % 32) (x % 2 ^ 32) (writesSet2 (psr m))
 
   pub write-position : writeRegister d x m .position ≡ m .position
-  unfolding writeRegister if_then_else_ withSet1 withSet2
-  write-position = go (writesSet2 (psr m)) (eqb (d % 32) PSR)
-    where
-      go : (second status : Bool)
-          → if_then_else_ second (if_then_else_ status m (withSet2 (set (m .set2) (d % 32) (x % 2 ^ 32)) m)) (withSet1 (set (m .set1) (d % 32) (x % 2 ^ 32)) m) .position ≡ m .position
-      go true true = refl
-      go true false = refl
-      go false status = refl
+  write-position = ap (λ (k : Machine). k .position) write-by ∙ position-kept m (d % 32) (x % 2 ^ 32) (writesSet2 (psr m))

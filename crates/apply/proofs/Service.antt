@@ -4,28 +4,23 @@ use mathlib.Core.Bool.{true}
 use mathlib.Core.List.{List, [], _∷_}
 use Prim.Native.Nat.{ℕ, _≤_}
 use native.Mathlib.Omega.{arith}
-use lib.ListN.{length, getD, set}
+use lib.ListN.{length, getD}
 use lib.Seq.{set-getD}
 use Rattle.word.specs.Flags.{distinctBelow}
 use Rattle.machine.specs.Machine.{Machine}
 use Rattle.machine.specs.Control.{controlAt, INT-SERV, RETI-ADDR, RETI-PSR, RETI-CR0}
 use Rattle.machine.specs.Stack.{popped, sourcesOf, serviceFlags, shownTop, showStack, withStack}
-use Rattle.machine.specs.Words.{CONTROL, WORDS, machineOf}
+use Rattle.machine.specs.Words.{WORDS, machineOf}
 use Rattle.machine.specs.declared.Entry.{Entry}
-use Rattle.machine.proofs.Flat.{section-length}
+use Rattle.machine.proofs.Flat.{control-length}
 use Rattle.machine.proofs.Stack.{shown-flags}
 use Rattle.apply.specs.Apply.{StackShown}
-
--- the control block's count of registers
-control-count : (w : List ℕ) → length w ≡ WORDS → length (machineOf w .control) ≡ 45
-unfolding machineOf
-control-count w h = section-length w CONTROL 45 (omega arith)
 
 -- INT_SERV has the flags of the sources in service
 pub shown-served : (w : List ℕ) → length w ≡ WORDS → StackShown (machineOf w) → controlAt (machineOf w) INT-SERV ≡ serviceFlags (machineOf w .stack)
 shown-served w h s =
     let m = machineOf w in
-    ap (λ l. getD l INT-SERV 0) (sym (s .shown)) ∙ shown-flags (m .stack) (m .control) (control-count w h)
+    ap (λ l. getD l INT-SERV 0) (sym (s .shown)) ∙ shown-flags (m .stack) (m .control) (control-length w h)
 
 popped-none : (es : List Entry) → length es ≤ 0 → popped es ≡ es
 unfolding popped

@@ -6,13 +6,7 @@ use native.Mathlib.Omega.{arith}
 use native.Mathlib.Nat.{div-div-eq-div-mul}
 use lib.ListN.{length, set, drop-of-length-le}
 use lib.Seq.{sets-eq}
-use Rattle.machine.specs.Words.{CONDITIONS, WORDS, machineOf}
-use Rattle.machine.proofs.Flat.{section-length}
 use Rattle.apply.specs.Apply.{unpacked}
-
-pub conditions-count : (w : List ℕ) → length w ≡ WORDS → length (machineOf w .conditions) ≡ 8
-unfolding machineOf
-conditions-count w h = section-length w CONDITIONS 8 (omega arith)
 
 -- eight stores leave nothing of a list of eight
 all-stored : (l : List ℕ) (a b c d e f g h : ℕ) → length l ≡ 8

@@ -1,6 +1,7 @@
 -- `apply::enable_interrupts` meets its contract. Assumes nothing.
 use Rattle.machine.specs.Machine.{wideWords}
-use Rattle.apply.specs.Apply.{enableInterrupts, machineOnly, apply, stopNumber, told, effectOn}
+use Rattle.apply.specs.Apply.{enableInterrupts}
+use Rattle.apply.proofs.Told.{tells}
 use borrow.Author.Needs.{needs}
 use Rattle.apply.proofs.enable_interrupts.Statement.{statement}
 use Rattle.apply.proofs.enable_interrupts.Tie as tie
@@ -24,7 +25,7 @@ same-length : tie.Need-same-length
 same-length c = search needs
 
 returns : tie.Need-returns
-unfolding enableInterrupts wideWords machineOnly apply stopNumber told effectOn
+unfolding enableInterrupts wideWords tells
 returns c cells =
     let c1 = c .before .before in
     let c2 = c1 .before in

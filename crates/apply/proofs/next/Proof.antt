@@ -1,5 +1,5 @@
 -- `apply::next` meets its contract. Assumes nothing.
-use Rattle.apply.specs.Apply.{machineOnly, apply, stopNumber, told, effectOn}
+use Rattle.apply.proofs.Told.{tells}
 use borrow.Author.Needs.{needs}
 use Rattle.apply.proofs.next.Statement.{statement}
 use Rattle.apply.proofs.next.Tie as tie
@@ -11,7 +11,7 @@ same-length : tie.Need-same-length
 same-length c = search needs
 
 returns : tie.Need-returns
-unfolding machineOnly apply stopNumber told effectOn
+unfolding tells
 returns c cells = rw (c .before .before .advance .ensures)
 
 pub next-spec : {M : Type 1} → statement M

@@ -1,6 +1,7 @@
 -- `apply::raise` meets its contract: store by store. Assumes nothing.
 use Rattle.machine.specs.Machine.{withControl}
-use Rattle.apply.specs.Apply.{raise, machineOnly, apply, stopNumber, told, effectOn}
+use Rattle.apply.specs.Apply.{raise}
+use Rattle.apply.proofs.Told.{tells}
 use borrow.Author.Needs.{needs}
 use Rattle.apply.proofs.raise.Statement.{statement}
 use Rattle.apply.proofs.raise.Tie as tie
@@ -33,7 +34,7 @@ same-length : tie.Need-same-length
 same-length c = search needs
 
 returns : tie.Need-returns
-unfolding raise withControl machineOnly apply stopNumber told effectOn
+unfolding raise withControl tells
 returns c cells =
     let c1 = c .before .before in
     let c2 = c1 .before .before .before .before in

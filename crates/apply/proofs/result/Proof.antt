@@ -1,6 +1,7 @@
 -- `apply::result` meets its contract: the write leaves where control goes on. Assumes nothing.
 use Rattle.machine.specs.Words.{machineOf}
-use Rattle.apply.specs.Apply.{advance, machineOnly, apply, stopNumber, told, effectOn}
+use Rattle.apply.specs.Apply.{advance}
+use Rattle.apply.proofs.Told.{tells}
 use Rattle.apply.proofs.Position.{next-written}
 use borrow.Author.Needs.{needs}
 use Rattle.apply.proofs.result.Statement.{statement}
@@ -19,7 +20,7 @@ same-length : tie.Need-same-length
 same-length c = search needs
 
 returns : tie.Need-returns
-unfolding advance machineOnly apply stopNumber told effectOn
+unfolding advance tells
 returns c cells =
     let c1 = c .before .before in
     let c2 = c1 .before .before .before .before in

@@ -1,6 +1,7 @@
 -- `apply::result_flags` meets its contract: the writes leave where control goes on. Assumes nothing.
 use Rattle.machine.specs.Words.{machineOf}
-use Rattle.apply.specs.Apply.{writeRegister, advance, machineOnly, apply, stopNumber, told, effectOn}
+use Rattle.apply.specs.Apply.{writeRegister, advance}
+use Rattle.apply.proofs.Told.{tells}
 use Rattle.apply.proofs.Position.{next-written, next-flags}
 use borrow.Author.Needs.{needs}
 use Rattle.apply.proofs.result_flags.Statement.{statement}
@@ -22,7 +23,7 @@ same-length : tie.Need-same-length
 same-length c = search needs
 
 returns : tie.Need-returns
-unfolding advance machineOnly apply stopNumber told effectOn
+unfolding advance tells
 returns c cells =
     let c1 = c .before .before in
     let c2 = c1 .before .before .before .before in

@@ -1,5 +1,6 @@
 -- `apply::select_sets` meets its contract. Assumes nothing.
-use Rattle.apply.specs.Apply.{selectSets, machineOnly, apply, stopNumber, told, effectOn}
+use Rattle.apply.specs.Apply.{selectSets}
+use Rattle.apply.proofs.Told.{tells}
 use borrow.Author.Needs.{needs}
 use Rattle.apply.proofs.select_sets.Statement.{statement}
 use Rattle.apply.proofs.select_sets.Tie as tie
@@ -29,7 +30,7 @@ same-length : tie.Need-same-length
 same-length c = search needs
 
 returns : tie.Need-returns
-unfolding selectSets machineOnly apply stopNumber told effectOn
+unfolding selectSets tells
 returns c cells =
     let c1 = c .before .before in
     let c2 = c1 .before .before .before .before in

@@ -1,5 +1,5 @@
 -- `apply::store_cell` meets its contract. Assumes nothing.
-use Rattle.apply.specs.Apply.{storeCell, apply, stopNumber, told, effectOn}
+use Rattle.apply.proofs.Told.{tells}
 use borrow.Author.Needs.{needs}
 use Rattle.apply.proofs.store_cell.Statement.{statement}
 use Rattle.apply.proofs.store_cell.Tie as tie
@@ -17,7 +17,7 @@ same-length-2 : tie.Need-same-length-2
 same-length-2 c = search needs
 
 returns : tie.Need-returns
-unfolding storeCell apply stopNumber told effectOn
+unfolding tells
 returns c =
     let c1 = c .before .before in
     let c2 = c1 .before .before .before .before in

@@ -1,6 +1,7 @@
 -- `apply::system_call` meets its contract: store by store. Assumes nothing.
 use Rattle.machine.specs.Machine.{withSet2, withRegister}
-use Rattle.apply.specs.Apply.{systemCall, machineOnly, apply, stopNumber, told, effectOn}
+use Rattle.apply.specs.Apply.{systemCall}
+use Rattle.apply.proofs.Told.{tells}
 use borrow.Author.Needs.{needs}
 use Rattle.apply.proofs.system_call.Statement.{statement}
 use Rattle.apply.proofs.system_call.Tie as tie
@@ -30,7 +31,7 @@ same-length : tie.Need-same-length
 same-length c = search needs
 
 returns : tie.Need-returns
-unfolding systemCall withRegister withSet2 machineOnly apply stopNumber told effectOn
+unfolding systemCall withRegister withSet2 tells
 returns c cells =
     let c1 = c .before .before in
     let c2 = c1 .before .before .before .before in

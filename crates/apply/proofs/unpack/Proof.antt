@@ -1,7 +1,8 @@
 -- `apply::unpack` meets its contract: eight stores fill the eight condition registers. Assumes nothing.
 use Rattle.machine.specs.Machine.{withConditions}
 use Rattle.machine.specs.Words.{machineOf}
-use Rattle.apply.proofs.Unpacked.{conditions-count, all-unpacked}
+use Rattle.machine.proofs.Flat.{conditions-length}
+use Rattle.apply.proofs.Unpacked.{all-unpacked}
 use borrow.Author.Needs.{needs}
 use Rattle.apply.proofs.unpack.Statement.{statement}
 use Rattle.apply.proofs.unpack.Tie as tie
@@ -55,7 +56,7 @@ returns c =
       c6 .set-condition3 .ensures,
       c7 .set-condition2 .ensures,
       c8 .set-condition .ensures,
-      ← all-unpacked (machineOf (s .args .w .now) .conditions) (s .args .x) (conditions-count (s .args .w .now) (s .pre)),
+      ← all-unpacked (machineOf (s .args .w .now) .conditions) (s .args .x) (conditions-length (s .args .w .now) (s .pre)),
     )
 
 pub unpack-spec : {M : Type 1} → statement M

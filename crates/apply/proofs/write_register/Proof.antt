@@ -1,5 +1,5 @@
 -- `apply::write_register` meets its contract: in the set that RSWR names. Assumes nothing.
-use mathlib.Core.Path.{_∙_}
+use native.Mathlib.Nat.{mod-eq-of-lt}
 use Rattle.machine.specs.Machine.{writesSet2}
 use Rattle.machine.specs.Words.{machineOf}
 use Rattle.apply.proofs.Registers.{write-by}
@@ -27,7 +27,8 @@ returns c =
     let c3 = c2 .before in
     let s = c3 .before .before .before in
     let a = s .args in
-    rw (← write-by (machineOf (a .w .now)) (a .d) (a .x) (s .fits .x .fits), ← (c3 .psr .ensures), ← (c2 .has-flag .ensures)) (c1 .write-register .ensures)
+    rw (write-by (machineOf (a .w .now)) (a .d) (a .x), mod-eq-of-lt (s .fits .x .fits), ← (c3 .psr .ensures), ← (c2 .has-flag .ensures))
+    (c1 .write-register .ensures)
 
 pub write-register-spec : {M : Type 1} → statement M
 write-register-spec =
