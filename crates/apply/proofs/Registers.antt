@@ -1,23 +1,44 @@
--- A register written in set 2, in set 1, and PSR as a target. Assumes nothing.
-use mathlib.Core.Path.{_≡_}
-use mathlib.Core.Logic.{_≢_}
-use mathlib.Core.Bool.{true, false}
+-- A register written: the set that RSWR names, and PSR, which stays. Assumes nothing.
+use mathlib.Core.Path.{_≡_, refl, sym, _∙_}
+use mathlib.Core.Bool.{Bool, true, false}
 use Prim.Native.Nat.{ℕ, _%_, _^_, _<_}
 use native.Mathlib.Nat.{mod-eq-of-lt}
-use borrow.Author.Tests.{eq-eqb, ne-eqb}
+use lib.ListN.{set}
+use lib.Seq.{getD-set-other}
+use lib.Dec.{eqb}
+use borrow.Author.Tests.{eqb-false}
 use Rattle.word.specs.Choice.{if_then_else_}
-use Rattle.machine.specs.Machine.{Machine, PSR, psr, writesSet2, withRegister}
+use Rattle.machine.specs.Machine.{Machine, PSR, psr, writesSet2, withSet1, withSet2, withRegister, written}
+use Rattle.machine.specs.declared.Position.{Position}
 use Rattle.apply.specs.Apply.{writeRegister}
 
+-- a word written in the set that RSWR names
+pub write-by : (m : Machine) (d x : ℕ) → x < 2 ^ 32 → written (writesSet2 (psr m)) (d % 32) x m ≡ writeRegister d x m
+unfolding writeRegister written withRegister if_then_else_
+write-by m d x h = rw (mod-eq-of-lt h) (go (writesSet2 (psr m)))
+  where
+    go : (second : Bool) → written second (d % 32) x m ≡ if_then_else_ second (if_then_else_ (eqb (d % 32) PSR) m (withSet2 (set (m .set2) (d % 32) x) m)) (withSet1 (set (m .set1) (d % 32) x) m)
+    go true = refl
+    go false = refl
+
+-- a write leaves PSR and the position
 module _ (m : Machine) (d x : ℕ) where
-  pub write-set2 : writesSet2 (psr m) ≡ true → d % 32 ≢ PSR → x < 2 ^ 32 → writeRegister d x m ≡ withRegister true (d % 32) x m
-  unfolding writeRegister withRegister if_then_else_
-  write-set2 s n h = rw (s, ne-eqb (d % 32) PSR n, mod-eq-of-lt h)
+  pub write-psr : psr (writeRegister d x m) ≡ psr m
+  unfolding writeRegister if_then_else_ psr withSet1 withSet2
+  write-psr = go (writesSet2 (psr m)) (eqb (d % 32) PSR) refl
+    where
+      go : (second status : Bool) → eqb (d % 32) PSR ≡ status
+          → psr (if_then_else_ second (if_then_else_ status m (withSet2 (set (m .set2) (d % 32) (x % 2 ^ 32)) m)) (withSet1 (set (m .set1) (d % 32) (x % 2 ^ 32)) m)) ≡ psr m
+      go true true e = refl
+      go true false e = getD-set-other (m .set2) (d % 32) PSR (x % 2 ^ 32) 0 (λ q. eqb-false (d % 32) PSR e (sym q))
+      go false status e = refl
 
-  pub write-psr : writesSet2 (psr m) ≡ true → d % 32 ≡ PSR → writeRegister d x m ≡ m
-  unfolding writeRegister if_then_else_
-  write-psr s n = rw (s, eq-eqb (d % 32) PSR n)
-
-  pub write-set1 : writesSet2 (psr m) ≡ false → x < 2 ^ 32 → writeRegister d x m ≡ withRegister false (d % 32) x m
-  unfolding writeRegister withRegister if_then_else_
-  write-set1 s h = rw (s, mod-eq-of-lt h)
+  pub write-position : writeRegister d x m .position ≡ m .position
+  unfolding writeRegister if_then_else_ withSet1 withSet2
+  write-position = go (writesSet2 (psr m)) (eqb (d % 32) PSR)
+    where
+      go : (second status : Bool)
+          → if_then_else_ second (if_then_else_ status m (withSet2 (set (m .set2) (d % 32) (x % 2 ^ 32)) m)) (withSet1 (set (m .set1) (d % 32) (x % 2 ^ 32)) m) .position ≡ m .position
+      go true true = refl
+      go true false = refl
+      go false status = refl

@@ -12,7 +12,7 @@ mod program;
 
 use isa::Instruction;
 pub use memory::cell;
-pub use memory::place;
+pub use memory::place as place_at;
 pub use program::closed;
 pub use program::fetch;
 pub use program::word_bytes;

@@ -39,7 +39,7 @@ fn jumped(w: &mut [u32], target: i64, link: bool) -> u32
 // Whether a jump or a branch is taken: a branch, where its condition holds.
 fn taken(w: &[u32], i: Instruction) -> bool
     requires { ⌜ (length (now w) ≡ WORDS) × (i .creg < 8) ⌝ }
-    ensures { λ r. ⌜ ((p cells : List ℕ) → r ≡ taken (viewOf p (now (w .entry)) cells) i) ⌝ }
+    ensures { λ r. ⌜ ((p cells : List ℕ) → r ≡ taken (i .opcode) (viewOf p (now (w .entry)) cells) i) ⌝ }
 {
     let op = i.opcode;
     if 40 <= op {
@@ -52,7 +52,7 @@ fn taken(w: &[u32], i: Instruction) -> bool
 // Where a jump or a branch leads: jmpr and jalr to the register's value, the others by the immediate.
 fn target(w: &[u32], i: Instruction, x: u32) -> i64
     requires { ⌜ (length (now w) ≡ WORDS) × (machineOf (now w) .position .pc < 65536) ⌝ }
-    ensures { λ r. ⌜ ((p cells : List ℕ) → r ≡ targetOf (viewOf p (now (w .entry)) cells) i x) ⌝ }
+    ensures { λ r. ⌜ ((p cells : List ℕ) → r ≡ targetOf (i .opcode) (viewOf p (now (w .entry)) cells) i x) ⌝ }
 {
     let op = i.opcode;
     if (38 <= op) & (op <= 39) {

@@ -24,7 +24,7 @@ pub fn access(w: &mut [u32], cells: &mut [u32], i: Instruction, x: u32) -> u32
     let d = i.dreg;
     let address = word::offset_by(x, i.immediate);
     let user = word::has_flag(machine::psr(w), UM);
-    let place = decide::place(w, user, cells.len(), address);
+    let place = decide::place_at(w, user, cells.len(), address);
     match place {
         Place::Block(n) => {
             if op == LD {

@@ -16,7 +16,7 @@ use Rattle.word.specs.Choice.{if_then_else_}
 use Rattle.word.proofs.Integers.{signed-range}
 use Rattle.isa.specs.Operation.{operationOf, Width, w16, w32, Properties, properties}
 use Rattle.isa.specs.Format.{fieldsWidth, fieldsOf, operationField, cregField, conditionField, Immediate, layoutOf}
-use Rattle.isa.specs.Decode.{registerOf, immediateOf, operandsOf, opcodeOf, decode}
+use Rattle.isa.specs.Decode.{registerOf, immediateOf, operandsOf, opcodeOf, assembled, decode}
 use Rattle.isa.specs.declared.Instruction.{Instruction}
 use Rattle.isa.proofs.Fields.{fields-below}
 use Rattle.isa.proofs.Rows.{registerWidth, immediateFits, parts, rows-sound}
@@ -66,7 +66,7 @@ heads w16 = (omega arith, omega arith, omega arith)
 heads w32 = (omega arith, omega arith, omega arith)
 
 pub in-range : (width : Width) (word : ℕ) → InRange (decode width word)
-unfolding decode operandsOf opcodeOf
+unfolding decode assembled operandsOf opcodeOf
 in-range width word =
     let row = rows-sound width (opcodeOf width word) in
     record {
@@ -90,5 +90,5 @@ pub record HighRegisters (i : Instruction) : Type 0 where
   pub sreg2 : (i .sreg2 ≡ 0) ⊎ (24 ≤ i .sreg2)
 
 pub narrow-registers : (word : ℕ) → HighRegisters (decode w16 word)
-unfolding decode operandsOf
+unfolding decode assembled operandsOf
 narrow-registers word = record { dreg = register-high _ word; sreg1 = register-high _ word; sreg2 = register-high _ word }

@@ -8,7 +8,7 @@ use native.Mathlib.Omega.{arith}
 use lib.Dec.{ltb}
 use lib.ListN.{getD, List·getD-eq-default}
 use borrow.Author.Tests.{ltb-true, ltb-false}
-use Rattle.isa.specs.Operation.{Operation, unknown, operations, operationOf, Width, Form, NoOperands, Properties, properties}
+use Rattle.isa.specs.Operation.{Operation, unknown, operations, operationOf, Width, Form, Properties, properties}
 use Rattle.isa.specs.Decode.{operandsOf}
 
 module _ {A : Type 0} where
@@ -74,8 +74,3 @@ pub grouped : (width : Width) (form : Form) (first count : ℕ)
     → operandsOf width form word ≡ operandsOf width (properties (operationOf op) .form) word
 grouped width form first count e op word l h =
     ap (λ (f : Form). operandsOf width f word) (sym (agree (λ n. properties (operationOf n) .form) (λ n. form) first count e op l h))
-
--- and of one whose operation is unknown
-pub ungrouped : (width : Width) (op word : ℕ) → 58 ≤ op → operandsOf width NoOperands word ≡ operandsOf width (properties (operationOf op) .form) word
-unfolding properties
-ungrouped width op word l = ap (λ (o : Operation). operandsOf width (properties o .form) word) (sym (unknown-from op l))

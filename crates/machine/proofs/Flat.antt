@@ -1,6 +1,7 @@
 -- Reads and stores of the flat words, said of the machine that they hold. What holds of a section is stated once, by its start and its count.
 -- Assumes nothing.
 use mathlib.Core.Path.{_≡_, refl, sym, ap, _∙_}
+use mathlib.Core.Logic.{_≢_}
 use mathlib.Core.Bool.{Bool, true, false, _||_}
 use mathlib.Core.List.{List, [], _∷_, _++_, reverse, reverse-append, append-assoc}
 use Prim.Native.Nat.{ℕ, zero, suc, _+_, _-_, _*_, _≤_, _<_}
@@ -10,8 +11,9 @@ use native.Mathlib.Numerals.{add-one}
 use lib.Dec.{leb, lit<}
 use lib.ListN.{length, getD, set, take, drop, length-drop, length-reverse, List·getD-eq-default}
 use lib.Seq.{drop-set-add, drop-set-lt, take-set-lt, take-set-le, getD-set-same, getD-set-other, getD-take, getD-drop, drop-drop, length-take-le, sets, sets-eq, length-sets, take-at, drop-at}
-use borrow.Author.Tests.{leb-true}
-use Rattle.machine.specs.Machine.{Machine, withSet1, withSet2, withConditions, withControl, withPosition, setBy, withRegister}
+use borrow.Author.Tests.{leb-true, eq-eqb, ne-eqb}
+use Rattle.word.specs.Choice.{if_then_else_}
+use Rattle.machine.specs.Machine.{Machine, PSR, withSet1, withSet2, withConditions, withControl, withPosition, setBy, withRegister, written}
 use Rattle.machine.specs.Control.{controlAt, INT-SERV, RETI-ADDR, RETI-PSR, RETI-CR0}
 use Rattle.machine.specs.Stack.{popped, serviceFlags, shownTop, showTop, showStack, withStack}
 use Rattle.machine.specs.Words.{SET1, SET2, CONDITIONS, CONTROL, POSITION, DEPTH, ENTRIES, WORDS, startBy, section, positionOf, entryOf, entriesOf, machineOf}
@@ -135,6 +137,17 @@ pub register-stored : (w : List ℕ) (v n : ℕ) (second : Bool) → n < 32 → 
 unfolding withRegister
 register-stored w v n true h = set2-stored w v n h
 register-stored w v n false h = set1-stored w v n h
+
+-- a write to any place but PSR's replaces the register, and one to PSR's is ignored
+pub register-written : (m : Machine) (v n : ℕ) (second : Bool) → startBy second + n ≢ SET2 + PSR → written second n v m ≡ withRegister second n v m
+unfolding written if_then_else_
+register-written m v n true h = rw (ne-eqb n PSR (λ e. h (ap (λ k. SET2 + k) e)))
+register-written m v n false h = refl
+
+pub psr-spared : (m : Machine) (v n : ℕ) (second : Bool) → n < 32 → startBy second + n ≡ SET2 + PSR → written second n v m ≡ m
+unfolding written if_then_else_
+psr-spared m v n true h e = rw (eq-eqb n PSR (omega arith))
+psr-spared m v n false h e = absurd (omega arith)
 
 -- ---- the control block
 

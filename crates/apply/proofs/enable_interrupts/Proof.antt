@@ -1,6 +1,6 @@
 -- `apply::enable_interrupts` meets its contract. Assumes nothing.
 use Rattle.machine.specs.Machine.{wideWords}
-use Rattle.apply.specs.Apply.{enableInterrupts}
+use Rattle.apply.specs.Apply.{enableInterrupts, machineOnly, apply, stopNumber, told, effectOn}
 use borrow.Author.Needs.{needs}
 use Rattle.apply.proofs.enable_interrupts.Statement.{statement}
 use Rattle.apply.proofs.enable_interrupts.Tie as tie
@@ -24,8 +24,8 @@ same-length : tie.Need-same-length
 same-length c = search needs
 
 returns : tie.Need-returns
-unfolding enableInterrupts wideWords
-returns c =
+unfolding enableInterrupts wideWords machineOnly apply stopNumber told effectOn
+returns c cells =
     let c1 = c .before .before in
     let c2 = c1 .before in
     let c3 = c2 .before in

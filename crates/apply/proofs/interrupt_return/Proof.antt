@@ -1,7 +1,7 @@
 -- `apply::interrupt_return` meets its contract: the top is read before it is popped. Assumes nothing.
 use Rattle.machine.specs.Stack.{withStack}
 use Rattle.machine.proofs.Stack.{depth-most}
-use Rattle.apply.specs.Apply.{interruptReturn}
+use Rattle.apply.specs.Apply.{interruptReturn, machineOnly, apply, stopNumber, told, effectOn}
 use borrow.Author.Needs.{needs}
 use Rattle.apply.proofs.interrupt_return.Statement.{statement}
 use Rattle.apply.proofs.interrupt_return.Tie as tie
@@ -25,8 +25,8 @@ same-length : tie.Need-same-length
 same-length c = search needs
 
 returns : tie.Need-returns
-unfolding interruptReturn withStack
-returns c =
+unfolding interruptReturn withStack machineOnly apply stopNumber told effectOn
+returns c cells =
     let c1 = c .before .before in
     let c2 = c1 .before .before .before .before in
     let c3 = c2 .before .before .before .before in

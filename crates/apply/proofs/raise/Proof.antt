@@ -1,6 +1,6 @@
 -- `apply::raise` meets its contract: store by store. Assumes nothing.
 use Rattle.machine.specs.Machine.{withControl}
-use Rattle.apply.specs.Apply.{raise}
+use Rattle.apply.specs.Apply.{raise, machineOnly, apply, stopNumber, told, effectOn}
 use borrow.Author.Needs.{needs}
 use Rattle.apply.proofs.raise.Statement.{statement}
 use Rattle.apply.proofs.raise.Tie as tie
@@ -33,8 +33,8 @@ same-length : tie.Need-same-length
 same-length c = search needs
 
 returns : tie.Need-returns
-unfolding raise withControl
-returns c =
+unfolding raise withControl machineOnly apply stopNumber told effectOn
+returns c cells =
     let c1 = c .before .before in
     let c2 = c1 .before .before .before .before in
     let c3 = c2 .before .before .before .before in

@@ -1,5 +1,5 @@
 -- `apply::select_sets` meets its contract. Assumes nothing.
-use Rattle.apply.specs.Apply.{selectSets}
+use Rattle.apply.specs.Apply.{selectSets, machineOnly, apply, stopNumber, told, effectOn}
 use borrow.Author.Needs.{needs}
 use Rattle.apply.proofs.select_sets.Statement.{statement}
 use Rattle.apply.proofs.select_sets.Tie as tie
@@ -29,8 +29,8 @@ same-length : tie.Need-same-length
 same-length c = search needs
 
 returns : tie.Need-returns
-unfolding selectSets
-returns c =
+unfolding selectSets machineOnly apply stopNumber told effectOn
+returns c cells =
     let c1 = c .before .before in
     let c2 = c1 .before .before .before .before in
     let c3 = c2 .before .before in

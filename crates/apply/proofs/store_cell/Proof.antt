@@ -1,26 +1,28 @@
 -- `apply::store_cell` meets its contract. Assumes nothing.
-use mathlib.Core.Path.{_≡_, sym}
-use Prim.Native.Nat.{_%_, _^_}
-use native.Mathlib.Omega.{arith}
-use lib.Seq.{set-out}
+use Rattle.apply.specs.Apply.{storeCell, apply, stopNumber, told, effectOn}
 use borrow.Author.Needs.{needs}
 use Rattle.apply.proofs.store_cell.Statement.{statement}
 use Rattle.apply.proofs.store_cell.Tie as tie
 
-mul-cells : tie.Need-mul-cells
-mul-cells c = search needs
+set-cell-requires : tie.Need-set-cell-requires
+set-cell-requires c κs = search needs
 
-slice-write-cells : tie.Need-slice-write-cells
-slice-write-cells c = search needs
+advance-requires : tie.Need-advance-requires
+advance-requires c κs = search needs
 
 same-length : tie.Need-same-length
 same-length c = search needs
 
-returns : tie.Need-returns
-returns c = let a = c .before .args in let x : a .x % 2 ^ 32 ≡ a .x = omega arith in rw x
+same-length-2 : tie.Need-same-length-2
+same-length-2 c = search needs
 
-returns-2 : tie.Need-returns-2
-returns-2 c = sym (set-out _ _ _ (c .if1 .left))
+returns : tie.Need-returns
+unfolding storeCell apply stopNumber told effectOn
+returns c =
+    let c1 = c .before .before in
+    let c2 = c1 .before .before .before .before in
+    rw (c1 .advance .ensures, c2 .set-cell .ensures)
 
 pub store-cell-spec : {M : Type 1} → statement M
-store-cell-spec = tie.close (tie.spec mul-cells slice-write-cells same-length returns returns-2)
+store-cell-spec =
+    tie.close (tie.spec set-cell-requires advance-requires same-length same-length-2 returns)

@@ -1,6 +1,6 @@
 -- `apply::switch_width` meets its contract. Assumes nothing.
 use Rattle.machine.specs.Machine.{interruptsEnabled}
-use Rattle.apply.specs.Apply.{switchWidth}
+use Rattle.apply.specs.Apply.{switchWidth, machineOnly, apply, stopNumber, told, effectOn}
 use borrow.Author.Needs.{needs}
 use Rattle.apply.proofs.switch_width.Statement.{statement}
 use Rattle.apply.proofs.switch_width.Tie as tie
@@ -27,8 +27,8 @@ same-length : tie.Need-same-length
 same-length c = search needs
 
 returns : tie.Need-returns
-unfolding switchWidth interruptsEnabled
-returns c =
+unfolding switchWidth interruptsEnabled machineOnly apply stopNumber told effectOn
+returns c cells =
     let c1 = c .before .before in
     let c2 = c1 .before in
     let c3 = c2 .before in

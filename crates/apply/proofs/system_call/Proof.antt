@@ -1,6 +1,6 @@
 -- `apply::system_call` meets its contract: store by store. Assumes nothing.
 use Rattle.machine.specs.Machine.{withSet2, withRegister}
-use Rattle.apply.specs.Apply.{systemCall}
+use Rattle.apply.specs.Apply.{systemCall, machineOnly, apply, stopNumber, told, effectOn}
 use borrow.Author.Needs.{needs}
 use Rattle.apply.proofs.system_call.Statement.{statement}
 use Rattle.apply.proofs.system_call.Tie as tie
@@ -30,8 +30,8 @@ same-length : tie.Need-same-length
 same-length c = search needs
 
 returns : tie.Need-returns
-unfolding systemCall withRegister withSet2
-returns c =
+unfolding systemCall withRegister withSet2 machineOnly apply stopNumber told effectOn
+returns c cells =
     let c1 = c .before .before in
     let c2 = c1 .before .before .before .before in
     let c3 = c2 .before .before .before .before in

@@ -1,7 +1,7 @@
 -- `apply::unpack` meets its contract: eight stores fill the eight condition registers. Assumes nothing.
 use Rattle.machine.specs.Machine.{withConditions}
 use Rattle.machine.specs.Words.{machineOf}
-use Rattle.apply.proofs.Conditions.{conditions-count, all-unpacked}
+use Rattle.apply.proofs.Unpacked.{conditions-count, all-unpacked}
 use borrow.Author.Needs.{needs}
 use Rattle.apply.proofs.unpack.Statement.{statement}
 use Rattle.apply.proofs.unpack.Tie as tie

@@ -1,5 +1,5 @@
 -- `apply::user_return` meets its contract. Assumes nothing.
-use Rattle.apply.specs.Apply.{userReturn}
+use Rattle.apply.specs.Apply.{userReturn, machineOnly, apply, stopNumber, told, effectOn}
 use borrow.Author.Needs.{needs}
 use Rattle.apply.proofs.user_return.Statement.{statement}
 use Rattle.apply.proofs.user_return.Tie as tie
@@ -26,8 +26,8 @@ same-length : tie.Need-same-length
 same-length c = search needs
 
 returns : tie.Need-returns
-unfolding userReturn
-returns c =
+unfolding userReturn machineOnly apply stopNumber told effectOn
+returns c cells =
     let c1 = c .before .before in
     let c2 = c1 .before .before .before .before in
     let c3 = c2 .before .before in

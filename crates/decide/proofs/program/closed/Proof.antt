@@ -1,4 +1,4 @@
--- `decide::program::closed` meets its contract: by the mode. Assumes nothing.
+-- `decide::program::closed` meets its contract: by the bounds that it reads. Assumes nothing.
 use borrow.Author.Needs.{needs}
 use Rattle.decide.proofs.program.closed.Statement.{statement}
 use Rattle.decide.proofs.program.closed.Tie as tie
@@ -13,10 +13,7 @@ any-within-requires : tie.Need-any-within-requires
 any-within-requires c κs = search needs
 
 returns : tie.Need-returns
-returns c = simp (c .any-within .ensures, c .before .before .control .ensures, c .before .control2 .ensures, c .before .before .before .if1 .taken)
-
-returns-2 : tie.Need-returns-2
-returns-2 c = simp (c .if1 .left)
+returns c = rw (c .any-within .ensures, c .before .before .control .ensures, c .before .control2 .ensures)
 
 pub closed-spec : {M : Type 1} → statement M
-closed-spec = tie.close (tie.spec control-requires control-requires-2 any-within-requires returns returns-2)
+closed-spec = tie.close (tie.spec control-requires control-requires-2 any-within-requires returns)

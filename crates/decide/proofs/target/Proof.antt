@@ -1,0 +1,22 @@
+-- `decide::target` meets its contract: by the set that is written. Assumes nothing.
+use borrow.Author.Needs.{needs}
+use Rattle.machine.specs.Machine.{writesSet2}
+use Rattle.decide.specs.View.{View, view}
+use Rattle.decide.proofs.target.Statement.{statement}
+use Rattle.decide.proofs.target.Tie as tie
+
+psr-requires : tie.Need-psr-requires
+psr-requires c κs = search needs
+
+has-flag-requires : tie.Need-has-flag-requires
+has-flag-requires c κs = search needs
+
+register-requires : tie.Need-register-requires
+register-requires c κs = search needs
+
+returns : tie.Need-returns
+unfolding writesSet2 view
+returns c p cells = rw (c .register .ensures, c .before .has-flag .ensures, c .before .before .psr .ensures)
+
+pub target-spec : {M : Type 1} → statement M
+target-spec = tie.close (tie.spec psr-requires has-flag-requires register-requires returns)

@@ -1,0 +1,64 @@
+-- Groups of operations: what the table says of all of a group, and the clauses that are alike but for a number. Each by one computed test.
+-- Assumes nothing.
+use mathlib.Core.Path.{_≡_, refl}
+use mathlib.Core.Bool.{Bool, true, false}
+use Prim.Native.Nat.{ℕ, _≤_, _<_}
+use native.Mathlib.Omega.{arith}
+use lib.Dec.{eqb}
+use Rattle.word.specs.Choice.{if_then_else_}
+use Rattle.isa.specs.Operation.{operationOf, Width, w16, w32, unavailable, codeOf, Properties, properties}
+use Rattle.isa.specs.Computed.{instructions}
+use Rattle.isa.specs.declared.Instruction.{Instruction}
+use Rattle.isa.proofs.Table.{values, agree}
+use Rattle.decide.specs.View.{View}
+use Rattle.decide.specs.Effect.{Next, Jump, JumpLink}
+use Rattle.decide.specs.Execute.{jumped, branch, execute}
+use Rattle.execute.specs.Jumps.{taken, targetOf, links}
+
+-- ---- the tests that a group's operations have
+
+-- the code of the exception where an operation may not be used
+abbrev pub codeAt : Width → (user : Bool) (n : ℕ) → ℕ
+codeAt width user n = codeOf (unavailable (properties (operationOf n) .availability) width user)
+
+-- nop to cmpi may be used anywhere
+pub usable-low : (width : Width) (user : Bool) (n : ℕ) → n < 34 → codeAt width user n ≡ 0
+unfolding instructions values
+usable-low width user n h = agree (codeAt width user) (λ n. 0) 0 34 (computed width user) n (omega arith) h
+  where
+    computed : (width : Width) (user : Bool) → values (codeAt width user) 0 34 ≡ values (λ n. 0) 0 34
+    computed w16 true = refl
+    computed w16 false = refl
+    computed w32 true = refl
+    computed w32 false = refl
+
+-- and jumps and branches
+pub usable-jump : (width : Width) (user : Bool) (n : ℕ) → 36 ≤ n → n < 48 → codeAt width user n ≡ 0
+unfolding instructions values
+usable-jump width user = agree (codeAt width user) (λ n. 0) 36 12 (computed width user)
+  where
+    computed : (width : Width) (user : Bool) → values (codeAt width user) 36 12 ≡ values (λ n. 0) 36 12
+    computed w16 true = refl
+    computed w16 false = refl
+    computed w32 true = refl
+    computed w32 false = refl
+
+-- nop to lui are no control transfers
+pub no-transfer : (n : ℕ) → n < 36 → properties (operationOf n) .transfer ≡ false
+unfolding instructions values
+no-transfer n h = agree (λ n. properties (operationOf n) .transfer) (λ n. false) 0 36 refl n (omega arith) h
+
+-- jumps and branches are
+pub transfers : (n : ℕ) → 36 ≤ n → n < 48 → properties (operationOf n) .transfer ≡ true
+unfolding instructions values
+transfers = agree (λ n. properties (operationOf n) .transfer) (λ n. true) 36 12 refl
+
+-- ---- what jumps and branches do
+
+module _ (v : View) (i : Instruction) (x y : ℕ) where
+  -- taken or not, where to, with a link or not
+  pub jumps-are : (op : ℕ) → 36 ≤ op → op < 48
+      → execute (operationOf op) v i x y ≡ if taken op v i then jumped v (targetOf op v i x) (if links op then JumpLink else Jump) else Next
+  unfolding instructions values if_then_else_ branch execute taken targetOf links
+  jumps-are =
+      agree (λ n. execute (operationOf n) v i x y) (λ n. if taken n v i then jumped v (targetOf n v i x) (if links n then JumpLink else Jump) else Next) 36 12 refl

@@ -1,0 +1,2 @@
+-- Laws of the groups of operations.
+pub mod Groups

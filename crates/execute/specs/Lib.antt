@@ -1,0 +1,2 @@
+-- How the code takes the operations together.
+pub mod Jumps

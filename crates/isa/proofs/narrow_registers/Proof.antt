@@ -1,0 +1,28 @@
+-- `isa::narrow_registers` meets its contract: add to sext have one form. Assumes nothing.
+use mathlib.Core.Path.{refl, _∙_}
+use native.Mathlib.Nat.{mul-one, add-zero, div-one}
+use native.Mathlib.Omega.{arith}
+use borrow.Author.Needs.{needs}
+use Rattle.isa.specs.Operation.{w16, ThreeRegisters}
+use Rattle.isa.specs.Computed.{instructions}
+use Rattle.isa.proofs.Table.{values, grouped}
+use Rattle.isa.proofs.narrow_registers.Statement.{statement}
+use Rattle.isa.proofs.narrow_registers.Tie as tie
+
+add-d : tie.Need-add-d
+add-d c = search needs
+
+add-registers : tie.Need-add-registers
+add-registers c = search needs
+
+registers-requires : tie.Need-registers-requires
+registers-requires c κs = search needs
+
+returns : tie.Need-returns
+unfolding instructions values
+returns c =
+    let a = c .before .args in
+    c .registers .ensures ∙ (simp (mul-one, add-zero, div-one)) ∙ grouped w16 ThreeRegisters 1 17 refl (a .op) (a .w) (omega arith) (omega arith)
+
+pub narrow-registers-spec : {M : Type 1} → statement M
+narrow-registers-spec = tie.close (tie.spec add-d add-registers registers-requires returns)
