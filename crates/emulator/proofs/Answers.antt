@@ -18,7 +18,7 @@ use Rattle.emulator.specs.Closure.{Unchanged, Refusals, Written, Ended, 
 use Rattle.emulator.specs.declared.Answer.the-variants.{Refusal, Ran}
 use Rattle.emulator.proofs.Loop.{Runs, limit-reached, went-on, runs-by}
 use Rattle.emulator.proofs.Loop as loop
-use Rattle.emulator.proofs.Stops.{stop-number}
+use Rattle.step.proofs.Stops.{stop-number}
 use Rattle.emulator.proofs.Closed.{asked-yes, result-formed}
 
 -- ---- refusals

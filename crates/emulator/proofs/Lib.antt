@@ -5,9 +5,8 @@ pub mod User
 pub mod States
 pub mod Views
 pub mod Unwinding
--- the run call: its loop, the numbers of stops, what it leaves, what it answers, how its code goes
+-- the run call: its loop, what it leaves, what it answers, how its code goes
 pub mod Loop
-pub mod Stops
 pub mod Closed
 pub mod Answers
 pub mod Asked

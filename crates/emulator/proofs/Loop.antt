@@ -8,9 +8,9 @@ use lib.ListN.{getD}
 use Rattle.word.specs.Choice.{if_then_else_}
 use Rattle.word.proofs.Tests.{if-true}
 use Rattle.machine.specs.Machine.{State}
-use Rattle.apply.specs.Apply.{Transition}
+use Rattle.apply.specs.Apply.{Transition, stopNumber}
 use Rattle.step.specs.Step.{isStop, step}
-use Rattle.emulator.specs.Run.{run, RunResult, stopNumber, resultOf, resultFrom}
+use Rattle.emulator.specs.Run.{run, RunResult, resultOf, resultFrom}
 
 -- a stop changes nothing
 pub stop-changes-nothing : (p : List ℕ) (s : State) (q : ℕ) → isStop (step p s q .kind) ≡ true → step p s q .after ≡ s

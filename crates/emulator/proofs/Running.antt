@@ -1,11 +1,10 @@
 -- The steps of a call and the call itself, by what its code does. Assumes nothing.
 use mathlib.Core.Path.{_≡_, refl, sym, ap, _∙_}
-use mathlib.Core.Bool.{true, false}
+use mathlib.Core.Bool.{true}
 use mathlib.Core.List.{List}
 use Prim.Native.Nat.{ℕ, zero, suc, _+_, _-_, _≤_, _<_}
 use native.Mathlib.Omega.{arith}
 use lib.ListN.{length, getD}
-use Rattle.word.proofs.Tests.{false-unless}
 use Rattle.codec.specs.Number.{over}
 use Rattle.machine.specs.Machine.{Machine}
 use Rattle.machine.specs.Words.{machineOf}
@@ -13,65 +12,57 @@ use Rattle.image.specs.Questions.{wellFormed}
 use Rattle.image.specs.Image.{writeImage}
 use Rattle.image.proofs.Formed.{true-formed, formed-true, stacked-depth}
 use Rattle.image.proofs.Image.{accepted-formed}
-use Rattle.apply.specs.Apply.{Transition, stateOf, transitionOf}
-use Rattle.apply.specs.Kind.{Kind}
-use Rattle.apply.specs.Kind.{Ordinary, Interrupt, SystemCall, InterruptReturn, Exception, Stop}
-use Rattle.step.specs.Step.{isStop, step}
+use Rattle.apply.specs.Apply.{Transition, stateOf, stopNumber, Told, told, toldBy}
+use Rattle.step.specs.Step.{step}
 use Rattle.step.proofs.Formed.{step-formed}
-use Rattle.emulator.specs.Run.{Call, RunResult, stopNumber, resultFrom, resultBy, No, Start, ask, askedBy, outcome, runCall}
+use Rattle.step.proofs.Stops.{numbered-stop, numbered-step, stop-number}
+use Rattle.emulator.specs.Run.{Call, RunResult, resultFrom, resultBy, No, Start, ask, askedBy, outcome, runCall}
 use Rattle.emulator.specs.Closure.{AllYes}
 use Rattle.emulator.specs.declared.Ended.{Ended}
 use Rattle.emulator.specs.declared.Answer.the-variants.{Refusal, Ran}
 use Rattle.emulator.proofs.Loop.{at-stop, at-more}
-use Rattle.emulator.proofs.Stops.{stop-number}
 use Rattle.emulator.proofs.Closed.{asked-yes, result-formed}
 use Rattle.emulator.proofs.Answers.{call-refused, call-started}
 
 -- ---- one step of the loop
 
--- a number other than 0 is a stop's
-numbered-stop : (k : Kind) → (stopNumber k ≡ 0 → ⊥) → isStop k ≡ true
-unfolding stopNumber isStop
-numbered-stop Ordinary h = absurd (h refl)
-numbered-stop Interrupt h = absurd (h refl)
-numbered-stop SystemCall h = absurd (h refl)
-numbered-stop InterruptReturn h = absurd (h refl)
-numbered-stop (Exception c) h = absurd (h refl)
-numbered-stop (Stop n) h = refl
-
 -- the words after a transition say a well-formed machine
-pub step-kept : (p : List ℕ) (q : ℕ) (k : Kind) (w d w₁ d₁ : List ℕ) → transitionOf k w₁ d₁ ≡ step p (stateOf w d) q
+pub step-kept : (p : List ℕ) (q n : ℕ) (w d w₁ d₁ : List ℕ) → toldBy n w₁ d₁ ≡ told (step p (stateOf w d) q)
     → wellFormed (machineOf w) ≡ true → wellFormed (machineOf w₁) ≡ true
-step-kept p q k w d w₁ d₁ e f = formed-true (rw (← e) at (step-formed p (stateOf w d) q (true-formed (machineOf w) f)))
+unfolding told
+step-kept p q n w d w₁ d₁ e f =
+    let same : machineOf w₁ ≡ step p (stateOf w d) q .after .machine = ap (λ (t : Told). t .after .machine) e in
+    formed-true (rw same (step-formed p (stateOf w d) q (true-formed (machineOf w) f)))
 
--- k is the kind of a transition with requests q, and n its stop's number
-module _ (p requests : List ℕ) (limit done q n : ℕ) (k : Kind) (w d w₁ d₁ : List ℕ) (r : q ≡ getD requests done 0)
-    (e : transitionOf k w₁ d₁ ≡ step p (stateOf w d) q) (s : n ≡ stopNumber k) where
+-- n and the words and cells are what a transition with requests q tells
+module _ (p requests : List ℕ) (limit done q n : ℕ) (w d w₁ d₁ : List ℕ) (r : q ≡ getD requests done 0)
+    (e : toldBy n w₁ d₁ ≡ told (step p (stateOf w d) q)) where
   abbrev next : Transition
   next = step p (stateOf w d) (getD requests done 0)
 
-  same : transitionOf k w₁ d₁ ≡ next
-  same = e ∙ ap (step p (stateOf w d)) r
+  same : toldBy n w₁ d₁ ≡ told next
+  same = e ∙ ap (λ (x : ℕ). told (step p (stateOf w d) x)) r
 
-  -- 0 is no stop's
-  goes-on : n ≡ 0 → isStop (next .kind) ≡ false
-  goes-on z = false-unless _ (λ b. let h = stop-number p (stateOf w d) (getD requests done 0) b in let y : stopNumber (next .kind) ≡ 0 = rw (← same) (sym s ∙ z) in omega arith)
+  number : n ≡ stopNumber (next .kind)
+  unfolding told
+  number = ap (λ (t : Told). t .stop) same
 
   -- a step: what is left of the limit is one less
   pub step-more : done < limit → n ≡ 0
       → resultFrom p requests (limit - (done + 1)) (done + 1) (stateOf w₁ d₁) ≡ resultFrom p requests (limit - done) done (stateOf w d)
+  unfolding told
   step-more h z =
       let o : done + 1 ≡ suc done = omega arith in
-      rw o (ap (λ (t : Transition). resultFrom p requests (limit - suc done) (suc done) (t .after)) same)
-      ∙ sym (at-more p requests limit done (stateOf w d) h (goes-on z))
+      rw o (ap (λ (t : Told). resultFrom p requests (limit - suc done) (suc done) (t .after)) same)
+      ∙ sym (at-more p requests limit done (stateOf w d) h (numbered-step (next .kind) (stop-number p (stateOf w d) (getD requests done 0)) (sym number ∙ z)))
 
   -- a stop: it is not counted
   pub step-stop : done < limit → (n ≡ 0 → ⊥)
       → resultBy (record { steps = done; ending = n }) w₁ d₁ ≡ resultFrom p requests (limit - done) done (stateOf w d)
+  unfolding told
   step-stop h z =
-      let b : isStop (next .kind) ≡ true = rw (← same) (numbered-stop k (λ y. z (s ∙ y))) in
-      rw s (ap (λ (t : Transition). record { steps = done; ending = stopNumber (t .kind); after = t .after }) same)
-      ∙ sym (at-stop p requests limit done (stateOf w d) h b)
+      ap (λ (t : Told). record { steps = done; ending = t .stop; after = t .after }) same
+      ∙ sym (at-stop p requests limit done (stateOf w d) h (numbered-stop (next .kind) (λ y. z (number ∙ y))))
 
 -- ---- the call
 

@@ -9,4 +9,5 @@ pub mod Formed
 pub mod Urgency
 pub mod Requests
 pub mod Entered
+pub mod Stops
 pub mod Transitions

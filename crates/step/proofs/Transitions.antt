@@ -1,6 +1,6 @@
 -- A step by its two ways, an interrupt or an instruction, from what the parts of its code give. Assumes nothing.
 use mathlib.Core.Path.{_≡_, refl, sym, ap, _∙_}
-use mathlib.Core.Bool.{true, false, true≢false}
+use mathlib.Core.Bool.{true, true≢false}
 use mathlib.Core.List.{List}
 use mathlib.Core.Option.{none, some}
 use Prim.Native.Nat.{ℕ, _%_, _^_}
@@ -12,11 +12,11 @@ use Rattle.decide.specs.View.{view}
 use Rattle.decide.specs.Decide.{decide}
 use Rattle.decide.specs.Effect.{Effect}
 use Rattle.decide.specs.Effect.{Stopped, Raised, Next, Result, ResultFlags, ResultProduct, Compare, Conditions, StoreControl, StoreCell, Jump, JumpLink, EnableInterrupts, SwitchWidth, SystemCall, InterruptReturn, UserReturn, SelectSets}
-use Rattle.apply.specs.Apply.{Transition, machineOnly, storeCell, apply}
-use Rattle.apply.specs.Kind.{Interrupt}
+use Rattle.apply.specs.Apply.{Transition, machineOnly, storeCell, apply, stopNumber, Told, told}
 use Rattle.step.specs.Interrupt.{withPending, withRequests, acceptedSource, accept}
 use Rattle.step.specs.Step.{isStop, interruptOr, step}
 use Rattle.step.proofs.Requests.{pending-back}
+use Rattle.step.proofs.Stops.{numbered-stop, numbered-step, instruction-numbered}
 
 -- an effect that stops changes nothing
 pub stopped-same : (e : Effect) (s : State) → isStop (apply e s .kind) ≡ true → apply e s .after ≡ s
@@ -48,22 +48,32 @@ requests-back requests s = rw (pending-back (s .machine) (orOf (controlAt (s .ma
 -- r is the state with the requests added
 module _ (program : List ℕ) (s : State) (requests : ℕ) (r : State) (added : r ≡ withRequests requests s) where
   pub step-accepts : (n : ℕ) → acceptedSource (view program r) (r .machine) ≡ some n
-      → record { kind = Interrupt; after = record { machine = accept n (r .machine); cells = r .cells } } ≡ step program s requests
-  unfolding step interruptOr machineOnly isStop if_then_else_
+      → record { stop = 0; after = record { machine = accept n (r .machine); cells = r .cells } } ≡ told (step program s requests)
+  unfolding step interruptOr machineOnly isStop if_then_else_ told stopNumber
   step-accepts n o = rw (← added, o)
 
-  -- no source is accepted: an effect is decided and carried out
-  module _ (e : Effect) (t : Transition) (o : acceptedSource (view program r) (r .machine) ≡ none) (decided : e ≡ decide (view program r)) (applied : t ≡ apply e r) where
-    pub step-goes-on : isStop (t .kind) ≡ false → t ≡ step program s requests
-    unfolding step interruptOr if_then_else_
-    step-goes-on g = rw (← added, o, ← decided, ← applied, g)
+  -- no source is accepted: the instruction is carried out, and t is what that tells
+  module _ (t : Told) (o : acceptedSource (view program r) (r .machine) ≡ none) (done : t ≡ told (apply (decide (view program r)) r)) where
+    abbrev instruction : Transition
+    instruction = apply (decide (view program r)) r
+
+    number : t .stop ≡ stopNumber (instruction .kind)
+    unfolding told
+    number = ap (λ (u : Told). u .stop) done
+
+    pub step-goes-on : t .stop ≡ 0 → t ≡ told (step program s requests)
+    unfolding step interruptOr if_then_else_ told
+    step-goes-on z =
+        let g = numbered-step (instruction .kind) (instruction-numbered (view program r) r) (sym number ∙ z) in
+        done ∙ rw (← added, o, g)
 
     -- INT_PEND is put back
-    pub step-stops : isStop (t .kind) ≡ true
-        → record { kind = t .kind; after = record { machine = withPending (controlAt (s .machine) INT-PEND) (t .after .machine); cells = t .after .cells } }
-        ≡ step program s requests
-    unfolding step interruptOr if_then_else_
-    step-stops g =
-        let stop = ap (λ (u : Transition). isStop (u .kind)) (sym applied) ∙ g in
-        let same : t .after ≡ r = ap (λ (u : Transition). u .after) applied ∙ stopped-same e r stop in
-        rw (← added, o, ← decided, ← applied, g, same) (rw added (ap (λ (u : State). record { kind = t .kind; after = u }) (requests-back requests s)))
+    pub step-stops : (t .stop ≡ 0 → ⊥)
+        → record { stop = t .stop; after = record { machine = withPending (controlAt (s .machine) INT-PEND) (t .after .machine); cells = t .after .cells } }
+        ≡ told (step program s requests)
+    unfolding step interruptOr if_then_else_ told
+    step-stops z =
+        let g = numbered-stop (instruction .kind) (λ e. z (number ∙ e)) in
+        let same : t .after ≡ withRequests requests s = ap (λ (u : Told). u .after) done ∙ stopped-same (decide (view program r)) r g ∙ added in
+        let back = ap (λ (u : State). record { machine = withPending (controlAt (s .machine) INT-PEND) (u .machine); cells = u .cells }) same ∙ requests-back requests s in
+        rw (back, number, ← added, o, g)

@@ -1,12 +1,7 @@
 -- `reset` meets its contract: the words written are those of the machine at reset, whose stack is empty. Assumes nothing.
-use mathlib.Core.Path.{ap}
-use native.Mathlib.Omega.{arith}
-use lib.Dec.{lit≤}
-use lib.ListN.{length}
 use borrow.Author.Needs.{needs}
 use borrow.Author.Tests.{le-leb, lt-leb}
 use Rattle.word.specs.Choice.{if_then_else_}
-use Rattle.machine.specs.Machine.{Machine}
 use Rattle.image.proofs.Formed.{stacked-depth}
 use Rattle.image.proofs.Image.{reset-formed}
 use Rattle.emulator.specs.Reset.{resetCall}

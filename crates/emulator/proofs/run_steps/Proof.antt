@@ -35,9 +35,6 @@ request-at-requires c κs = search needs
 step-requires : tie.Need-step-requires Inv-loop μ-loop
 step-requires c κs = (search needs, search needs, c .before .before .before .before .loop .inv .1 .0)
 
-stop-number-requires : tie.Need-stop-number-requires Inv-loop μ-loop
-stop-number-requires c κs = search needs
-
 same-length : tie.Need-same-length Inv-loop μ-loop
 same-length c = search needs
 
@@ -45,10 +42,10 @@ same-length-2 : tie.Need-same-length-2 Inv-loop μ-loop
 same-length-2 c = search needs
 
 returns : tie.Need-returns Inv-loop μ-loop
-returns c = let stepped = c .before .before .before .before .before .before in
+returns c =
+    let stepped = c .before .before .before .before .before in
     let top = stepped .before .before .before .before .before in
-    step-stop _ _ _ _ _ _ _ _ _ _ _ (stepped .before .request-at .ensures) (stepped .step .ensures) (c .before .stop-number .ensures)
-    (stepped .before .before .before .before .loop-test .taken) (c .if1 .taken)
+    step-stop _ _ _ _ _ _ _ _ _ _ (stepped .before .request-at .ensures) (stepped .step .ensures) (stepped .before .before .before .before .loop-test .taken) (c .if1 .taken)
     ∙ top .loop .inv .1 .1
 
 add-done : tie.Need-add-done Inv-loop μ-loop
@@ -58,13 +55,13 @@ loop-less : tie.Need-loop-less Inv-loop μ-loop
 loop-less c = search needs
 
 loop-again : tie.Need-loop-again Inv-loop μ-loop
-loop-again c = let stepped = c .before .before .before .before .before .before in
+loop-again c =
+    let stepped = c .before .before .before .before .before in
     let top = stepped .before .before .before .before .before in (
       search needs,
       (
         step-kept _ _ _ _ _ _ _ (stepped .step .ensures) (top .loop .inv .1 .0),
-        step-more _ _ _ _ _ _ _ _ _ _ _ (stepped .before .request-at .ensures) (stepped .step .ensures) (c .before .stop-number .ensures)
-            (stepped .before .before .before .before .loop-test .taken) (c .if1 .left)
+        step-more _ _ _ _ _ _ _ _ _ _ (stepped .before .request-at .ensures) (stepped .step .ensures) (stepped .before .before .before .before .loop-test .taken) (c .if1 .left)
             ∙ top .loop .inv .1 .1,
       ),
     )
@@ -88,7 +85,6 @@ run-steps-spec =
     cast-request-at
     request-at-requires
     step-requires
-    stop-number-requires
     same-length
     same-length-2
     returns

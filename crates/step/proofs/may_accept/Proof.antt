@@ -1,12 +1,14 @@
--- `may_accept` meets its contract: test by test. Assumes nothing.
-use mathlib.Core.Path.{_≡_, sym, ap, _∙_}
+-- `may_accept` meets its contract: its first two tests are asked as one. Assumes nothing.
+use mathlib.Core.Path.{_≡_}
 use mathlib.Core.Bool.{Bool, true, false, not, _&&_}
+use mathlib.Core.List.{List}
+use Prim.Native.Nat.{ℕ}
 use lib.Dec.{eqb}
 use borrow.Author.Tests.{eq-eqb, ne-eqb}
-use Rattle.machine.specs.Machine.{psr, interruptsEnabled}
+use Rattle.machine.specs.Machine.{psr, interruptsEnabled, widthOf}
 use Rattle.machine.specs.Words.{machineOf}
-use Rattle.decide.specs.View.{view}
-use Rattle.step.specs.Interrupt.{mayAccept}
+use Rattle.decide.specs.View.{View, view, viewOf}
+use Rattle.step.specs.Interrupt.{isMulhi, mayAccept}
 use borrow.Author.Needs.{needs}
 use Rattle.step.proofs.may_accept.Statement.{statement}
 use Rattle.step.proofs.may_accept.Tie as tie
@@ -26,43 +28,35 @@ held-requires c κs = search needs
 next-is-mulhi-requires : tie.Need-next-is-mulhi-requires
 next-is-mulhi-requires c κs = search needs
 
--- IE, the slot and the product, as the definition asks them
+joined : (a b c t : Bool) → a && b ≡ t → t && c ≡ a && (b && c)
+joined true b c t e = rw e
+joined false b c t e = rw (← e)
 
-enabled : (c : tie.Then1) → interruptsEnabled (psr (machineOf (c .before .before .before .before .before .args .w .now))) ≡ true
-unfolding interruptsEnabled
-enabled c = rw (← (c .before .before .psr .ensures)) (sym (c .before .has-flag .ensures) ∙ c .if1 .taken)
+-- IE and the slot are asked as one
+abbrev entry : tie.After-slot → tie.Start
+entry c = c .before .before .before .before .before
 
-no-slot : (c : tie.Else2) → eqb (machineOf (c .before .before .before .before .before .before .before .args .w .now) .position .slot) 1 ≡ false
-no-slot c = rw (← (c .before .slot .ensures)) (ne-eqb _ 1 (c .if2 .left))
+abbrev seen : tie.After-slot → List ℕ → View
+seen c cells = viewOf (entry c .args .program .now) (entry c .args .w .now) cells
 
-holds : (c : tie.Then3) → eqb (machineOf (c .before .before .before .before .before .before .before .before .before .args .w .now) .position .held) 1 ≡ true
-holds c = rw (← (c .before .held .ensures)) (eq-eqb _ 1 (c .if3 .taken))
+first-two : (c : tie.After-slot) (cells : List ℕ) (t : Bool) → c .before .has-flag .result && not (eqb (c .slot .result) 1) ≡ t
+    → t && not (eqb (machineOf (entry c .args .w .now) .position .held) 1 && isMulhi (widthOf (seen c cells .status)) (seen c cells .fetched)) ≡ mayAccept (seen c cells)
+unfolding mayAccept view interruptsEnabled
+first-two c cells t e = rw (← (c .before .before .psr .ensures), ← (c .before .has-flag .ensures), ← (c .slot .ensures)) (joined (c .before .has-flag .result) (not (eqb (c .slot .result) 1)) _ t e)
 
 returns : tie.Need-returns
-unfolding mayAccept view
-returns c cells = rw (enabled (c .before .before), ← (c .before .slot .ensures), eq-eqb _ 1 (c .if2 .taken))
-
--- a held product waits for mulhi
-product : {enabled waits holds : Bool} (mulhi : Bool) → enabled ≡ true → waits ≡ false → holds ≡ true → not mulhi ≡ enabled && (not waits && not (holds && mulhi))
-product mulhi e w h = rw (e, w, h)
+unfolding view
+returns c cells =
+    let first = c .before .before .before in
+    rw (c .next-is-mulhi .ensures cells, ← (first-two (first .before) cells true (first .if1 .taken)), ← (c .before .before .held .ensures), eq-eqb _ 1 (c .before .if2 .taken))
 
 returns-2 : tie.Need-returns-2
-unfolding mayAccept view
 returns-2 c cells =
-    ap not (c .next-is-mulhi .ensures cells)
-    ∙ product _
-    (enabled (c .before .before .before .before .before))
-    (no-slot (c .before .before .before))
-    (holds (c .before))
+    let first = c .before .before in
+    rw (← (first-two (first .before) cells true (first .if1 .taken)), ← (c .before .held .ensures), ne-eqb _ 1 (c .if2 .left))
 
 returns-3 : tie.Need-returns-3
-unfolding mayAccept view
-returns-3 c cells =
-    rw (enabled (c .before .before .before .before), no-slot (c .before .before), ← (c .before .held .ensures), ne-eqb _ 1 (c .if3 .left))
-
-returns-4 : tie.Need-returns-4
-unfolding mayAccept view interruptsEnabled
-returns-4 c cells = rw (← (c .before .before .psr .ensures), ← (c .before .has-flag .ensures), c .if1 .left)
+returns-3 c cells = first-two (c .before) cells false (c .if1 .left)
 
 pub may-accept-spec : {M : Type 1} → statement M
 may-accept-spec =
@@ -75,5 +69,4 @@ may-accept-spec =
     next-is-mulhi-requires
     returns
     returns-2
-    returns-3
-    returns-4)
+    returns-3)

@@ -1,12 +1,12 @@
 -- `step` meets its contract: by its two ways. Assumes nothing.
-use mathlib.Core.Path.{_≡_, sym, ap, _∙_}
+use mathlib.Core.Path.{_≡_, ap}
 use mathlib.Core.Option.{Option, none, some}
 use Prim.Native.Nat.{ℕ}
 use Rattle.machine.specs.Machine.{Machine, State}
 use Rattle.machine.specs.Words.{machineOf}
 use Rattle.image.proofs.Formed.{stacked-distinct, WellFormed, formed-true, true-formed}
 use Rattle.decide.specs.View.{view}
-use Rattle.apply.specs.Apply.{stateOf}
+use Rattle.apply.specs.Apply.{stateOf, effectOn}
 use Rattle.apply.proofs.Service.{stack-shown}
 use Rattle.step.specs.Interrupt.{withPending, withRequests, acceptedSource}
 use Rattle.step.proofs.Accepted.{source-accepted}
@@ -17,12 +17,16 @@ use borrow.Author.Needs.{needs}
 use Rattle.step.proofs.step.Statement.{statement}
 use Rattle.step.proofs.step.Tie as tie
 
--- the places that the answers name: the entry, as seen from after the requests, and that place, as seen from where the source is known
+-- the places that the answers name: the entry, as seen from after the requests; that place, as seen from where the source is known; and where none
+-- is accepted, as seen from after the instruction
 abbrev entry : tie.After-add-requests → tie.Start
 entry c = c .before .before .before .before .before .before .before
 
 abbrev asked : tie.After-accepted-source → tie.After-add-requests
 asked c = c .before .before .before .before
+
+abbrev left : tie.After-execute → tie.Else1
+left c = c .before .before .before
 
 -- the state before the step, and the state with its requests
 abbrev start : tie.Start → State
@@ -77,16 +81,10 @@ returns c =
     rw (c .before .before .accept .ensures)
     (step-accepts (s .args .program .now) (start s) (s .args .requests) (requested a) (added a) (taken .before .accepted-source .result) (accepted taken))
 
-decide-requires : tie.Need-decide-requires
-decide-requires c κs = search needs
-
-apply-requires : tie.Need-apply-requires
-apply-requires c κs =
-    let f = formed (c .before .before .before .before .before .before .before .before .before .before) in
-    (search needs, stack-shown (f .served) (f .return-address) (f .return-status) (f .return-flags) (stacked-distinct (f .stack)))
-
-is-stop-requires : tie.Need-is-stop-requires
-is-stop-requires c κs = search needs
+execute-requires : tie.Need-execute-requires
+execute-requires c κs =
+    let f = formed (asked (c .before .before .before)) in
+    (search needs, search needs, stack-shown (f .served) (f .return-address) (f .return-status) (f .return-flags) (stacked-distinct (f .stack)))
 
 set-control-requires : tie.Need-set-control-requires
 set-control-requires c κs = search needs
@@ -98,16 +96,14 @@ same-length-3 : tie.Need-same-length-3
 same-length-3 c = search needs
 
 returns-2 : tie.Need-returns-2
-unfolding withPending
+unfolding withPending effectOn
 returns-2 c =
     let stopped = c .before .before .before .before in
-    let applied = stopped .before .before .before .before .before .before in
-    let left = applied .before .before .before .before .before .before in
-    let a = asked (left .before) in
+    let e = stopped .before .before .before .before .before in
+    let a = asked (left e .before) in
     let s = entry a in
     rw (c .before .before .set-control .ensures, a .before .before .control .ensures)
-    (step-stops (s .args .program .now) (start s) (s .args .requests) (requested a) (added a) _ _ (refused left) (applied .before .before .before .decide .ensures) (applied .apply .ensures)
-    (sym (stopped .before .is-stop .ensures) ∙ stopped .if2 .taken))
+    (step-stops (s .args .program .now) (start s) (s .args .requests) (requested a) (added a) _ (refused (left e)) (e .execute .ensures) (stopped .if2 .taken))
 
 same-length-4 : tie.Need-same-length-4
 same-length-4 c = search needs
@@ -116,13 +112,12 @@ same-length-5 : tie.Need-same-length-5
 same-length-5 c = search needs
 
 returns-3 : tie.Need-returns-3
+unfolding effectOn
 returns-3 c =
-    let applied = c .before .before .before .before .before .before in
-    let left = applied .before .before .before .before .before .before in
-    let a = asked (left .before) in
+    let e = c .before .before .before .before .before in
+    let a = asked (left e .before) in
     let s = entry a in
-    step-goes-on (s .args .program .now) (start s) (s .args .requests) (requested a) (added a) _ _ (refused left) (applied .before .before .before .decide .ensures) (applied .apply .ensures)
-    (sym (c .before .is-stop .ensures) ∙ c .if2 .left)
+    step-goes-on (s .args .program .now) (start s) (s .args .requests) (requested a) (added a) _ (refused (left e)) (e .execute .ensures) (c .if2 .left)
 
 pub step-spec : {M : Type 1} → statement M
 step-spec =
@@ -134,9 +129,7 @@ step-spec =
     accept-requires
     same-length
     returns
-    decide-requires
-    apply-requires
-    is-stop-requires
+    execute-requires
     set-control-requires
     same-length-2
     same-length-3

@@ -1,0 +1,75 @@
+-- The numbers of stops: 11 to 15 (01 "One step"), so that 0 tells a step. Assumes nothing.
+use mathlib.Core.Path.{_≡_, refl, sym}
+use mathlib.Core.Bool.{true, false, true≢false}
+use mathlib.Core.List.{List}
+use mathlib.Core.Option.{Option, none, some}
+use Prim.Native.Nat.{ℕ, _≤_}
+use native.Mathlib.Omega.{arith}
+use Rattle.word.proofs.Tests.{false-unless}
+use Rattle.machine.specs.Machine.{State}
+use Rattle.decide.specs.View.{View, view}
+use Rattle.decide.specs.Decide.{decide}
+use Rattle.decide.specs.Effect.{Effect}
+use Rattle.decide.specs.Effect.{Stopped, Raised, Next, Result, ResultFlags, ResultProduct, Compare, Conditions, StoreControl, StoreCell, Jump, JumpLink, EnableInterrupts, SwitchWidth, SystemCall, InterruptReturn, UserReturn, SelectSets}
+use Rattle.apply.specs.Apply.{Transition, machineOnly, storeCell, apply, stopNumber}
+use Rattle.apply.specs.Kind.{Kind}
+use Rattle.apply.specs.Kind as kind
+use Rattle.step.specs.Interrupt.{withRequests, acceptedSource}
+use Rattle.step.specs.Step.{isStop, interruptOr, step}
+use Rattle.step.proofs.Safe.{Safe, decide-safe}
+
+-- a stop's number is one of the five
+abbrev Numbered : Kind → Type 0
+Numbered k = isStop k ≡ true → (11 ≤ stopNumber k) × (stopNumber k ≤ 15)
+
+-- a number other than 0 is a stop's
+pub numbered-stop : (k : Kind) → (stopNumber k ≡ 0 → ⊥) → isStop k ≡ true
+unfolding stopNumber isStop
+numbered-stop kind.Ordinary h = absurd (h refl)
+numbered-stop kind.Interrupt h = absurd (h refl)
+numbered-stop kind.SystemCall h = absurd (h refl)
+numbered-stop kind.InterruptReturn h = absurd (h refl)
+numbered-stop (kind.Exception c) h = absurd (h refl)
+numbered-stop (kind.Stop n) h = refl
+
+-- 0 is no stop's
+pub numbered-step : (k : Kind) → Numbered k → stopNumber k ≡ 0 → isStop k ≡ false
+numbered-step k h z = false-unless _ (λ b. let n = h b in omega arith)
+
+none-stops : {A : Type 0} → false ≡ true → A
+none-stops e = absurd (true≢false (sym e))
+
+effect-numbered : (v : View) (s : State) (e : Effect) → Safe v e → Numbered (apply e s .kind)
+unfolding apply machineOnly storeCell isStop stopNumber
+effect-numbered v s (Stopped n) h e = h
+effect-numbered v s (Raised c) h e = none-stops e
+effect-numbered v s Next h e = none-stops e
+effect-numbered v s (Result d x) h e = none-stops e
+effect-numbered v s (ResultFlags d x f) h e = none-stops e
+effect-numbered v s (ResultProduct d x y) h e = none-stops e
+effect-numbered v s (Compare c f) h e = none-stops e
+effect-numbered v s (Conditions x) h e = none-stops e
+effect-numbered v s (StoreControl n x) h e = none-stops e
+effect-numbered v s (StoreCell a x) h e = none-stops e
+effect-numbered v s (Jump t) h e = none-stops e
+effect-numbered v s (JumpLink t) h e = none-stops e
+effect-numbered v s (EnableInterrupts b) h e = none-stops e
+effect-numbered v s (SwitchWidth w) h e = none-stops e
+effect-numbered v s SystemCall h e = none-stops e
+effect-numbered v s InterruptReturn h e = none-stops e
+effect-numbered v s UserReturn h e = none-stops e
+effect-numbered v s (SelectSets n) h e = none-stops e
+
+-- what an instruction tells
+pub instruction-numbered : (v : View) (s : State) → Numbered (apply (decide v) s .kind)
+instruction-numbered v s = effect-numbered v s (decide v) (decide-safe v)
+
+taken-numbered : (v : View) (o : Option ℕ) (s : State) → Numbered (interruptOr v o s .kind)
+unfolding interruptOr machineOnly isStop stopNumber
+taken-numbered v none s = instruction-numbered v s
+taken-numbered v (some n) s = none-stops
+
+-- what a step tells
+pub stop-number : (p : List ℕ) (s : State) (q : ℕ) → Numbered (step p s q .kind)
+unfolding step
+stop-number p s q = let r = withRequests q s in taken-numbered (view p r) (acceptedSource (view p r) (r .machine)) r
