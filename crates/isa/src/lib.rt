@@ -295,7 +295,13 @@ pub fn decode_registers(word: u32, wide: bool, op: u32) -> Instruction
     if wide {
         assembled(word, wide, op, is_conditional(op), wide_registers(op, word))
     } else {
-        assembled(word, wide, op, is_conditional(op), narrow_registers(op, word))
+        assembled(
+            word,
+            wide,
+            op,
+            is_conditional(op),
+            narrow_registers(op, word),
+        )
     }
 }
 
@@ -307,7 +313,13 @@ pub fn decode_immediate(word: u32, wide: bool, op: u32) -> Instruction
     if wide {
         assembled(word, wide, op, is_conditional(op), wide_immediate(op, word))
     } else {
-        assembled(word, wide, op, is_conditional(op), narrow_immediate(op, word))
+        assembled(
+            word,
+            wide,
+            op,
+            is_conditional(op),
+            narrow_immediate(op, word),
+        )
     }
 }
 

@@ -58,7 +58,7 @@ returns-2 c p =
     let cells = now (entry d .args .cells) in
     c .before .before .before .before .access .ensures p _
     ∙ sym (low-performed p _ cells (given d) (omega arith) (sym (left .before .condition-false .ensures p cells) ∙ left .if1 .left)
-      _ _ (read .source .ensures p cells) refl)
+    _ _ (read .source .ensures p cells) refl)
 
 pub access-word-spec : {M : Type 1} → statement M
 access-word-spec =

@@ -51,7 +51,7 @@ returns-2 c p cells =
     let left = read .before .before in
     c .before .before .immediates .ensures _ _ cells
     ∙ sym (low-performed p _ cells (given (left .before .before .before)) (omega arith) (sym (left .before .condition-false .ensures p cells) ∙ left .if1 .left)
-      _ _ (read .source .ensures p cells) refl)
+    _ _ (read .source .ensures p cells) refl)
 
 pub immediate-word-spec : {M : Type 1} → statement M
 immediate-word-spec =

@@ -42,7 +42,7 @@ unfolding effectOn told stopNumber apply
 returns c p cells =
     let s = c .before .before .before .before in
     sym (word-in-slot p _ cells (decoded-word (now (s .args .w)) _ _ (s .pre .2)) (usable-jump _ _ (s .args .op) (omega arith) (omega arith))
-      (rw (transfers (s .args .op) (omega arith) (omega arith), ← (c .before .slot .ensures), c .if1 .taken)))
+    (rw (transfers (s .args .op) (omega arith) (omega arith), ← (c .before .slot .ensures), c .if1 .taken)))
 
 wide-words-requires : tie.Need-wide-words-requires
 wide-words-requires c κs = search needs
@@ -86,7 +86,7 @@ returns-3 c p cells =
     let d = left .before .before .before in
     c .before .before .jumps .ensures p cells _
     ∙ sym (word-performed p _ cells (given d) (usable d) (stays d) (sym (left .before .condition-false .ensures p cells) ∙ left .if2 .left)
-      _ _ (read .source .ensures p cells) refl)
+    _ _ (read .source .ensures p cells) refl)
 
 pub jump-word-spec : {M : Type 1} → statement M
 jump-word-spec =

@@ -86,7 +86,7 @@ returns-3 c p cells =
     let free = d .before .before .before in
     c .before .before .moves .ensures p cells
     ∙ sym (word-performed p _ cells (given d) (sym (free .before .unavailability .ensures) ∙ free .if1 .left) (stays d) (sym (left .before .condition-false .ensures p cells) ∙ left .if2 .left)
-      _ _ (read .before .before .source .ensures p cells) (read .source2 .ensures p cells))
+    _ _ (read .before .before .source .ensures p cells) (read .source2 .ensures p cells))
 
 pub move-word-spec : {M : Type 1} → statement M
 move-word-spec =

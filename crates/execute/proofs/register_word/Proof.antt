@@ -54,7 +54,7 @@ returns-2 c p cells =
     let left = read .before .before .before .before in
     c .before .before .registers .ensures _ cells
     ∙ sym (low-performed p _ cells (given (left .before .before .before)) (omega arith) (sym (left .before .condition-false .ensures p cells) ∙ left .if1 .left)
-      _ _ (read .before .before .source .ensures p cells) (read .source2 .ensures p cells))
+    _ _ (read .before .before .source .ensures p cells) (read .source2 .ensures p cells))
 
 pub register-word-spec : {M : Type 1} → statement M
 register-word-spec =

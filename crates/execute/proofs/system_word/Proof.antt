@@ -60,7 +60,7 @@ returns-2 c p cells =
     let free = c .before .before .before .before in
     let s = c .before .before .before .before .before .before .before .before in
     sym (word-in-slot p _ cells (decoded-word (now (s .args .w)) _ _ (s .pre .2)) (sym (free .before .unavailability .ensures) ∙ free .if1 .left)
-      (rw (← (c .before .before .before .is-transfer .ensures), ← (c .before .slot .ensures)) (c .if2 .taken)))
+    (rw (← (c .before .before .before .is-transfer .ensures), ← (c .before .slot .ensures)) (c .if2 .taken)))
 
 wide-words-requires : tie.Need-wide-words-requires
 wide-words-requires c κs = search needs
@@ -104,7 +104,7 @@ returns-4 c p cells =
     let d = left .before .before .before in
     c .before .before .system .ensures p cells _
     ∙ sym (word-performed p _ cells (given d) (usable d) (stays d) (sym (left .before .condition-false .ensures p cells) ∙ left .if3 .left)
-      _ _ (read .source .ensures p cells) refl)
+    _ _ (read .source .ensures p cells) refl)
 
 pub system-word-spec : {M : Type 1} → statement M
 system-word-spec =
