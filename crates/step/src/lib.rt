@@ -53,10 +53,8 @@ fn add_requests(w: &mut [u32], requests: u32)
     requires { ⌜ (length (now w) ≡ WORDS) × (wellFormed (machineOf (now w)) ≡ true) ⌝ }
     ensures { λ _. ⌜ machineOf (now (w .exit)) ≡ addRequests requests (machineOf (now (w .entry))) ⌝ }
 {
-    if requests != 0 {
-        let flags = word::or(machine::control(w, INT_PEND), requests);
-        machine::set_control(w, INT_PEND, flags % 4096);
-    }
+    let flags = word::or(machine::control(w, INT_PEND), requests);
+    machine::set_control(w, INT_PEND, flags % 4096);
 }
 
 // ---- which source is accepted
@@ -78,6 +76,9 @@ fn most_urgent(w: &[u32], flags: u32, bound: u32) -> u32
     requires { ⌜ length (now w) ≡ WORDS ⌝ }
     ensures { λ r. ⌜ r ≡ sourceNumber (mostUrgent flags bound (machineOf (now (w .entry))) 12) ⌝ }
 {
+    if flags == 0 {
+        return SOURCES;
+    }
     let mut best = SOURCES;
     let mut floor = bound;
     for n in 0..SOURCES {

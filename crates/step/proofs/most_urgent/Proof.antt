@@ -1,4 +1,4 @@
--- `most_urgent` meets its contract: after n turns the best of the sources below n, and its priority number. Assumes nothing.
+-- `most_urgent` meets its contract: after n turns the best of the sources below n, and its priority number; with no flags none. Assumes nothing.
 use mathlib.Core.Path.{_≡_, refl, sym, ap, _∙_}
 use mathlib.Core.Logic.{⊎-elim}
 use mathlib.Core.Option.{Option, some}
@@ -8,7 +8,7 @@ use native.Mathlib.Numerals.{add-one}
 use Rattle.machine.specs.Machine.{Machine}
 use Rattle.machine.specs.Words.{machineOf}
 use Rattle.step.specs.Search.{sourceNumber, priorityOr, mostUrgent}
-use Rattle.step.proofs.Urgency.{more-urgent, less-urgent, no-flag}
+use Rattle.step.proofs.Urgency.{more-urgent, less-urgent, no-flag, none-urgent}
 use borrow.Author.Needs.{needs}
 use Rattle.step.proofs.most_urgent.Statement.{statement}
 use Rattle.step.proofs.most_urgent.Tie as tie
@@ -20,6 +20,12 @@ Inv-loop w flags bound best₀ floor₀ n₀ best floor n =
 
 abbrev μ-loop : tie.MeasureT-loop
 μ-loop w flags bound best₀ floor₀ n₀ best floor n = 12 - n
+
+returns : tie.Need-returns Inv-loop μ-loop
+unfolding sourceNumber
+returns c =
+    let s = c .before .before .args in
+    rw (c .if1 .taken, none-urgent (s .bound) (machineOf (s .w .now)) 12)
 
 loop-holds : tie.Need-loop-holds Inv-loop μ-loop
 unfolding mostUrgent sourceNumber priorityOr
@@ -46,11 +52,11 @@ loop-again : tie.Need-loop-again Inv-loop μ-loop
 unfolding sourceNumber priorityOr
 loop-again c =
     let l = c .before .before .before .loop in
-    let s = c .before .before .before .before .before .args in
+    let s = c .before .before .before .before .before .before .args in
     let m = machineOf (s .w .now) in
     let best = mostUrgent (s .flags) (s .bound) m (l .n) in
     let flag = sym (c .before .has-flag .ensures) in
-    let turn = next (s .flags) (s .bound) m (l .n) (c .if1 .best) (c .if1 .floor) in
+    let turn = next (s .flags) (s .bound) m (l .n) (c .if2 .best) (c .if2 .floor) in
     ⊎-elim
     (λ t.
     let nearer = more-urgent (s .flags) (s .bound) m (l .n) (flag ∙ t .0 .taken) (omega (arith, t .1 .ensures, t .2 .taken, l .inv .1 .1)) in
@@ -62,12 +68,12 @@ loop-again c =
     (λ t.
     let without = no-flag (s .flags) (s .bound) m (l .n) (flag ∙ t .0 .left) in
     turn best (omega arith) without (t .1 ∙ l .inv .1 .0) (t .2 ∙ l .inv .1 .1)))
-    (c .if1 .came)
+    (c .if2 .came)
 
-returns : tie.Need-returns Inv-loop μ-loop
-returns c =
+returns-2 : tie.Need-returns-2 Inv-loop μ-loop
+returns-2 c =
     let l = c .before .loop in
-    let s = c .before .before .before .args in
+    let s = c .before .before .before .before .args in
     let all : l .n ≡ 12 = omega arith in
     l .inv .1 .0 ∙ ap (λ (k : ℕ). sourceNumber (mostUrgent (s .flags) (s .bound) (machineOf (s .w .now)) k)) all
 
@@ -77,10 +83,11 @@ most-urgent-spec =
     (tie.spec
     Inv-loop
     μ-loop
+    returns
     loop-holds
     has-flag-requires
     priority-requires
     add-n
     loop-less
     loop-again
-    returns)
+    returns-2)
