@@ -1,18 +1,18 @@
 -- The bytes of an instruction word: which are protected, which are there. Assumes nothing.
-use mathlib.Core.Path.{_≡_, refl, sym}
-use mathlib.Core.Bool.{Bool, true, false, _&&_}
+use mathlib.Core.Path.{_≡_, refl, sym, ap, _∙_}
+use mathlib.Core.Bool.{Bool, true, false, not, _&&_, _||_, and-false, true≢false}
 use mathlib.Core.List.{List, [], _∷_}
 use mathlib.Core.Option.{none, some}
-use Prim.Native.Nat.{ℕ, zero, suc, _+_, _-_, _*_, _%_, _^_, _≤_, _<_}
+use Prim.Native.Nat.{ℕ, zero, suc, _+_, _-_, _*_, _/_, _%_, _^_, _≤_, _<_}
 use native.Mathlib.Nat.{zero-mul, zero-add}
 use native.Mathlib.Numerals.{towards-suc}
 use native.Mathlib.Omega.{arith}
-use lib.Dec.{leb, ltb}
+use lib.Dec.{leb, ltb, eqb}
 use lib.ListN.{length, getD, getElem?}
-use borrow.Author.Tests.{leb-true, leb-false, le-leb, lt-leb, ltb-true, ltb-false}
+use borrow.Author.Tests.{leb-true, leb-false, le-leb, lt-leb, ltb-true, ltb-false, eqb-true, eqb-false, eq-eqb, ne-eqb}
 use Rattle.word.specs.Choice.{if_then_else_}
 use Rattle.codec.specs.Number.{numberAt}
-use Rattle.isa.specs.Operation.{Width, w16, w32}
+use Rattle.isa.specs.Operation.{Width, w16, w32, widthBy}
 use Rattle.isa.specs.Decode.{bytesOf}
 use Rattle.machine.specs.Control.{within}
 use Rattle.decide.specs.View.{anyWithin, byteThen, bytesAt, fetchAt}
@@ -51,7 +51,7 @@ above-bounds low high x h = rw (lt-leb x high h) (either (leb low x))
     either false = refl
 
 -- one of n addresses is within bounds exactly where the two ranges overlap
-pub overlap : (low high a n : ℕ) → 0 < n → (leb low high && leb low (a + (n - 1))) && leb a high ≡ anyWithin low high a n
+overlap : (low high a n : ℕ) → 0 < n → (leb low high && leb low (a + (n - 1))) && leb a high ≡ anyWithin low high a n
 overlap low high a zero p = absurd (omega arith)
 overlap low high a (suc n) p = go (leb low high) refl (leb low (a + (suc n - 1))) refl (leb a high) refl
   where
@@ -74,6 +74,42 @@ overlap low high a (suc n) p = go (leb low high) refl (leb low (a + (suc n - 1))
         apart : (x : ℕ) (b : Bool) → ltb x low ≡ b → within low high x ≡ false
         apart x true t = below-bounds low high x (ltb-true x low t)
         apart x false t = let k = ltb-false x low t in let h = leb-false low high e in above-bounds low high x (omega arith)
+
+-- past the upper bound none is within; below it the code's test says whether the ranges overlap
+pub overlap-past : (user : Bool) (low high a n : ℕ) → 0 < n → high < a → false ≡ user && anyWithin low high a n
+overlap-past user low high a n p h = rw (← (overlap low high a n p), lt-leb a high h, and-false (leb low high && leb low (a + (n - 1)))) (sym (and-false user))
+
+pub overlap-test : (user : Bool) (low high a n : ℕ) → 0 < n → a ≤ high → (user && leb low (a + (n - 1))) && leb low high ≡ user && anyWithin low high a n
+overlap-test user low high a n p h = rw (← (overlap low high a n p), le-leb a high h) (go user (leb low high) (leb low (a + (n - 1))))
+  where
+    go : (u b c : Bool) → (u && c) && b ≡ u && ((b && c) && true)
+    go true true true = refl
+    go true true false = refl
+    go true false true = refl
+    go true false false = refl
+    go false b c = refl
+
+-- ---- alignment
+
+-- by the lowest two bits
+pub alignment : (wide : Bool) (a : ℕ) → eqb (a % 2) 1 || (eqb (a / 2 % 2) 1 && wide) ≡ not (eqb (a % bytesOf (widthBy wide)) 0)
+unfolding bytesOf widthBy
+alignment wide a = go wide (eqb (a % 2) 1) refl (eqb (a / 2 % 2) 1) refl
+  where
+    go : (wide : Bool) (b : Bool) → eqb (a % 2) 1 ≡ b → (c : Bool) → eqb (a / 2 % 2) 1 ≡ c → b || (c && wide) ≡ not (eqb (a % bytesOf (widthBy wide)) 0)
+    go true true e c f = let k = eqb-true (a % 2) 1 e in rw (ne-eqb (a % 4) 0 (λ z. omega arith))
+    go true false e true f = let k = eqb-true (a / 2 % 2) 1 f in rw (ne-eqb (a % 4) 0 (λ z. omega arith))
+    go true false e false f = let k = eqb-false (a % 2) 1 e in let l = eqb-false (a / 2 % 2) 1 f in rw (eq-eqb (a % 4) 0 (omega arith))
+    go false true e c f = let k = eqb-true (a % 2) 1 e in rw (ne-eqb (a % 2) 0 (λ z. omega arith))
+    go false false e c f = let k = eqb-false (a % 2) 1 e in rw (eq-eqb (a % 2) 0 (omega arith), and-false c)
+
+-- what is not misaligned is aligned
+pub aligned-at : (n a : ℕ) (r : Bool) → r ≡ not (eqb (a % n) 0) → r ≡ false → a % n ≡ 0
+aligned-at n a r e f = go (eqb (a % n) 0) refl
+  where
+    go : (b : Bool) → eqb (a % n) 0 ≡ b → a % n ≡ 0
+    go true t = eqb-true (a % n) 0 t
+    go false t = absurd (true≢false (sym (e ∙ ap not t) ∙ f))
 
 -- ---- presence
 

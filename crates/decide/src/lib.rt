@@ -15,6 +15,7 @@ pub use memory::cell;
 pub use memory::place as place_at;
 pub use program::closed;
 pub use program::fetch;
+pub use program::misaligned;
 pub use program::word_bytes;
 
 // Bits of PSR (002 section 2.4): user mode, registers read from set 2, registers written in set 2, 32-bit words.

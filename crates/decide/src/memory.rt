@@ -19,15 +19,9 @@ fn guarded(w: &[u32], user: bool, a: u32) -> bool
     requires { ⌜ length (now w) ≡ WORDS ⌝ }
     ensures { λ r. ⌜ r ≡ user && within (controlAt (machineOf (now (w .entry))) DMEM-BOUND-LO) (controlAt (machineOf (now (w .entry))) DMEM-BOUND-HI) a ⌝ }
 {
-    if user {
-        machine::protected(
-            machine::control(w, DMEM_BOUND_LO),
-            machine::control(w, DMEM_BOUND_HI),
-            a,
-        )
-    } else {
-        false
-    }
+    let low = machine::control(w, DMEM_BOUND_LO);
+    let high = machine::control(w, DMEM_BOUND_HI);
+    user & machine::protected(low, high, a)
 }
 
 // Whether a is one of the control block's 256 addresses.

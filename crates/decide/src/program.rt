@@ -1,9 +1,10 @@
 // Program memory: its protection, and the fetch of an instruction word.
 ghost use mathlib.Core.Path.{_≡_};
-ghost use mathlib.Core.Bool.{_&&_};
+ghost use mathlib.Core.Bool.{not, _&&_};
 ghost use mathlib.Core.List.{List};
-ghost use Prim.Native.Nat.{ℕ, _+_, _^_, _≤_, _<_};
+ghost use Prim.Native.Nat.{ℕ, _+_, _%_, _^_, _≤_, _<_};
 ghost use lib.ListN.{length};
+ghost use lib.Dec.{eqb};
 ghost use Rattle.isa.specs.Operation.{widthBy};
 ghost use Rattle.isa.specs.Decode.{bytesOf};
 ghost use Rattle.machine.specs.Control.{controlAt, IMEM-BOUND-LO, IMEM-BOUND-HI};
@@ -25,22 +26,25 @@ pub fn word_bytes(wide: bool) -> u32
     if wide { 4 } else { 2 }
 }
 
-// Whether one of the n addresses from a on is within bounds: the two ranges overlap.
-fn any_within(low: u32, high: u32, a: u32, n: u32) -> bool
-    requires { ⌜ (0 < n) × (a + n ≤ 2 ^ 32) ⌝ }
-    ensures { λ r. ⌜ r ≡ anyWithin low high a n ⌝ }
-{
-    (low <= high) & (low <= a + (n - 1)) & (a <= high)
-}
-
-// Whether one of the n program bytes from a on is protected from the mode.
+// Whether one of the n program bytes from a on is protected from the mode: the two ranges overlap.
 pub fn closed(w: &[u32], user: bool, a: u32, n: u32) -> bool
     requires { ⌜ (length (now w) ≡ WORDS) × (0 < n) × (a + n ≤ 2 ^ 32) ⌝ }
     ensures { λ r. ⌜ r ≡ user && anyWithin (controlAt (machineOf (now (w .entry))) IMEM-BOUND-LO) (controlAt (machineOf (now (w .entry))) IMEM-BOUND-HI) a n ⌝ }
 {
     let low = machine::control(w, IMEM_BOUND_LO);
     let high = machine::control(w, IMEM_BOUND_HI);
-    user & any_within(low, high, a, n)
+    if a <= high {
+        user & (low <= a + (n - 1)) & (low <= high)
+    } else {
+        false
+    }
+}
+
+// Whether a is not the address of an instruction word.
+pub fn misaligned(wide: bool, a: u32) -> bool
+    ensures { λ r. ⌜ r ≡ not (eqb (a % bytesOf (widthBy wide)) 0) ⌝ }
+{
+    (a % 2 == 1) | (a / 2 % 2 == 1) & wide
 }
 
 // The bytes of the instruction word at an address, if all are there.
@@ -70,7 +74,7 @@ pub fn fetch(program: &[u8], w: &[u32]) -> Fetched
     let pc = machine::pc(w);
     let wide = word::has_flag(psr, IL);
     let n = word_bytes(wide);
-    if pc % n != 0 {
+    if misaligned(wide, pc) {
         Fetched::Fault(0x05)
     } else if closed(w, word::has_flag(psr, UM), pc, n) {
         Fetched::Fault(0x00)

@@ -21,11 +21,12 @@ fn jumped(w: &mut [u32], target: i64, link: bool) -> u32
     ensures { λ r. ⌜ ((p cells : List ℕ) → toldBy r (now (w .exit)) cells ≡ effectOn (jumped (viewOf p (now (w .entry)) cells) target (if link then JumpLink else Jump)) (now (w .entry)) cells) ⌝ }
 {
     let psr = machine::psr(w);
-    let n = decide::word_bytes(word::has_flag(psr, IL));
+    let wide = word::has_flag(psr, IL);
+    let n = decide::word_bytes(wide);
     let t = word::low_word(target);
     if !word::is_address(target) {
         apply::raise(w, 0x04)
-    } else if t % n != 0 {
+    } else if decide::misaligned(wide, t) {
         apply::raise(w, 0x03)
     } else if decide::closed(w, word::has_flag(psr, UM), t, n) {
         apply::raise(w, 0x09)

@@ -1,4 +1,4 @@
--- `decide::memory::guarded` meets its contract: by the mode. Assumes nothing.
+-- `decide::memory::guarded` meets its contract: by the bounds that it reads. Assumes nothing.
 use borrow.Author.Needs.{needs}
 use Rattle.decide.proofs.memory.guarded.Statement.{statement}
 use Rattle.decide.proofs.memory.guarded.Tie as tie
@@ -13,10 +13,7 @@ protected-requires : tie.Need-protected-requires
 protected-requires c κs = search needs
 
 returns : tie.Need-returns
-returns c = simp (c .protected .ensures, c .before .before .control .ensures, c .before .control2 .ensures, c .before .before .before .if1 .taken)
-
-returns-2 : tie.Need-returns-2
-returns-2 c = simp (c .if1 .left)
+returns c = rw (c .protected .ensures, c .before .before .control .ensures, c .before .control2 .ensures)
 
 pub guarded-spec : {M : Type 1} → statement M
-guarded-spec = tie.close (tie.spec control-requires control-requires-2 protected-requires returns returns-2)
+guarded-spec = tie.close (tie.spec control-requires control-requires-2 protected-requires returns)

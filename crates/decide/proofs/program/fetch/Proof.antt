@@ -1,12 +1,19 @@
 -- `decide::program::fetch` meets its contract: test by test. Assumes nothing.
+use mathlib.Core.Path.{_≡_}
+use mathlib.Core.Bool.{_&&_}
+use mathlib.Core.List.{List}
+use Prim.Native.Nat.{ℕ}
 use native.Mathlib.Omega.{arith}
+use denote.Ref.{now}
 use borrow.Author.Needs.{needs}
-use borrow.Author.Tests.{eq-eqb, ne-eqb}
 use Rattle.word.specs.Choice.{if_then_else_}
 use Rattle.isa.specs.Operation.{widthBy}
-use Rattle.machine.specs.Machine.{userMode, wideWords, widthOf}
-use Rattle.decide.specs.View.{fetchAt, view}
-use Rattle.decide.proofs.Bytes.{bytes-positive, aligned-fits}
+use Rattle.machine.specs.Machine.{Machine, userMode, wideWords, widthOf}
+use Rattle.machine.specs.Control.{controlAt, IMEM-BOUND-LO, IMEM-BOUND-HI}
+use Rattle.machine.specs.Words.{machineOf}
+use Rattle.decide.specs.View.{View, anyWithin, bytesAt, fetchAt, view, viewOf}
+use Rattle.decide.specs.declared.Fetched.the-variants.{Fault}
+use Rattle.decide.proofs.Bytes.{bytes-positive, aligned-fits, aligned-at}
 use Rattle.decide.proofs.program.fetch.Statement.{statement}
 use Rattle.decide.proofs.program.fetch.Tie as tie
 
@@ -22,57 +29,68 @@ has-flag-requires c κs = search needs
 word-bytes-requires : tie.Need-word-bytes-requires
 word-bytes-requires c κs = search needs
 
-rem-if1 : tie.Need-rem-if1
-rem-if1 c = omega (arith, c .word-bytes .ensures, bytes-positive (widthBy (c .before .has-flag .result)))
+misaligned-requires : tie.Need-misaligned-requires
+misaligned-requires c κs = search needs
 
 has-flag-requires-2 : tie.Need-has-flag-requires-2
 has-flag-requires-2 c κs = search needs
 
 closed-requires : tie.Need-closed-requires
-closed-requires c κs = omega (arith, c .before .before .word-bytes .ensures, bytes-positive (widthBy (c .before .before .before .has-flag .result)), aligned-fits (widthBy (c .before .before .before .has-flag .result)) (c .before .before .word-bytes .result) (c .before .before .before .before .pc .result) (c .before .before .word-bytes .ensures) (omega arith) (c .before .if1 .left))
+closed-requires c κs =
+    let tested = c .before .before in
+    let wide = widthBy (tested .before .before .has-flag .result) in
+    let n = tested .before .word-bytes in
+    let even = aligned-at _ _ _ (tested .misaligned .ensures) (c .before .if1 .left) in
+    (search needs, rw (n .ensures) (bytes-positive wide), aligned-fits wide _ _ (n .ensures) (omega arith) (rw (n .ensures) even))
 
 word-at-requires : tie.Need-word-at-requires
 word-at-requires c κs = search needs
 
-returns : tie.Need-returns
-unfolding view fetchAt userMode wideWords widthOf if_then_else_
-returns c cells =
-    simp (
-      ← (c .before .before .before .before .psr .ensures),
-      ← (c .before .before .before .pc .ensures),
-      ← (c .before .before .has-flag .ensures),
-      ← (c .before .word-bytes .ensures),
-      ne-eqb _ _ (c .if1 .taken),
+-- with the bits of PSR as they were read
+asked : (c : tie.After-misaligned) (cells : List ℕ)
+    → let s = c .before .before .before .before .before .before .before in
+    let m = machineOf (now (s .args .w)) in
+    viewOf (now (s .args .program)) (now (s .args .w)) cells .fetched
+    ≡ if c .misaligned .result then Fault 0x05
+    else if userMode (c .before .before .before .before .psr .result) && anyWithin (controlAt m IMEM-BOUND-LO) (controlAt m IMEM-BOUND-HI) (c .before .before .before .pc .result) (c .before .word-bytes .result) then Fault 0x00
+    else bytesAt (now (s .args .program)) (c .before .word-bytes .result) (c .before .before .before .pc .result) 0
+unfolding view fetchAt wideWords widthOf
+asked c cells =
+    rw (
+      c .misaligned .ensures,
+      c .before .word-bytes .ensures,
+      c .before .before .has-flag .ensures,
+      c .before .before .before .pc .ensures,
+      c .before .before .before .before .psr .ensures,
     )
 
+returns : tie.Need-returns
+unfolding if_then_else_
+returns c cells = rw (asked (c .before) cells, c .if1 .taken)
+
 returns-2 : tie.Need-returns-2
-unfolding view fetchAt userMode wideWords widthOf if_then_else_
+unfolding userMode if_then_else_
 returns-2 c cells =
-    simp (
-      ← (c .before .before .before .before .before .before .before .psr .ensures),
-      ← (c .before .before .before .before .before .before .pc .ensures),
-      ← (c .before .before .before .before .before .has-flag .ensures),
-      ← (c .before .before .before .before .word-bytes .ensures),
-      eq-eqb _ _ (c .before .before .before .if1 .left),
+    rw (
+      asked (c .before .before .before .before) cells,
+      c .before .before .before .if1 .left,
       ← (c .before .before .has-flag2 .ensures),
       ← (c .before .closed .ensures),
       c .if2 .taken,
     )
 
 returns-3 : tie.Need-returns-3
-unfolding view fetchAt userMode wideWords widthOf if_then_else_
+unfolding userMode if_then_else_
 returns-3 c cells =
-    simp (
-      ← (c .before .before .before .before .before .before .before .before .psr .ensures),
-      ← (c .before .before .before .before .before .before .before .pc .ensures),
-      ← (c .before .before .before .before .before .before .has-flag .ensures),
-      ← (c .before .before .before .before .before .word-bytes .ensures),
-      eq-eqb _ _ (c .before .before .before .before .if1 .left),
+    rw (
+      asked (c .before .before .before .before .before) cells,
+      c .before .before .before .before .if1 .left,
       ← (c .before .before .before .has-flag2 .ensures),
       ← (c .before .before .closed .ensures),
       c .before .if2 .left,
+      c .before .before .before .before .before .before .word-bytes .ensures,
     )
-    (rw (c .before .before .before .before .before .word-bytes .ensures) (c .word-at .ensures))
+    (c .word-at .ensures)
 
 pub fetch-spec : {M : Type 1} → statement M
-fetch-spec = tie.close (tie.spec psr-requires pc-requires has-flag-requires word-bytes-requires rem-if1 has-flag-requires-2 closed-requires word-at-requires returns returns-2 returns-3)
+fetch-spec = tie.close (tie.spec psr-requires pc-requires has-flag-requires word-bytes-requires misaligned-requires has-flag-requires-2 closed-requires word-at-requires returns returns-2 returns-3)

@@ -5,7 +5,6 @@ use Prim.Native.Nat.{ℕ}
 use native.Mathlib.Omega.{arith}
 use denote.Ref.{now}
 use borrow.Author.Needs.{needs}
-use borrow.Author.Tests.{eq-eqb, ne-eqb}
 use Rattle.word.specs.Choice.{if_then_else_}
 use Rattle.word.specs.Word.{wordOf, isAddress}
 use Rattle.isa.specs.Operation.{widthBy}
@@ -14,7 +13,7 @@ use Rattle.decide.specs.View.{view, viewOf}
 use Rattle.decide.specs.Effect.{Effect, Raised}
 use Rattle.decide.specs.Execute.{jumped}
 use Rattle.decide.proofs.Signed.{handed}
-use Rattle.decide.proofs.Bytes.{bytes-positive, aligned-fits}
+use Rattle.decide.proofs.Bytes.{bytes-positive, aligned-fits, aligned-at}
 use Rattle.execute.proofs.jump.jumped.Statement.{statement}
 use Rattle.execute.proofs.jump.jumped.Tie as tie
 
@@ -27,20 +26,21 @@ address-is c = handed isAddress (c .before .before .before .before .before .befo
 
 -- past the first two tests only protection is asked
 aligned : (c : tie.After-closed) (p cells : List ℕ) (taken : ℕ → Effect)
-    → jumped (viewOf p (now (c .before .before .before .before .before .before .before .before .before .before .before .before .args .w)) cells) (c .before .before .before .before .before .before .before .before .before .before .before .before .args .target) taken
-    ≡ if c .closed .result then Raised 0x09 else taken (c .before .before .before .before .before .before .low-word .result)
+    → let s = c .before .before .before .before .before .before .before .before .before .before .before .before .before in
+    jumped (viewOf p (now (s .args .w)) cells) (s .args .target) taken ≡ if c .closed .result then Raised 0x09 else taken (c .before .before .before .before .before .before .before .low-word .result)
 unfolding userMode wideWords widthOf if_then_else_ view jumped
 aligned c p cells taken =
     rw (
-      ← (address-is (c .before .before .before .before .before)),
-      ← (word-is (c .before .before .before .before .before .before)),
-      ← (c .before .before .before .before .before .before .before .before .before .psr .ensures),
-      ← (c .before .before .before .before .before .before .before .before .has-flag .ensures),
-      ← (c .before .before .before .before .before .before .before .word-bytes .ensures),
+      ← (address-is (c .before .before .before .before .before .before)),
+      ← (word-is (c .before .before .before .before .before .before .before)),
+      ← (c .before .before .before .before .before .before .before .before .before .before .psr .ensures),
+      ← (c .before .before .before .before .before .before .before .before .before .has-flag .ensures),
+      ← (c .before .before .before .before .misaligned .ensures),
+      ← (c .before .before .before .before .before .before .before .before .word-bytes .ensures),
       ← (c .before .has-flag2 .ensures),
       ← (c .closed .ensures),
-      c .before .before .before .before .if1 .left,
-      eq-eqb _ _ (c .before .before .before .if2 .left),
+      c .before .before .before .before .before .if1 .left,
+      c .before .before .before .if2 .left,
     )
 
 psr-requires : tie.Need-psr-requires
@@ -61,8 +61,8 @@ is-address-requires c κs = search needs
 raise-requires : tie.Need-raise-requires
 raise-requires c κs = search needs
 
-rem-if2 : tie.Need-rem-if2
-rem-if2 c = rw (c .before .before .before .word-bytes .ensures) (bytes-positive (widthBy (c .before .before .before .before .has-flag .result)))
+misaligned-requires : tie.Need-misaligned-requires
+misaligned-requires c κs = search needs
 
 raise-requires-2 : tie.Need-raise-requires-2
 raise-requires-2 c κs = search needs
@@ -72,9 +72,11 @@ has-flag-requires-2 c κs = search needs
 
 closed-requires : tie.Need-closed-requires
 closed-requires c κs =
-    let wide = c .before .before .before .before .before .before .before .has-flag .result in
-    let bytes = c .before .before .before .before .before .before .word-bytes in
-    (search needs, rw (bytes .ensures) (bytes-positive (widthBy wide)), aligned-fits (widthBy wide) _ _ (bytes .ensures) (omega arith) (c .before .before .if2 .left))
+    let tested = c .before .before .before in
+    let bytes = tested .before .before .before .before .word-bytes in
+    let wide = widthBy (tested .before .before .before .before .before .has-flag .result) in
+    let even = aligned-at _ _ _ (tested .misaligned .ensures) (c .before .before .if2 .left) in
+    (search needs, rw (bytes .ensures) (bytes-positive wide), aligned-fits wide _ _ (bytes .ensures) (omega arith) (rw (bytes .ensures) even))
 
 raise-requires-3 : tie.Need-raise-requires-3
 raise-requires-3 c κs = search needs
@@ -99,13 +101,13 @@ returns-2 : tie.Need-returns-2
 unfolding wideWords widthOf if_then_else_ view jumped
 returns-2 c p cells =
     rw (
-      ← (address-is (c .before .before .before .before .before .before)),
-      ← (word-is (c .before .before .before .before .before .before .before)),
-      ← (c .before .before .before .before .before .before .before .before .before .before .psr .ensures),
-      ← (c .before .before .before .before .before .before .before .before .before .has-flag .ensures),
-      ← (c .before .before .before .before .before .before .before .before .word-bytes .ensures),
-      c .before .before .before .before .before .if1 .left,
-      ne-eqb _ _ (c .before .before .before .before .if2 .taken),
+      ← (address-is (c .before .before .before .before .before .before .before)),
+      ← (word-is (c .before .before .before .before .before .before .before .before)),
+      ← (c .before .before .before .before .before .before .before .before .before .before .before .psr .ensures),
+      ← (c .before .before .before .before .before .before .before .before .before .before .has-flag .ensures),
+      ← (c .before .before .before .before .before .misaligned .ensures),
+      c .before .before .before .before .before .before .if1 .left,
+      c .before .before .before .before .if2 .taken,
     )
     (c .before .before .raise2 .ensures cells)
 
@@ -135,4 +137,4 @@ returns-5 c p cells =
     (c .before .before .jump .ensures cells)
 
 pub jumped-spec : {M : Type 1} → statement M
-jumped-spec = tie.close (tie.spec psr-requires has-flag-requires word-bytes-requires low-word-requires is-address-requires raise-requires rem-if2 raise-requires-2 has-flag-requires-2 closed-requires raise-requires-3 jump-link-requires jump-requires same-length returns same-length-2 returns-2 same-length-3 returns-3 same-length-4 returns-4 same-length-5 returns-5)
+jumped-spec = tie.close (tie.spec psr-requires has-flag-requires word-bytes-requires low-word-requires is-address-requires raise-requires misaligned-requires raise-requires-2 has-flag-requires-2 closed-requires raise-requires-3 jump-link-requires jump-requires same-length returns same-length-2 returns-2 same-length-3 returns-3 same-length-4 returns-4 same-length-5 returns-5)
