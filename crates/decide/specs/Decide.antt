@@ -15,8 +15,7 @@ use Rattle.decide.specs.View.{View}
 use Rattle.decide.specs.Execute.{execute}
 use Rattle.decide.specs.declared.Fetched.{Fetched}
 use Rattle.decide.specs.declared.Fetched.the-variants.{Word, Fault, Absent}
-use Rattle.decide.specs.Effect.{Effect}
-use Rattle.decide.specs.Effect.{Stopped, Raised, Next}
+use Rattle.decide.specs.Effect.{Effect, Stopped, Raised, Next}
 
 -- its own effect, on its two sources
 unfoldable pub perform : View → Instruction → Operation → Effect

@@ -13,8 +13,7 @@ use Rattle.machine.specs.Control.{controlAt, within, protectedCell, DMEM-BOUND-
 use Rattle.machine.proofs.Lists.{at-set-other, at-set-same}
 use Rattle.decide.specs.View.{View, view}
 use Rattle.decide.specs.Decide.{decide}
-use Rattle.decide.specs.Effect.{Effect}
-use Rattle.decide.specs.Effect.{Stopped, Raised, Next, Result, ResultFlags, ResultProduct, Compare, Conditions, StoreControl, StoreCell, Jump, JumpLink, EnableInterrupts, SwitchWidth, SystemCall, InterruptReturn, UserReturn, SelectSets}
+use Rattle.decide.specs.Effect.{Effect, Stopped, Raised, Next, Result, ResultFlags, ResultProduct, Compare, Conditions, StoreControl, StoreCell, Jump, JumpLink, EnableInterrupts, SwitchWidth, SystemCall, InterruptReturn, UserReturn, SelectSets}
 use Rattle.step.proofs.Safe.{Safe, decide-safe}
 use Rattle.step.proofs.Addresses.{reached-cell, reached-block}
 use Rattle.apply.specs.Apply.{wordsOn, Transition, machineOnly, storeCell, apply, unpacked}

@@ -13,8 +13,7 @@ use Rattle.image.specs.Image.{Accepted, readImage}
 use Rattle.decide.specs.View.{nestedBy}
 use Rattle.apply.specs.Apply.{Transition}
 use Rattle.emulator.specs.Run.{Call, stateOf, transitions}
-use Rattle.apply.specs.Kind.{Kind}
-use Rattle.apply.specs.Kind.{Ordinary, Interrupt, SystemCall, InterruptReturn, Exception, Stop}
+use Rattle.apply.specs.Kind.{Kind, Ordinary, Interrupt, SystemCall, InterruptReturn, Exception, Stop}
 
 -- ---- which transitions are compared (01: a transition is a turn)
 

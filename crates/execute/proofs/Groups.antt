@@ -4,7 +4,6 @@ use mathlib.Core.Path.{_≡_, refl}
 use mathlib.Core.Bool.{Bool, true, false}
 use Prim.Native.Nat.{ℕ, _≤_, _<_}
 use native.Mathlib.Omega.{arith}
-use lib.Dec.{eqb}
 use lib.IntN.{pos, _+ℤ_}
 use Rattle.word.specs.Choice.{if_then_else_}
 use Rattle.isa.specs.Operation.{operationOf, Width, w16, w32, unavailable, codeOf, Properties, properties}

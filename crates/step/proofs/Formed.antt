@@ -23,8 +23,7 @@ use Rattle.apply.specs.Apply.{writeRegister, writeFlags, unpacked, wordsOn, nex
 use Rattle.decide.specs.Decide.{decide}
 use Rattle.step.specs.Interrupt.{withPending, withRequests, acceptedSource, servicePsr, entryFor, accept}
 use Rattle.step.specs.Step.{interruptOr, step}
-use Rattle.decide.specs.Effect.{Effect}
-use Rattle.decide.specs.Effect.{Stopped, Raised, Next, Result, ResultFlags, ResultProduct, Compare, Conditions, StoreControl, StoreCell, Jump, JumpLink, EnableInterrupts, SwitchWidth, SystemCall, InterruptReturn, UserReturn, SelectSets}
+use Rattle.decide.specs.Effect.{Effect, Stopped, Raised, Next, Result, ResultFlags, ResultProduct, Compare, Conditions, StoreControl, StoreCell, Jump, JumpLink, EnableInterrupts, SwitchWidth, SystemCall, InterruptReturn, UserReturn, SelectSets}
 use Rattle.step.proofs.Safe.{if-holds, Safe, decide-safe}
 use Rattle.step.proofs.Stored.{control-of, control-put, control-stored, top-shown, rest-stacked}
 use Rattle.step.proofs.Accepted.{Accepted, source-accepted}

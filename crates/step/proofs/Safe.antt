@@ -22,8 +22,7 @@ use Rattle.decide.specs.declared.Fetched.{Fetched}
 use Rattle.decide.specs.declared.Fetched.the-variants.{Word, Fault, Absent}
 use Rattle.decide.specs.declared.Place.{Place}
 use Rattle.decide.specs.declared.Place.the-variants.{Block, Cell, Refused, Missing}
-use Rattle.decide.specs.Effect.{Effect}
-use Rattle.decide.specs.Effect.{Stopped, Raised, Next, Result, ResultFlags, ResultProduct, Compare, Conditions, StoreControl, StoreCell, Jump, JumpLink, EnableInterrupts, SwitchWidth, SystemCall, InterruptReturn, UserReturn, SelectSets}
+use Rattle.decide.specs.Effect.{Effect, Stopped, Raised, Next, Result, ResultFlags, ResultProduct, Compare, Conditions, StoreControl, StoreCell, Jump, JumpLink, EnableInterrupts, SwitchWidth, SystemCall, InterruptReturn, UserReturn, SelectSets}
 
 -- some data address names a place
 abbrev pub Reached : View → Place → Type 0

@@ -9,8 +9,7 @@ use Rattle.word.proofs.Tests.{false-unless}
 use Rattle.machine.specs.Machine.{State}
 use Rattle.decide.specs.View.{View, view}
 use Rattle.decide.specs.Decide.{decide}
-use Rattle.decide.specs.Effect.{Effect}
-use Rattle.decide.specs.Effect.{Stopped, Raised, Next, Result, ResultFlags, ResultProduct, Compare, Conditions, StoreControl, StoreCell, Jump, JumpLink, EnableInterrupts, SwitchWidth, SystemCall, InterruptReturn, UserReturn, SelectSets}
+use Rattle.decide.specs.Effect.{Effect, Stopped, Raised, Next, Result, ResultFlags, ResultProduct, Compare, Conditions, StoreControl, StoreCell, Jump, JumpLink, EnableInterrupts, SwitchWidth, SystemCall, InterruptReturn, UserReturn, SelectSets}
 use Rattle.apply.specs.Apply.{Transition, machineOnly, storeCell, apply, stopNumber}
 use Rattle.apply.specs.Kind.{Kind}
 use Rattle.apply.specs.Kind as kind

@@ -9,8 +9,7 @@ use Rattle.decide.specs.View.{View, view}
 use Rattle.decide.specs.Decide.{decide}
 use Rattle.apply.specs.Apply.{Transition, machineOnly, apply}
 use Rattle.step.specs.Interrupt.{withRequests, acceptedSource, accept}
-use Rattle.apply.specs.Kind.{Kind}
-use Rattle.apply.specs.Kind.{Ordinary, Interrupt, SystemCall, InterruptReturn, Exception, Stop}
+use Rattle.apply.specs.Kind.{Kind, Ordinary, Interrupt, SystemCall, InterruptReturn, Exception, Stop}
 
 unfoldable pub isStop : Kind → Bool
 isStop Ordinary = false

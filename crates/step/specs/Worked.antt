@@ -10,8 +10,7 @@ use Rattle.machine.specs.Control.{reset, DMEM-BOUND-LO, DMEM-BOUND-HI, IMEM-BOU
 use Rattle.codec.specs.Number.{bytesOf}
 use Rattle.apply.specs.Apply.{Transition}
 use Rattle.step.specs.Step.{step}
-use Rattle.apply.specs.Kind.{Kind}
-use Rattle.apply.specs.Kind.{Ordinary, Exception}
+use Rattle.apply.specs.Kind.{Kind, Ordinary, Exception}
 
 pub record Case : Type 0 where
   pub psr : ℕ
