@@ -1,34 +1,18 @@
 -- The order of an instruction's tests, by what each gives. Assumes nothing.
-use mathlib.Core.Path.{_≡_, refl, sym, ap, _∙_}
-use mathlib.Core.Option.{Option, none, some}
+use mathlib.Core.Path.{_≡_, _∙_}
+use mathlib.Core.Option.{none}
 use mathlib.Core.Bool.{Bool, true, false, _&&_}
 use Prim.Native.Nat.{ℕ}
-use native.Mathlib.Omega.{arith}
 use lib.Dec.{eqb}
 use Rattle.word.specs.Choice.{if_then_else_}
-use Rattle.isa.specs.Operation.{operationOf, Width, w16, w32, Availability, anywhere, wideOnly, superOnly, nowhere, unavailable, codeOf, Properties, properties}
+use Rattle.isa.specs.Operation.{operationOf, unavailable, codeOf, Properties, properties}
+use Rattle.isa.proofs.Rules.{available, refused}
 use Rattle.isa.specs.declared.Instruction.{Instruction}
 use Rattle.machine.specs.Machine.{userMode, widthOf}
 use Rattle.machine.specs.declared.Position.{Position}
 use Rattle.decide.specs.View.{View}
 use Rattle.decide.specs.Effect.{Effect, Stopped, Raised, Next}
 use Rattle.decide.specs.Decide.{perform, conditionFalse, ifAvailable, instruction}
-
--- a code other than 0 is that of an exception
-refused : (o : Option ℕ) (code : ℕ) → code ≡ codeOf o → (code ≡ 0 → ⊥) → o ≡ some code
-unfolding codeOf
-refused none code e n = absurd (n e)
-refused (some c) code e n = ap some (sym e)
-
--- code 0 is none
-available : (a : Availability) (width : Width) (user : Bool) → codeOf (unavailable a width user) ≡ 0 → unavailable a width user ≡ none
-unfolding codeOf unavailable
-available anywhere width user e = refl
-available wideOnly w16 user e = absurd (omega arith)
-available wideOnly w32 user e = refl
-available superOnly width true e = absurd (omega arith)
-available superOnly width false e = refl
-available nowhere width user e = absurd (omega arith)
 
 module _ (v : View) (i : Instruction) where
   -- the code of the exception where it may not be used, or 0
@@ -42,7 +26,7 @@ module _ (v : View) (i : Instruction) where
   -- it may not be used
   pub barred : (code : ℕ) → code ≡ codeFor → (code ≡ 0 → ⊥) → instruction v i ≡ Raised code
   unfolding instruction ifAvailable
-  barred code e n = rw (refused _ code e n)
+  barred code e n = rw (refused _ (λ z. n (e ∙ z)), ← e)
 
   module _ (usable : codeFor ≡ 0) where
     free : instruction v i ≡ ifAvailable v i (operationOf (i .opcode)) none

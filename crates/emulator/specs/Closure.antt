@@ -1,4 +1,4 @@
--- What a call leaves: for lists of calls (01 "The packer's stretch"), and of its answer and buffer (01 "Machine image"). Assumes nothing.
+-- What a call leaves: for lists of calls (01, demand 3), and of its answer and buffer (01 "Machine image"). Assumes nothing.
 use mathlib.Core.Path.{_≡_}
 use mathlib.Core.Logic.{_↔_}
 use mathlib.Core.List.{List, [], _∷_}
@@ -21,8 +21,8 @@ unfoldable pub Steps : (program : List ℕ) → State → List Transition → Ty
 Steps program s [] = Unit {0}
 Steps program s (t ∷ ts) = (requests : ℕ) × (t ≡ step program s requests) × Steps program (t .after) ts
 
--- "The machine after a turn is demand 2's, and where its call ends there, it is what that call left": the image is one for which 2 to 5
--- are all yes, and says the machine after the call's last turn; the data memory is the one after it
+-- the machine after a transition is demand 2's, and where its call ends there, it is what that call left: the image is one for which 2 to 5
+-- are all yes, and says the machine after the call's last transition; the data memory is the one after it
 pub record Left (program image cells : List ℕ) (c : Call) (m : Machine) : Type 0 where
   pub machine : readImage (called program image cells c .image) ≡ Accepted (final (stateOf m cells) (called program image cells c .transitions) .machine)
   pub memory : called program image cells c .outcome .cells ≡ final (stateOf m cells) (called program image cells c .transitions) .cells

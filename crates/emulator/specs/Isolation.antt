@@ -1,4 +1,4 @@
--- The isolation of user mode (01 "The packer's stretch", demand 3). Assumes nothing.
+-- The isolation of user mode (01, demand 3). Assumes nothing.
 use mathlib.Core.Path.{_≡_}
 use mathlib.Core.Logic.{_≢_}
 use mathlib.Core.Bool.{Bool, true, false, _||_}
@@ -40,7 +40,7 @@ isPreemption InterruptReturn = false
 isPreemption (Exception c) = false
 isPreemption (Stop n) = false
 
--- "all turns before the first end or cut" (01: stretch)
+-- all transitions before the first exit or preemption (01: stretch)
 unfoldable pub segment : List Transition → List Transition
 segment [] = []
 segment (t ∷ ts) =
@@ -51,7 +51,7 @@ segment (t ∷ ts) =
 abbrev pub InSegment : List Transition → (k : ℕ) → Type 0
 InSegment ts k = k ≤ length (segment ts)
 
--- "all earlier turns are in" the segment
+-- all earlier transitions are in the segment
 abbrev pub EarlierInSegment : List Transition → (k : ℕ) → Type 0
 EarlierInSegment ts k = k ≤ suc (length (segment ts))
 
@@ -116,13 +116,13 @@ pub record SameStart (a b : Session) : Type 0 where
   pub programSize : length (a .program) ≡ length (b .program)
   pub bytes : (n : ℕ) → protectedByte (a .machine) n ≡ false → getElem? (a .program) n ≡ getElem? (b .program) n
 
--- "Either turn k is in both stretches, and what demand 3 says is shown is equal after it; or it is an end in both, and the same: scall,
--- reti, an exception with the same code, or a stop with the same number"
+-- either transition k is in both segments, and what demand 3 says is shown is equal after it; or it is an exit in both, and the same: scall,
+-- reti, an exception with the same code, or a stop with the same number
 pub data SameTransition (a b : Session) (k : ℕ) (t u : Transition) : Type 0 where
   bothGoOn : InSegment (transitionsOf a) k → InSegment (transitionsOf b) k → SameShown (t .after) (u .after) → SameTransition a b k t u
   bothExit : isExit (t .kind) ≡ true → isExit (u .kind) ≡ true → t .kind ≡ u .kind → SameTransition a b k t u
 
--- "at every turn number k that both have, where all earlier turns are in both stretches and turn k is a cut in neither"
+-- at every number k of a transition that both have, where all earlier ones are in both segments and transition k is a preemption in neither
 unfoldable pub Confidentiality : Session → Session → Type 0
 Confidentiality a b =
     (k : ℕ) (t u : Transition) → transition (transitionsOf a) k ≡ some t → transition (transitionsOf b) k ≡ some u

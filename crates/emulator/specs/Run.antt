@@ -1,4 +1,4 @@
--- A run call, and lists of run calls on one machine (01 "Machine image", "The packer's stretch"). Assumes nothing.
+-- A run call, and lists of run calls on one machine (01 "Machine image", demand 3). Assumes nothing.
 use mathlib.Core.Bool.{not, _&&_}
 use mathlib.Core.List.{List, [], _∷_, _++_}
 use Prim.Native.Nat.{ℕ, zero, suc}

@@ -160,8 +160,8 @@ fn system_word(w: &mut [u32], word: u32, op: u32) -> u32
     }
 }
 
-// Words of operations 0 to 28: nop to st.
-fn low_word(w: &mut [u32], cells: &mut [u32], word: u32, op: u32) -> u32
+// Words of the lower half of the operations, 0 to 28: nop to st.
+fn lower_half(w: &mut [u32], cells: &mut [u32], word: u32, op: u32) -> u32
     requires { ⌜ (length (now w) ≡ WORDS) × (op ≡ opcodeOf (widthOf (psr (machineOf (now w)))) word) × (op < 29) ⌝ }
     ensures { λ r. ⌜ ((p : List ℕ) → toldBy r (now (w .exit)) (now (cells .exit)) ≡ effectOn (fetchedThen (viewOf p (now (w .entry)) (now (cells .entry))) (Word word)) (now (w .entry)) (now (cells .entry))) ⌝ }
 {
@@ -173,8 +173,8 @@ fn low_word(w: &mut [u32], cells: &mut [u32], word: u32, op: u32) -> u32
     }
 }
 
-// Words of the other operations: mov to rcon, and those that are unknown.
-fn high_word(w: &mut [u32], word: u32, op: u32) -> u32
+// Words of the upper half: mov to rcon, and those that are unknown.
+fn upper_half(w: &mut [u32], word: u32, op: u32) -> u32
     requires { ⌜ (length (now w) ≡ WORDS) × (machineOf (now w) .position .pc < 65536) × StackShown (machineOf (now w)) × (op ≡ opcodeOf (widthOf (psr (machineOf (now w)))) word) × (29 ≤ op) ⌝ }
     ensures { λ r. ⌜ ((p cells : List ℕ) → toldBy r (now (w .exit)) cells ≡ effectOn (fetchedThen (viewOf p (now (w .entry)) cells) (Word word)) (now (w .entry)) cells) ⌝ }
 {
@@ -193,9 +193,9 @@ fn instruction(w: &mut [u32], cells: &mut [u32], word: u32) -> u32
 {
     let op = isa::opcode(word, wide_words(w));
     if op < 29 {
-        low_word(w, cells, word, op)
+        lower_half(w, cells, word, op)
     } else {
-        high_word(w, word, op)
+        upper_half(w, word, op)
     }
 }
 

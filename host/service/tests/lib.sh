@@ -50,8 +50,8 @@ setup() {
         exit 1
     fi
     read -r -d '' -a reset_words < <(sed 's/#.*//' "$here/expected/reset.words")
-    mkdir "$scratch/work" "$scratch/kept"
-    cd "$scratch/work" || exit 1
+    mkdir "$scratch/files" "$scratch/kept"
+    cd "$scratch/files" || exit 1
 }
 
 cleanup() {
@@ -63,10 +63,10 @@ cleanup() {
 # Empties the folder that the tests work in.
 fresh() {
     cd "$scratch" || exit 1
-    chmod -R u+w work
-    rm -rf work
-    mkdir work
-    cd work || exit 1
+    chmod -R u+w files
+    rm -rf files
+    mkdir files
+    cd files || exit 1
 }
 
 section() {

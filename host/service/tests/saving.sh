@@ -111,8 +111,8 @@ if mount -t tmpfs -o size=12k service-test "$scratch/disk" 2>/dev/null; then
         cp image data "$scratch/disk"
         cd "$scratch/disk" || exit 1
         refused_at "a full disk with $pages free pages" "No space left on device" 'image|data' \
-            "$service" run ../work/program image data 3
-        cd ../work || exit 1
+            "$service" run ../files/program image data 3
+        cd ../files || exit 1
     done
     mount -o remount,size=20k "$scratch/disk"
     accepted "a disk with just enough room" "3 0 00000000" \
@@ -121,10 +121,10 @@ if mount -t tmpfs -o size=12k service-test "$scratch/disk" 2>/dev/null; then
     same "a disk with just enough room: image and data" "new" "$(pair)"
     mount -o remount,ro "$scratch/disk"
     refused "a read-only disk" 1 "service: image: Read-only file system" \
-        "$service" run ../work/program image data 3
+        "$service" run ../files/program image data 3
     refused "a read-only disk: new" 1 "service: image: Read-only file system" \
         "$service" new image
-    cd ../work || exit 1
+    cd ../files || exit 1
     umount "$scratch/disk"
 else
     skip "a full disk and a read-only disk: no file system can be mounted here"
@@ -273,7 +273,7 @@ files_there() {
 
 # recovered NAME LINE: a run of no steps says this and leaves no file of the save.
 recovered() {
-    local line="service: $scratch/work/data: the last save was cut off: image and data are $2"
+    local line="service: $scratch/files/data: the last save was cut off: image and data are $2"
     "$service" run program image data 0 >/dev/null 2>"$scratch/stderr"
     same "$1: the next run says so" "$line" "$(cat "$scratch/stderr")"
     same "$1: the files of the save are gone" "data image program" "$(files_there)"
@@ -315,7 +315,7 @@ same_bytes "a run of steps after a cut: the data" ../kept/new-data data
 cut_at rename 2
 cp ../kept/old-image other
 refused "the data with another image" 1 \
-    "service: $scratch/work/data.saving: a save with another image was cut off: run that image first" \
+    "service: $scratch/files/data.saving: a save with another image was cut off: run that image first" \
     "$service" run program other data 0
 rm other
 recovered "the data with its own image then" "those after it"
@@ -335,7 +335,7 @@ same "new after a cut: image and data" "old" "$(pair)"
 
 printf 'a text of mine' >data.saving
 refused "a file of another kind with the note's name" 1 \
-    "service: $scratch/work/data.saving: a save with another image was cut off: run that image first" \
+    "service: $scratch/files/data.saving: a save with another image was cut off: run that image first" \
     "$service" run program image data 0
 
 # again NAME CALL NUMBER PAIR: whatever happens to the run after a cut, the one after that has

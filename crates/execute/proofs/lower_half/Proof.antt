@@ -1,10 +1,10 @@
--- `execute::low_word` meets its contract: the group that the number is in. Assumes nothing.
+-- `execute::lower_half` meets its contract: the group that the number is in. Assumes nothing.
 use mathlib.Core.Path.{_≡_, sym, _∙_}
 use denote.Ref.{now}
 use borrow.Author.Needs.{needs}
 use Rattle.execute.proofs.Tests.{decoded-word, word-nothing}
-use Rattle.execute.proofs.low_word.Statement.{statement}
-use Rattle.execute.proofs.low_word.Tie as tie
+use Rattle.execute.proofs.lower_half.Statement.{statement}
+use Rattle.execute.proofs.lower_half.Tie as tie
 
 next-requires : tie.Need-next-requires
 next-requires c κs = search needs
@@ -47,8 +47,8 @@ same-length-5 c = search needs
 returns-4 : tie.Need-returns-4
 returns-4 c = search needs
 
-pub low-word-spec : {M : Type 1} → statement M
-low-word-spec =
+pub lower-half-spec : {M : Type 1} → statement M
+lower-half-spec =
     tie.close
     (tie.spec
     next-requires

@@ -1,12 +1,12 @@
--- `execute::high_word` meets its contract: the group that the number is in. Assumes nothing.
+-- `execute::upper_half` meets its contract: the group that the number is in. Assumes nothing.
 use mathlib.Core.Path.{_≡_, sym, _∙_}
 use native.Mathlib.Omega.{arith}
 use denote.Ref.{now}
 use borrow.Author.Needs.{needs}
 use Rattle.execute.proofs.Groups.{unknown-code}
 use Rattle.execute.proofs.Tests.{decoded-word, word-barred}
-use Rattle.execute.proofs.high_word.Statement.{statement}
-use Rattle.execute.proofs.high_word.Tie as tie
+use Rattle.execute.proofs.upper_half.Statement.{statement}
+use Rattle.execute.proofs.upper_half.Tie as tie
 
 move-word-requires : tie.Need-move-word-requires
 move-word-requires c κs = search needs
@@ -47,8 +47,8 @@ returns-4 c p cells =
     c .before .before .raise .ensures cells
     ∙ sym (word-barred p _ cells (decoded-word (now (s .args .w)) _ _ (s .pre .3)) _ (sym (unknown-code _ _ (s .args .op) (omega arith))) (λ z. omega arith))
 
-pub high-word-spec : {M : Type 1} → statement M
-high-word-spec =
+pub upper-half-spec : {M : Type 1} → statement M
+upper-half-spec =
     tie.close
     (tie.spec
     move-word-requires
