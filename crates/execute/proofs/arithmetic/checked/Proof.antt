@@ -1,9 +1,22 @@
 -- `execute::arithmetic::checked` meets its contract: by the test. Assumes nothing.
+use mathlib.Core.Path.{_≡_}
+use mathlib.Core.Bool.{true, false}
+use Prim.Native.Nat.{ℕ}
 use borrow.Author.Needs.{needs}
 use Rattle.word.specs.Choice.{if_then_else_}
+use Rattle.word.specs.declared.Sum.{Sum}
+use Rattle.decide.specs.Effect.{Raised, ResultFlags}
 use Rattle.decide.specs.Execute.{checked}
 use Rattle.execute.proofs.arithmetic.checked.Statement.{statement}
 use Rattle.execute.proofs.arithmetic.checked.Tie as tie
+
+over : (d : ℕ) (s : Sum) → s .overflow ≡ true → checked d s ≡ Raised 0x06
+unfolding checked if_then_else_
+over d s e = rw e
+
+within : (d : ℕ) (s : Sum) → s .overflow ≡ false → checked d s ≡ ResultFlags d (s .value) (s .flags)
+unfolding checked if_then_else_
+within d s e = rw e
 
 raise-requires : tie.Need-raise-requires
 raise-requires c κs = search needs
@@ -15,15 +28,17 @@ same-length : tie.Need-same-length
 same-length c = search needs
 
 returns : tie.Need-returns
-unfolding checked if_then_else_
-returns c cells = rw (c .before .before .before .before .if1 .taken) (c .before .before .raise .ensures cells)
+returns c cells =
+    let a = c .before .before .before .before .before .before .args in
+    rw (over (a .d) (a .s) (c .before .before .before .before .if1 .taken)) (c .before .before .raise .ensures cells)
 
 same-length-2 : tie.Need-same-length-2
 same-length-2 c = search needs
 
 returns-2 : tie.Need-returns-2
-unfolding checked if_then_else_
-returns-2 c cells = rw (c .before .before .before .before .if1 .left) (c .before .before .result-flags .ensures cells)
+returns-2 c cells =
+    let a = c .before .before .before .before .before .before .args in
+    rw (within (a .d) (a .s) (c .before .before .before .before .if1 .left)) (c .before .before .result-flags .ensures cells)
 
 pub checked-spec : {M : Type 1} → statement M
 checked-spec = tie.close (tie.spec raise-requires result-flags-requires same-length returns same-length-2 returns-2)
