@@ -2,3 +2,4 @@
 pub mod Kind
 pub mod Apply
 pub mod Computed
+pub mod Effect

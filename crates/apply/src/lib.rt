@@ -8,7 +8,7 @@ ghost use lib.ListN.{length, set};
 ghost use Rattle.machine.specs.Machine.{withModes, positionAt, withConditions, withPosition};
 ghost use Rattle.machine.specs.Stack.{popped, withStack};
 ghost use Rattle.machine.specs.Words.{WORDS, machineOf};
-ghost use Rattle.decide.specs.Effect.{Raised, Next, Result, ResultFlags, ResultProduct, Compare, Conditions, StoreControl, StoreCell, Jump, JumpLink, EnableInterrupts, SwitchWidth, SystemCall, InterruptReturn, UserReturn, SelectSets};
+ghost use Rattle.apply.specs.Effect.{Raised, Next, Result, ResultFlags, ResultProduct, Compare, Conditions, StoreControl, StoreCell, Jump, JumpLink, EnableInterrupts, SwitchWidth, SystemCall, InterruptReturn, UserReturn, SelectSets};
 ghost use Rattle.apply.specs.Apply.{writeRegister, writeFlags, unpacked, wordsOn, nextPc, advance, advanceHolding, jumpTo, StackShown, toldBy, effectOn};
 use machine::Position;
 

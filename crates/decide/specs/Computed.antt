@@ -1,9 +1,7 @@
--- To unfold `decisions` is to unfold all definitions of this crate and of `machine`.
+-- To unfold `views` is to unfold all definitions of this crate and of `machine`.
 use Rattle.machine.specs.Computed.{machines}
-use Rattle.decide.specs.View.{anyWithin, byteThen, bytesAt, fetchAt, inBlock, placeAt, heldAt, nestedBy, view}
-use Rattle.decide.specs.Execute.{checked, wrapped, product, loaded, stored, afterThis, targetBy, jumped, branch, packed, execute}
-use Rattle.decide.specs.Decide.{perform, conditionFalse, ifAvailable, instruction, fetchedThen, decide}
+use Rattle.decide.specs.View.{anyWithin, byteThen, bytesAt, fetchAt, inBlock, placeAt, heldAt, nestedBy, view, conditionFalse}
 
-unfoldable pub decisions : Unit {0}
-unfolding machines anyWithin byteThen bytesAt fetchAt inBlock placeAt heldAt nestedBy view checked wrapped product loaded stored afterThis targetBy jumped branch packed execute perform conditionFalse ifAvailable instruction fetchedThen decide
-decisions = tt
+unfoldable pub views : Unit {0}
+unfolding machines anyWithin byteThen bytesAt fetchAt inBlock placeAt heldAt nestedBy view conditionFalse
+views = tt

@@ -1,7 +1,4 @@
 -- What the next instruction does: what it may see (View), what it can do (Effect), what each operation does (Execute), the order of the
 -- tests (Decide).
 pub mod View
-pub mod Effect
-pub mod Execute
-pub mod Decide
 pub mod Computed

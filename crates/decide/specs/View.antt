@@ -9,6 +9,8 @@ use lib.IntN.{ℤ}
 use Rattle.word.specs.Choice.{if_then_else_}
 use Rattle.word.specs.Word.{wordOf, isAddress}
 use Rattle.isa.specs.Operation.{Width}
+use Rattle.isa.specs.Condition.{conditionOf, holds}
+use Rattle.isa.specs.declared.Instruction.{Instruction}
 use Rattle.isa.specs.Decode.{bytesOf}
 use Rattle.machine.specs.Machine.{Machine, State, psr, userMode, readsSet2, writesSet2, widthOf, setBy}
 use Rattle.machine.specs.Control.{controlAt, within, CCB-BASE, DMEM-BOUND-LO, DMEM-BOUND-HI, IMEM-BOUND-LO, IMEM-BOUND-HI}
@@ -111,3 +113,7 @@ view program s =
 -- the view of the machine that words hold
 abbrev pub viewOf : (program words cells : List ℕ) → View
 viewOf program words cells = view program (record { machine = machineOf words; cells = cells })
+
+-- a conditional instruction whose condition is false of its condition register
+unfoldable pub conditionFalse : View → Instruction → Bool
+conditionFalse v i = i .conditional && not (holds (conditionOf (i .condition)) (getD (v .conditions) (i .creg) 0))

@@ -5,7 +5,7 @@ ghost use Prim.Native.Nat.{ℕ, _<_};
 ghost use lib.ListN.{length};
 ghost use Rattle.machine.specs.Words.{WORDS};
 ghost use Rattle.decide.specs.View.{View, viewOf};
-ghost use Rattle.decide.specs.Decide.{conditionFalse};
+ghost use Rattle.decide.specs.View.{conditionFalse};
 
 mod memory;
 mod program;

@@ -17,7 +17,7 @@ use Rattle.machine.proofs.Lists.{same-getD}
 use Rattle.decide.specs.View.{anyWithin, byteThen, bytesAt, fetchAt, inBlock, placeAt, heldAt, view}
 use Rattle.decide.specs.declared.Place.{Place}
 use Rattle.decide.specs.declared.Place.the-variants.{Block, Cell, Refused, Missing}
-use Rattle.step.proofs.Addresses.{place-cell, place-block}
+use Rattle.decide.proofs.Addresses.{place-cell, place-block}
 use Rattle.emulator.proofs.User.{read-bit, write-bit}
 use Rattle.emulator.proofs.States.{Mode, Low, mode-user}
 

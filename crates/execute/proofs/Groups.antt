@@ -12,8 +12,8 @@ use Rattle.isa.specs.declared.Instruction.{Instruction}
 use Rattle.isa.proofs.Table.{values, agree, unknown-from}
 use Rattle.decide.specs.View.{View}
 use Rattle.decide.specs.declared.Place.the-variants.{Refused, Missing}
-use Rattle.decide.specs.Effect.{Stopped, Raised, Next, Jump, JumpLink}
-use Rattle.decide.specs.Execute.{loaded, stored, jumped, branch, execute}
+use Rattle.apply.specs.Effect.{Stopped, Raised, Next, Jump, JumpLink}
+use Rattle.execute.specs.Execute.{loaded, stored, jumped, branch, execute}
 use Rattle.execute.specs.Jumps.{taken, targetOf, links}
 
 -- ---- the tests that a group's operations have

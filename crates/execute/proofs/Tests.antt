@@ -14,11 +14,12 @@ use Rattle.machine.specs.Machine.{Machine, psr, userMode, wideWords, widthOf}
 use Rattle.machine.specs.declared.Position.{Position}
 use Rattle.machine.specs.Words.{machineOf}
 use Rattle.decide.specs.View.{View, view, viewOf}
-use Rattle.decide.specs.Effect.{Effect, Stopped, Raised, Next}
-use Rattle.decide.specs.Execute.{execute}
-use Rattle.decide.specs.Decide.{perform, conditionFalse, fetchedThen}
+use Rattle.apply.specs.Effect.{Effect, Stopped, Raised, Next}
+use Rattle.execute.specs.Execute.{execute}
+use Rattle.execute.specs.Decide.{perform, fetchedThen}
+use Rattle.decide.specs.View.{conditionFalse}
 use Rattle.decide.specs.declared.Fetched.the-variants.{Word}
-use Rattle.decide.proofs.Order.{codeFor, transferInSlot, barred, in-slot, skipped, performed}
+use Rattle.execute.proofs.Order.{codeFor, transferInSlot, barred, in-slot, skipped, performed}
 use Rattle.apply.specs.Apply.{Told, effectOn}
 use Rattle.execute.proofs.Groups.{usable-low, no-transfer}
 

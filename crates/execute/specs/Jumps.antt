@@ -9,7 +9,7 @@ use Rattle.word.specs.Choice.{if_then_else_}
 use Rattle.isa.specs.Condition.{conditionOf, holds}
 use Rattle.isa.specs.declared.Instruction.{Instruction}
 use Rattle.decide.specs.View.{View}
-use Rattle.decide.specs.Execute.{targetBy}
+use Rattle.execute.specs.Execute.{targetBy}
 
 -- it is taken: a branch, where its condition holds
 unfoldable pub taken : (op : ℕ) → View → Instruction → Bool

@@ -1,2 +1,5 @@
 -- How the code takes the operations together.
 pub mod Jumps
+pub mod Execute
+pub mod Decide
+pub mod Computed

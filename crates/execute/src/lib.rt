@@ -11,7 +11,7 @@ ghost use Rattle.machine.specs.Machine.{psr, userMode, wideWords, widthOf};
 ghost use Rattle.machine.specs.Words.{WORDS, machineOf};
 ghost use Rattle.decide.specs.View.{viewOf};
 ghost use Rattle.decide.specs.declared.Fetched.the-variants.{Word};
-ghost use Rattle.decide.specs.Decide.{fetchedThen, decide};
+ghost use Rattle.execute.specs.Decide.{fetchedThen, decide};
 ghost use Rattle.apply.specs.Apply.{StackShown, toldBy, effectOn};
 
 mod arithmetic;

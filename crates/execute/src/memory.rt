@@ -6,7 +6,7 @@ ghost use lib.ListN.{length};
 ghost use Rattle.isa.specs.Operation.{operationOf};
 ghost use Rattle.machine.specs.Words.{WORDS};
 ghost use Rattle.decide.specs.View.{viewOf};
-ghost use Rattle.decide.specs.Execute.{execute};
+ghost use Rattle.execute.specs.Execute.{execute};
 ghost use Rattle.apply.specs.Apply.{toldBy, effectOn};
 use crate::UM;
 use decide::Place;

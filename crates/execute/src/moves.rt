@@ -7,7 +7,7 @@ ghost use Rattle.word.specs.Word.{wordOf};
 ghost use Rattle.isa.specs.Operation.{operationOf, mulhi};
 ghost use Rattle.machine.specs.Words.{WORDS};
 ghost use Rattle.decide.specs.View.{viewOf};
-ghost use Rattle.decide.specs.Execute.{execute};
+ghost use Rattle.execute.specs.Execute.{execute};
 ghost use Rattle.apply.specs.Apply.{toldBy, effectOn};
 use crate::immediate_value;
 use apply::compare;

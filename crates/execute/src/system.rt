@@ -6,7 +6,7 @@ ghost use lib.ListN.{length};
 ghost use Rattle.isa.specs.Operation.{operationOf, reti};
 ghost use Rattle.machine.specs.Words.{WORDS, machineOf};
 ghost use Rattle.decide.specs.View.{viewOf};
-ghost use Rattle.decide.specs.Execute.{packed, execute};
+ghost use Rattle.execute.specs.Execute.{packed, execute};
 ghost use Rattle.apply.specs.Apply.{StackShown, toldBy, effectOn};
 use crate::immediate_value;
 use isa::Instruction;

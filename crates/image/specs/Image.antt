@@ -7,7 +7,7 @@ use lib.Dec.{leb, eqb}
 use Rattle.word.specs.Choice.{if_then_else_}
 use Rattle.codec.specs.Number.{numbersOf, bytesOf}
 use Rattle.machine.specs.Machine.{Machine}
-use Rattle.machine.specs.Words.{SET1, SET2, CONDITIONS, CONTROL, POSITION, DEPTH, machineOf}
+use Rattle.machine.specs.Words.{REGISTERS, FLAGS, OFFSETS, PLACES, SET1, SET2, CONDITIONS, CONTROL, POSITION, DEPTH, ENTRIES, machineOf}
 use Rattle.image.specs.Questions.{all, question3, question4, question5}
 use Rattle.machine.specs.declared.Position.{Position}
 use Rattle.machine.specs.declared.Entry.{Entry}
@@ -24,11 +24,11 @@ entryNumbers (e ∷ es) = e .source ∷ e .address ∷ e .psr ∷ e .c0 ∷ entr
 -- sections in this order, each after its count; the stack's top is last
 unfoldable pub imageNumbers : Machine → List ℕ
 imageNumbers m =
-    32 ∷ m .set1 ++ (
-    32 ∷ m .set2 ++ (
-    8 ∷ m .conditions ++ (
-    45 ∷ m .control ++ (
-    6 ∷ positionNumbers (m .position) ++ (
+    REGISTERS ∷ m .set1 ++ (
+    REGISTERS ∷ m .set2 ++ (
+    FLAGS ∷ m .conditions ++ (
+    OFFSETS ∷ m .control ++ (
+    PLACES ∷ positionNumbers (m .position) ++ (
     length (m .stack) ∷ entryNumbers (reverse (m .stack)))))))
 
 unfoldable pub writeImage : Machine → List ℕ
@@ -43,13 +43,13 @@ countOf zero ns = 0
 
 unfoldable pub sectionTests : (bytes : ℕ) (numbers : List ℕ) → List Bool
 sectionTests bytes ns =
-    eqb bytes (516 + 16 * getD ns DEPTH 0) ∷
+    eqb bytes (4 * ENTRIES + 16 * getD ns DEPTH 0) ∷
     leb (getD ns DEPTH 0) 12 ∷
-    eqb (countOf SET1 ns) 32 ∷
-    eqb (countOf SET2 ns) 32 ∷
-    eqb (countOf CONDITIONS ns) 8 ∷
-    eqb (countOf CONTROL ns) 45 ∷
-    eqb (countOf POSITION ns) 6 ∷
+    eqb (countOf SET1 ns) REGISTERS ∷
+    eqb (countOf SET2 ns) REGISTERS ∷
+    eqb (countOf CONDITIONS ns) FLAGS ∷
+    eqb (countOf CONTROL ns) OFFSETS ∷
+    eqb (countOf POSITION ns) PLACES ∷
     []
 
 unfoldable pub question2 : (image : List ℕ) → Bool

@@ -1,11 +1,24 @@
 -- The running machine as one list of words: an image's numbers in their order (01 "Machine image"). Assumes nothing.
 use mathlib.Core.Bool.{Bool, true, false}
 use mathlib.Core.List.{List, [], _∷_, reverse}
-use Prim.Native.Nat.{ℕ, zero, suc}
+use Prim.Native.Nat.{ℕ, zero, suc, _+_, _*_}
 use lib.ListN.{getD, take, drop}
 use Rattle.machine.specs.Machine.{Machine}
 use Rattle.machine.specs.declared.Position.{Position}
 use Rattle.machine.specs.declared.Entry.{Entry}
+
+-- how many numbers each section has
+abbrev pub REGISTERS : ℕ
+REGISTERS = 32
+
+abbrev pub FLAGS : ℕ
+FLAGS = 8
+
+abbrev pub OFFSETS : ℕ
+OFFSETS = 45
+
+abbrev pub PLACES : ℕ
+PLACES = 6
 
 -- where the sections' numbers begin, each just after its count
 
@@ -13,27 +26,27 @@ abbrev pub SET1 : ℕ
 SET1 = 1
 
 abbrev pub SET2 : ℕ
-SET2 = 34
+SET2 = SET1 + REGISTERS + 1
 
 abbrev pub CONDITIONS : ℕ
-CONDITIONS = 67
+CONDITIONS = SET2 + REGISTERS + 1
 
 abbrev pub CONTROL : ℕ
-CONTROL = 76
+CONTROL = CONDITIONS + FLAGS + 1
 
 abbrev pub POSITION : ℕ
-POSITION = 122
+POSITION = CONTROL + OFFSETS + 1
 
 -- the count of stack entries, and the entries, four words each, the top last
 abbrev pub DEPTH : ℕ
-DEPTH = 128
+DEPTH = POSITION + PLACES
 
 abbrev pub ENTRIES : ℕ
-ENTRIES = 129
+ENTRIES = DEPTH + 1
 
 -- as many words as the longest image has
 abbrev pub WORDS : ℕ
-WORDS = 177
+WORDS = ENTRIES + 4 * 12
 
 -- where the registers begin of set 2 if a bit of PSR is 1, else of set 1
 abbrev pub startBy : Bool → ℕ

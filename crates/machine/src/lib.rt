@@ -38,41 +38,41 @@ pub struct Entry {
 const SET1: usize = 1;
 
 // Register set 2, and its PSR:
-const SET2: usize = 34;
+const SET2: usize = SET1 + 33;
 
-const PSR: usize = 63;
+const PSR: usize = SET2 + 29;
 
 // Condition registers:
-const CONDITIONS: usize = 67;
+const CONDITIONS: usize = SET2 + 33;
 
 // The control block, and the registers of it that show the stack:
-const CONTROL: usize = 76;
+const CONTROL: usize = CONDITIONS + 9;
 
-const INT_SERV: usize = 95;
+const INT_SERV: usize = CONTROL + 0x13;
 
-const RETI_ADDR: usize = 116;
+const RETI_ADDR: usize = CONTROL + 0x28;
 
-const RETI_PSR: usize = 117;
+const RETI_PSR: usize = CONTROL + 0x29;
 
-const RETI_CR0: usize = 118;
+const RETI_CR0: usize = CONTROL + 0x2A;
 
 // The program position:
-const PC: usize = 122;
+const PC: usize = CONTROL + 46;
 
-const SLOT: usize = 123;
+const SLOT: usize = PC + 1;
 
-const TARGET: usize = 124;
+const TARGET: usize = PC + 2;
 
-const HELD: usize = 125;
+const HELD: usize = PC + 3;
 
-const HIGH: usize = 126;
+const HIGH: usize = PC + 4;
 
-const LOW: usize = 127;
+const LOW: usize = PC + 5;
 
 // The count of stack entries, and the entries, four words each, the top last:
-const DEPTH: usize = 128;
+const DEPTH: usize = PC + 6;
 
-const ENTRIES: usize = 129;
+const ENTRIES: usize = DEPTH + 1;
 
 // ---- registers
 

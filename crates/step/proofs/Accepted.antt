@@ -16,7 +16,7 @@ use Rattle.machine.specs.Stack.{sourcesOf}
 use Rattle.machine.specs.declared.Entry.{Entry}
 use Rattle.decide.specs.View.{View}
 use Rattle.step.specs.Interrupt.{priority, belowAll, eligible, before, candidate, mayAccept, acceptedSource}
-use Rattle.step.proofs.Safe.{if-holds}
+use Rattle.word.proofs.Tests.{if-holds}
 
 pub record Accepted (m : Machine) (n : ℕ) : Type 0 where
   pub below : n < 12

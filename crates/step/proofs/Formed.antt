@@ -20,11 +20,12 @@ use Rattle.machine.proofs.Registers.{holds-small}
 use Rattle.image.proofs.Formed.{sized-set, StatusOk, registers-below, Stacked, pushed, stacked-depth, WellFormed}
 use Rattle.decide.specs.View.{View, view}
 use Rattle.apply.specs.Apply.{writeRegister, writeFlags, unpacked, wordsOn, nextPc, advance, advanceHolding, jumpTo, raise, systemCall, userReturn, interruptReturn, enableInterrupts, switchWidth, selectSets, machineOnly, storeCell, apply}
-use Rattle.decide.specs.Decide.{decide}
+use Rattle.execute.specs.Decide.{decide}
 use Rattle.step.specs.Interrupt.{withPending, withRequests, acceptedSource, servicePsr, entryFor, accept}
 use Rattle.step.specs.Step.{interruptOr, step}
-use Rattle.decide.specs.Effect.{Effect, Stopped, Raised, Next, Result, ResultFlags, ResultProduct, Compare, Conditions, StoreControl, StoreCell, Jump, JumpLink, EnableInterrupts, SwitchWidth, SystemCall, InterruptReturn, UserReturn, SelectSets}
-use Rattle.step.proofs.Safe.{if-holds, Safe, decide-safe}
+use Rattle.apply.specs.Effect.{Effect, Stopped, Raised, Next, Result, ResultFlags, ResultProduct, Compare, Conditions, StoreControl, StoreCell, Jump, JumpLink, EnableInterrupts, SwitchWidth, SystemCall, InterruptReturn, UserReturn, SelectSets}
+use Rattle.execute.proofs.Safe.{Safe, decide-safe}
+use Rattle.word.proofs.Tests.{if-holds}
 use Rattle.step.proofs.Stored.{control-of, control-put, control-stored, top-shown, rest-stacked}
 use Rattle.step.proofs.Accepted.{Accepted, source-accepted}
 use Rattle.step.proofs.Parts.{second-of, second-set, set1-formed, set2-formed, psr-formed, conditions-formed, control-formed, position-formed, stack-formed, moved-formed}

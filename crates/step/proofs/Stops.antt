@@ -8,14 +8,14 @@ use native.Mathlib.Omega.{arith}
 use Rattle.word.proofs.Tests.{false-unless}
 use Rattle.machine.specs.Machine.{State}
 use Rattle.decide.specs.View.{View, view}
-use Rattle.decide.specs.Decide.{decide}
-use Rattle.decide.specs.Effect.{Effect, Stopped, Raised, Next, Result, ResultFlags, ResultProduct, Compare, Conditions, StoreControl, StoreCell, Jump, JumpLink, EnableInterrupts, SwitchWidth, SystemCall, InterruptReturn, UserReturn, SelectSets}
+use Rattle.execute.specs.Decide.{decide}
+use Rattle.apply.specs.Effect.{Effect, Stopped, Raised, Next, Result, ResultFlags, ResultProduct, Compare, Conditions, StoreControl, StoreCell, Jump, JumpLink, EnableInterrupts, SwitchWidth, SystemCall, InterruptReturn, UserReturn, SelectSets}
 use Rattle.apply.specs.Apply.{Transition, machineOnly, storeCell, apply, stopNumber}
 use Rattle.apply.specs.Kind.{Kind}
 use Rattle.apply.specs.Kind as kind
 use Rattle.step.specs.Interrupt.{withRequests, acceptedSource}
 use Rattle.step.specs.Step.{isStop, interruptOr, step}
-use Rattle.step.proofs.Safe.{Safe, decide-safe}
+use Rattle.execute.proofs.Safe.{Safe, decide-safe}
 
 -- a stop's number is one of the five
 abbrev Numbered : Kind → Type 0

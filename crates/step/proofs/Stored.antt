@@ -15,7 +15,7 @@ use Rattle.machine.specs.declared.Entry.{Entry}
 use Rattle.machine.proofs.Registers.{plain-holds, kept-holds}
 use Rattle.machine.proofs.Stack.{shown-flags, shown-address, shown-psr, shown-c0}
 use Rattle.image.proofs.Formed.{Registers, registers-set, StatusOk, Stacked, empty, pushed, stacked-flags, WellFormed}
-use Rattle.step.proofs.Safe.{if-holds}
+use Rattle.word.proofs.Tests.{if-holds}
 
 -- a control block that shows a stack
 pub record Control (es : List Entry) (l : List ℕ) : Type 0 where

@@ -9,8 +9,8 @@ use Rattle.word.specs.Arithmetic.{orOf}
 use Rattle.machine.specs.Machine.{State}
 use Rattle.machine.specs.Control.{controlAt, INT-PEND}
 use Rattle.decide.specs.View.{view}
-use Rattle.decide.specs.Decide.{decide}
-use Rattle.decide.specs.Effect.{Effect, Stopped, Raised, Next, Result, ResultFlags, ResultProduct, Compare, Conditions, StoreControl, StoreCell, Jump, JumpLink, EnableInterrupts, SwitchWidth, SystemCall, InterruptReturn, UserReturn, SelectSets}
+use Rattle.execute.specs.Decide.{decide}
+use Rattle.apply.specs.Effect.{Effect, Stopped, Raised, Next, Result, ResultFlags, ResultProduct, Compare, Conditions, StoreControl, StoreCell, Jump, JumpLink, EnableInterrupts, SwitchWidth, SystemCall, InterruptReturn, UserReturn, SelectSets}
 use Rattle.apply.specs.Apply.{Transition, machineOnly, storeCell, apply, stopNumber, Told, told}
 use Rattle.step.specs.Interrupt.{withPending, withRequests, acceptedSource, accept}
 use Rattle.step.specs.Step.{isStop, interruptOr, step}

@@ -25,7 +25,7 @@ use Rattle.image.proofs.Formed.{Stacked, empty, pushed, registers-below, WellFo
 use Rattle.decide.specs.View.{View}
 use Rattle.step.specs.Interrupt.{priority, belowAll, eligible, before, candidate, mayAccept, acceptedSource}
 use Rattle.step.specs.Search.{sourceNumber, waiting, priorityOr, mostUrgent, serviceFloor}
-use Rattle.step.proofs.Safe.{if-holds}
+use Rattle.word.proofs.Tests.{if-holds}
 use Rattle.step.proofs.Accepted.{none-some, candidate-eligible}
 
 -- ---- tests

@@ -6,7 +6,7 @@ use Prim.Native.Nat.{ℕ}
 use Rattle.word.specs.Choice.{if_then_else_}
 use Rattle.machine.specs.Machine.{State}
 use Rattle.decide.specs.View.{View, view}
-use Rattle.decide.specs.Decide.{decide}
+use Rattle.execute.specs.Decide.{decide}
 use Rattle.apply.specs.Apply.{Transition, machineOnly, apply}
 use Rattle.step.specs.Interrupt.{withRequests, acceptedSource, accept}
 use Rattle.apply.specs.Kind.{Kind, Ordinary, Interrupt, SystemCall, InterruptReturn, Exception, Stop}

@@ -5,3 +5,5 @@ pub mod Bitwise
 pub mod Bounds
 pub mod Flags
 pub mod Worked
+pub mod Ranges
+pub mod Handed

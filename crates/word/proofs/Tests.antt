@@ -33,3 +33,9 @@ module _ {A : Type 0} where
   unfolding if_then_else_
   if-else true x y z f = refl
   if-else false x y z f = f refl
+
+-- what holds of both branches where they are taken holds of a choice
+pub if-holds : {A : Type 0} (P : A → Type 0) (b : Bool) {x y : A} → (b ≡ true → P x) → (b ≡ false → P y) → P (if_then_else_ b x y)
+unfolding if_then_else_
+if-holds P true f g = f refl
+if-holds P false f g = g refl

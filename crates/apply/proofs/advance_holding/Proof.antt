@@ -7,15 +7,6 @@ use borrow.Author.Needs.{needs}
 use Rattle.apply.proofs.advance_holding.Statement.{statement}
 use Rattle.apply.proofs.advance_holding.Tie as tie
 
-next-pc-requires : tie.Need-next-pc-requires
-next-pc-requires c κs = search needs
-
-set-position-requires : tie.Need-set-position-requires
-set-position-requires c κs = search needs
-
-same-length : tie.Need-same-length
-same-length c = search needs
-
 returns : tie.Need-returns
 unfolding advanceHolding
 returns c =
@@ -29,4 +20,4 @@ returns c =
 
 pub advance-holding-spec : {M : Type 1} → statement M
 advance-holding-spec =
-    tie.close (tie.spec next-pc-requires set-position-requires same-length returns)
+    tie.close (tie.spec (λ c κs. search needs) (λ c κs. search needs) (λ c. search needs) returns)

@@ -4,15 +4,6 @@ use borrow.Author.Needs.{needs}
 use Rattle.apply.proofs.compare.Statement.{statement}
 use Rattle.apply.proofs.compare.Tie as tie
 
-write-flags-requires : tie.Need-write-flags-requires
-write-flags-requires c κs = search needs
-
-advance-requires : tie.Need-advance-requires
-advance-requires c κs = search needs
-
-same-length : tie.Need-same-length
-same-length c = search needs
-
 returns : tie.Need-returns
 unfolding tells
 returns c cells =
@@ -21,4 +12,4 @@ returns c cells =
     rw (c1 .advance .ensures, c2 .write-flags .ensures)
 
 pub compare-spec : {M : Type 1} → statement M
-compare-spec = tie.close (tie.spec write-flags-requires advance-requires same-length returns)
+compare-spec = tie.close (tie.spec (λ c κs. search needs) (λ c κs. search needs) (λ c. search needs) returns)

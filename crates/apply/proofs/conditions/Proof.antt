@@ -4,15 +4,6 @@ use borrow.Author.Needs.{needs}
 use Rattle.apply.proofs.conditions.Statement.{statement}
 use Rattle.apply.proofs.conditions.Tie as tie
 
-unpack-requires : tie.Need-unpack-requires
-unpack-requires c κs = search needs
-
-advance-requires : tie.Need-advance-requires
-advance-requires c κs = search needs
-
-same-length : tie.Need-same-length
-same-length c = search needs
-
 returns : tie.Need-returns
 unfolding tells
 returns c cells =
@@ -21,4 +12,4 @@ returns c cells =
     rw (c1 .advance .ensures, c2 .unpack .ensures)
 
 pub conditions-spec : {M : Type 1} → statement M
-conditions-spec = tie.close (tie.spec unpack-requires advance-requires same-length returns)
+conditions-spec = tie.close (tie.spec (λ c κs. search needs) (λ c κs. search needs) (λ c. search needs) returns)

@@ -6,24 +6,6 @@ use borrow.Author.Needs.{needs}
 use Rattle.apply.proofs.enable_interrupts.Statement.{statement}
 use Rattle.apply.proofs.enable_interrupts.Tie as tie
 
-psr-requires : tie.Need-psr-requires
-psr-requires c κs = search needs
-
-advance-requires : tie.Need-advance-requires
-advance-requires c κs = search needs
-
-has-flag-requires : tie.Need-has-flag-requires
-has-flag-requires c κs = search needs
-
-with-modes-requires : tie.Need-with-modes-requires
-with-modes-requires c κs = search needs
-
-set-psr-requires : tie.Need-set-psr-requires
-set-psr-requires c κs = search needs
-
-same-length : tie.Need-same-length
-same-length c = search needs
-
 returns : tie.Need-returns
 unfolding enableInterrupts wideWords tells
 returns c cells =
@@ -38,10 +20,5 @@ pub enable-interrupts-spec : {M : Type 1} → statement M
 enable-interrupts-spec =
     tie.close
     (tie.spec
-    psr-requires
-    advance-requires
-    has-flag-requires
-    with-modes-requires
-    set-psr-requires
-    same-length
+    (λ c κs. search needs) (λ c κs. search needs) (λ c κs. search needs) (λ c κs. search needs) (λ c κs. search needs) (λ c. search needs)
     returns)

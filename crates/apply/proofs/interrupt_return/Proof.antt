@@ -10,21 +10,6 @@ use Rattle.apply.proofs.interrupt_return.Tie as tie
 top-requires : tie.Need-top-requires
 top-requires c κs = (search needs, depth-most _ (c .before .before .pre .1 .distinct))
 
-pop-requires : tie.Need-pop-requires
-pop-requires c κs = search needs
-
-set-condition-requires : tie.Need-set-condition-requires
-set-condition-requires c κs = search needs
-
-set-psr-requires : tie.Need-set-psr-requires
-set-psr-requires c κs = search needs
-
-go-to-requires : tie.Need-go-to-requires
-go-to-requires c κs = search needs
-
-same-length : tie.Need-same-length
-same-length c = search needs
-
 returns : tie.Need-returns
 unfolding interruptReturn withStack tells
 returns c cells =
@@ -40,9 +25,5 @@ interrupt-return-spec =
     tie.close
     (tie.spec
     top-requires
-    pop-requires
-    set-condition-requires
-    set-psr-requires
-    go-to-requires
-    same-length
+    (λ c κs. search needs) (λ c κs. search needs) (λ c κs. search needs) (λ c κs. search needs) (λ c. search needs)
     returns)

@@ -4,18 +4,6 @@ use borrow.Author.Needs.{needs}
 use Rattle.apply.proofs.jump_link.Statement.{statement}
 use Rattle.apply.proofs.jump_link.Tie as tie
 
-words-on-requires : tie.Need-words-on-requires
-words-on-requires c κs = search needs
-
-write-register-requires : tie.Need-write-register-requires
-write-register-requires c κs = search needs
-
-jump-to-requires : tie.Need-jump-to-requires
-jump-to-requires c κs = search needs
-
-same-length : tie.Need-same-length
-same-length c = search needs
-
 returns : tie.Need-returns
 unfolding tells
 returns c cells =
@@ -27,4 +15,4 @@ returns c cells =
 pub jump-link-spec : {M : Type 1} → statement M
 jump-link-spec =
     tie.close
-    (tie.spec words-on-requires write-register-requires jump-to-requires same-length returns)
+    (tie.spec (λ c κs. search needs) (λ c κs. search needs) (λ c κs. search needs) (λ c. search needs) returns)

@@ -7,15 +7,6 @@ use borrow.Author.Needs.{needs}
 use Rattle.apply.proofs.jump_to.Statement.{statement}
 use Rattle.apply.proofs.jump_to.Tie as tie
 
-next-pc-requires : tie.Need-next-pc-requires
-next-pc-requires c κs = search needs
-
-set-position-requires : tie.Need-set-position-requires
-set-position-requires c κs = search needs
-
-same-length : tie.Need-same-length
-same-length c = search needs
-
 returns : tie.Need-returns
 unfolding jumpTo
 returns c =
@@ -27,4 +18,4 @@ returns c =
     rw (← (c2 .next-pc .ensures), t) (c1 .set-position .ensures)
 
 pub jump-to-spec : {M : Type 1} → statement M
-jump-to-spec = tie.close (tie.spec next-pc-requires set-position-requires same-length returns)
+jump-to-spec = tie.close (tie.spec (λ c κs. search needs) (λ c κs. search needs) (λ c. search needs) returns)

@@ -6,15 +6,6 @@ use borrow.Author.Needs.{needs}
 use Rattle.apply.proofs.next_pc.Statement.{statement}
 use Rattle.apply.proofs.next_pc.Tie as tie
 
-slot-requires : tie.Need-slot-requires
-slot-requires c κs = search needs
-
-target-requires : tie.Need-target-requires
-target-requires c κs = search needs
-
-words-on-requires : tie.Need-words-on-requires
-words-on-requires c κs = search needs
-
 returns : tie.Need-returns
 returns c = let m = machineOf (c .before .before .before .before .args .w .now) in c .target .ensures ∙ sym (in-slot m (sym (c .before .before .slot .ensures) ∙ c .before .if1 .taken))
 
@@ -23,4 +14,4 @@ returns-2 c = let m = machineOf (c .before .before .before .before .args .w .now
 
 pub next-pc-spec : {M : Type 1} → statement M
 next-pc-spec =
-    tie.close (tie.spec slot-requires target-requires words-on-requires returns returns-2)
+    tie.close (tie.spec (λ c κs. search needs) (λ c κs. search needs) (λ c κs. search needs) returns returns-2)

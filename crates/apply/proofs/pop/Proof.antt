@@ -7,22 +7,10 @@ use borrow.Author.Needs.{needs}
 use Rattle.apply.proofs.pop.Statement.{statement}
 use Rattle.apply.proofs.pop.Tie as tie
 
-depth-requires : tie.Need-depth-requires
-depth-requires c κs = search needs
-
 pop-requires : tie.Need-pop-requires
 pop-requires c κs =
     let s = c .before .before .before .before .before in
     (search needs, (shown-served (s .args .w .now) (s .pre .0) (s .pre .1), (s .pre .1 .distinct, omega (arith, c .before .before .depth .ensures))))
-
-same-length : tie.Need-same-length
-same-length c = search needs
-
-returns : tie.Need-returns
-returns c = search needs
-
-same-length-2 : tie.Need-same-length-2
-same-length-2 c = search needs
 
 returns-2 : tie.Need-returns-2
 returns-2 c =
@@ -31,4 +19,4 @@ returns-2 c =
 
 pub pop-spec : {M : Type 1} → statement M
 pop-spec =
-    tie.close (tie.spec depth-requires pop-requires same-length returns same-length-2 returns-2)
+    tie.close (tie.spec (λ c κs. search needs) pop-requires (λ c. search needs) (λ c. search needs) (λ c. search needs) returns-2)

@@ -6,33 +6,6 @@ use borrow.Author.Needs.{needs}
 use Rattle.apply.proofs.raise.Statement.{statement}
 use Rattle.apply.proofs.raise.Tie as tie
 
-pc-requires : tie.Need-pc-requires
-pc-requires c κs = search needs
-
-psr-requires : tie.Need-psr-requires
-psr-requires c κs = search needs
-
-control-requires : tie.Need-control-requires
-control-requires c κs = search needs
-
-set-control-requires : tie.Need-set-control-requires
-set-control-requires c κs = search needs
-
-set-control-requires-2 : tie.Need-set-control-requires-2
-set-control-requires-2 c κs = search needs
-
-set-control-requires-3 : tie.Need-set-control-requires-3
-set-control-requires-3 c κs = search needs
-
-set-psr-requires : tie.Need-set-psr-requires
-set-psr-requires c κs = search needs
-
-go-to-requires : tie.Need-go-to-requires
-go-to-requires c κs = search needs
-
-same-length : tie.Need-same-length
-same-length c = search needs
-
 returns : tie.Need-returns
 unfolding raise withControl tells
 returns c cells =
@@ -59,13 +32,5 @@ pub raise-spec : {M : Type 1} → statement M
 raise-spec =
     tie.close
     (tie.spec
-    pc-requires
-    psr-requires
-    control-requires
-    set-control-requires
-    set-control-requires-2
-    set-control-requires-3
-    set-psr-requires
-    go-to-requires
-    same-length
+    (λ c κs. search needs) (λ c κs. search needs) (λ c κs. search needs) (λ c κs. search needs) (λ c κs. search needs) (λ c κs. search needs) (λ c κs. search needs) (λ c κs. search needs) (λ c. search needs)
     returns)

@@ -7,18 +7,6 @@ use borrow.Author.Needs.{needs}
 use Rattle.apply.proofs.result.Statement.{statement}
 use Rattle.apply.proofs.result.Tie as tie
 
-next-pc-requires : tie.Need-next-pc-requires
-next-pc-requires c κs = search needs
-
-write-register-requires : tie.Need-write-register-requires
-write-register-requires c κs = search needs
-
-go-to-requires : tie.Need-go-to-requires
-go-to-requires c κs = search needs
-
-same-length : tie.Need-same-length
-same-length c = search needs
-
 returns : tie.Need-returns
 unfolding advance tells
 returns c cells =
@@ -31,4 +19,4 @@ returns c cells =
 pub result-spec : {M : Type 1} → statement M
 result-spec =
     tie.close
-    (tie.spec next-pc-requires write-register-requires go-to-requires same-length returns)
+    (tie.spec (λ c κs. search needs) (λ c κs. search needs) (λ c κs. search needs) (λ c. search needs) returns)

@@ -7,21 +7,6 @@ use borrow.Author.Needs.{needs}
 use Rattle.apply.proofs.result_flags.Statement.{statement}
 use Rattle.apply.proofs.result_flags.Tie as tie
 
-next-pc-requires : tie.Need-next-pc-requires
-next-pc-requires c κs = search needs
-
-write-register-requires : tie.Need-write-register-requires
-write-register-requires c κs = search needs
-
-write-flags-requires : tie.Need-write-flags-requires
-write-flags-requires c κs = search needs
-
-go-to-requires : tie.Need-go-to-requires
-go-to-requires c κs = search needs
-
-same-length : tie.Need-same-length
-same-length c = search needs
-
 returns : tie.Need-returns
 unfolding advance tells
 returns c cells =
@@ -44,9 +29,5 @@ pub result-flags-spec : {M : Type 1} → statement M
 result-flags-spec =
     tie.close
     (tie.spec
-    next-pc-requires
-    write-register-requires
-    write-flags-requires
-    go-to-requires
-    same-length
+    (λ c κs. search needs) (λ c κs. search needs) (λ c κs. search needs) (λ c κs. search needs) (λ c. search needs)
     returns)

@@ -4,15 +4,6 @@ use borrow.Author.Needs.{needs}
 use Rattle.apply.proofs.result_product.Statement.{statement}
 use Rattle.apply.proofs.result_product.Tie as tie
 
-write-register-requires : tie.Need-write-register-requires
-write-register-requires c κs = search needs
-
-advance-holding-requires : tie.Need-advance-holding-requires
-advance-holding-requires c κs = search needs
-
-same-length : tie.Need-same-length
-same-length c = search needs
-
 returns : tie.Need-returns
 unfolding tells
 returns c cells =
@@ -22,4 +13,4 @@ returns c cells =
 
 pub result-product-spec : {M : Type 1} → statement M
 result-product-spec =
-    tie.close (tie.spec write-register-requires advance-holding-requires same-length returns)
+    tie.close (tie.spec (λ c κs. search needs) (λ c κs. search needs) (λ c. search needs) returns)

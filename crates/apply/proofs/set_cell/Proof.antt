@@ -7,15 +7,6 @@ use borrow.Author.Needs.{needs}
 use Rattle.apply.proofs.set_cell.Statement.{statement}
 use Rattle.apply.proofs.set_cell.Tie as tie
 
-mul-cells : tie.Need-mul-cells
-mul-cells c = search needs
-
-slice-write-cells : tie.Need-slice-write-cells
-slice-write-cells c = search needs
-
-same-length : tie.Need-same-length
-same-length c = search needs
-
 returns : tie.Need-returns
 returns c = let a = c .before .args in let x : a .x % 2 ^ 32 ≡ a .x = omega arith in rw x
 
@@ -23,4 +14,4 @@ returns-2 : tie.Need-returns-2
 returns-2 c = sym (set-out _ _ _ (c .if1 .left))
 
 pub set-cell-spec : {M : Type 1} → statement M
-set-cell-spec = tie.close (tie.spec mul-cells slice-write-cells same-length returns returns-2)
+set-cell-spec = tie.close (tie.spec (λ c. search needs) (λ c. search needs) (λ c. search needs) returns returns-2)

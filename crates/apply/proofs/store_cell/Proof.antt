@@ -4,18 +4,6 @@ use borrow.Author.Needs.{needs}
 use Rattle.apply.proofs.store_cell.Statement.{statement}
 use Rattle.apply.proofs.store_cell.Tie as tie
 
-set-cell-requires : tie.Need-set-cell-requires
-set-cell-requires c κs = search needs
-
-advance-requires : tie.Need-advance-requires
-advance-requires c κs = search needs
-
-same-length : tie.Need-same-length
-same-length c = search needs
-
-same-length-2 : tie.Need-same-length-2
-same-length-2 c = search needs
-
 returns : tie.Need-returns
 unfolding tells
 returns c =
@@ -25,4 +13,4 @@ returns c =
 
 pub store-cell-spec : {M : Type 1} → statement M
 store-cell-spec =
-    tie.close (tie.spec set-cell-requires advance-requires same-length same-length-2 returns)
+    tie.close (tie.spec (λ c κs. search needs) (λ c κs. search needs) (λ c. search needs) (λ c. search needs) returns)

@@ -4,15 +4,6 @@ use borrow.Author.Needs.{needs}
 use Rattle.apply.proofs.store_control.Statement.{statement}
 use Rattle.apply.proofs.store_control.Tie as tie
 
-store-control-requires : tie.Need-store-control-requires
-store-control-requires c κs = search needs
-
-advance-requires : tie.Need-advance-requires
-advance-requires c κs = search needs
-
-same-length : tie.Need-same-length
-same-length c = search needs
-
 returns : tie.Need-returns
 unfolding tells
 returns c cells =
@@ -22,4 +13,4 @@ returns c cells =
 
 pub store-control-spec : {M : Type 1} → statement M
 store-control-spec =
-    tie.close (tie.spec store-control-requires advance-requires same-length returns)
+    tie.close (tie.spec (λ c κs. search needs) (λ c κs. search needs) (λ c. search needs) returns)

@@ -6,27 +6,6 @@ use borrow.Author.Needs.{needs}
 use Rattle.apply.proofs.switch_width.Statement.{statement}
 use Rattle.apply.proofs.switch_width.Tie as tie
 
-psr-requires : tie.Need-psr-requires
-psr-requires c κs = search needs
-
-words-on-requires : tie.Need-words-on-requires
-words-on-requires c κs = search needs
-
-go-to-requires : tie.Need-go-to-requires
-go-to-requires c κs = search needs
-
-has-flag-requires : tie.Need-has-flag-requires
-has-flag-requires c κs = search needs
-
-with-modes-requires : tie.Need-with-modes-requires
-with-modes-requires c κs = search needs
-
-set-psr-requires : tie.Need-set-psr-requires
-set-psr-requires c κs = search needs
-
-same-length : tie.Need-same-length
-same-length c = search needs
-
 returns : tie.Need-returns
 unfolding switchWidth interruptsEnabled tells
 returns c cells =
@@ -42,11 +21,5 @@ pub switch-width-spec : {M : Type 1} → statement M
 switch-width-spec =
     tie.close
     (tie.spec
-    psr-requires
-    words-on-requires
-    go-to-requires
-    has-flag-requires
-    with-modes-requires
-    set-psr-requires
-    same-length
+    (λ c κs. search needs) (λ c κs. search needs) (λ c κs. search needs) (λ c κs. search needs) (λ c κs. search needs) (λ c κs. search needs) (λ c. search needs)
     returns)

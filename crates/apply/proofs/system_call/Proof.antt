@@ -6,30 +6,6 @@ use borrow.Author.Needs.{needs}
 use Rattle.apply.proofs.system_call.Statement.{statement}
 use Rattle.apply.proofs.system_call.Tie as tie
 
-words-on-requires : tie.Need-words-on-requires
-words-on-requires c κs = search needs
-
-psr-requires : tie.Need-psr-requires
-psr-requires c κs = search needs
-
-control-requires : tie.Need-control-requires
-control-requires c κs = search needs
-
-set-register-requires : tie.Need-set-register-requires
-set-register-requires c κs = search needs
-
-set-register-requires-2 : tie.Need-set-register-requires-2
-set-register-requires-2 c κs = search needs
-
-set-psr-requires : tie.Need-set-psr-requires
-set-psr-requires c κs = search needs
-
-go-to-requires : tie.Need-go-to-requires
-go-to-requires c κs = search needs
-
-same-length : tie.Need-same-length
-same-length c = search needs
-
 returns : tie.Need-returns
 unfolding systemCall withRegister withSet2 tells
 returns c cells =
@@ -54,12 +30,5 @@ pub system-call-spec : {M : Type 1} → statement M
 system-call-spec =
     tie.close
     (tie.spec
-    words-on-requires
-    psr-requires
-    control-requires
-    set-register-requires
-    set-register-requires-2
-    set-psr-requires
-    go-to-requires
-    same-length
+    (λ c κs. search needs) (λ c κs. search needs) (λ c κs. search needs) (λ c κs. search needs) (λ c κs. search needs) (λ c κs. search needs) (λ c κs. search needs) (λ c. search needs)
     returns)

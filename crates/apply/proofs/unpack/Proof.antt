@@ -7,33 +7,6 @@ use borrow.Author.Needs.{needs}
 use Rattle.apply.proofs.unpack.Statement.{statement}
 use Rattle.apply.proofs.unpack.Tie as tie
 
-set-condition-requires : tie.Need-set-condition-requires
-set-condition-requires c κs = search needs
-
-set-condition-requires-2 : tie.Need-set-condition-requires-2
-set-condition-requires-2 c κs = search needs
-
-set-condition-requires-3 : tie.Need-set-condition-requires-3
-set-condition-requires-3 c κs = search needs
-
-set-condition-requires-4 : tie.Need-set-condition-requires-4
-set-condition-requires-4 c κs = search needs
-
-set-condition-requires-5 : tie.Need-set-condition-requires-5
-set-condition-requires-5 c κs = search needs
-
-set-condition-requires-6 : tie.Need-set-condition-requires-6
-set-condition-requires-6 c κs = search needs
-
-set-condition-requires-7 : tie.Need-set-condition-requires-7
-set-condition-requires-7 c κs = search needs
-
-set-condition-requires-8 : tie.Need-set-condition-requires-8
-set-condition-requires-8 c κs = search needs
-
-same-length : tie.Need-same-length
-same-length c = search needs
-
 returns : tie.Need-returns
 unfolding withConditions
 returns c =
@@ -63,13 +36,5 @@ pub unpack-spec : {M : Type 1} → statement M
 unpack-spec =
     tie.close
     (tie.spec
-    set-condition-requires
-    set-condition-requires-2
-    set-condition-requires-3
-    set-condition-requires-4
-    set-condition-requires-5
-    set-condition-requires-6
-    set-condition-requires-7
-    set-condition-requires-8
-    same-length
+    (λ c κs. search needs) (λ c κs. search needs) (λ c κs. search needs) (λ c κs. search needs) (λ c κs. search needs) (λ c κs. search needs) (λ c κs. search needs) (λ c κs. search needs) (λ c. search needs)
     returns)

@@ -13,17 +13,11 @@ small : (b : Bool) → boolByte b ≤ 1
 small true = omega arith
 small false = omega arith
 
-cast-result : tie.Need-cast-result
-cast-result c = search needs
-
 mul-result : tie.Need-mul-result
 mul-result c = omega (arith, small (c .args .wide))
 
 add-result : tie.Need-add-result
 add-result c = omega (arith, small (c .args .wide))
-
-cast-result-2 : tie.Need-cast-result-2
-cast-result-2 c = search needs
 
 mul-result-2 : tie.Need-mul-result-2
 mul-result-2 c = omega (arith, small (c .args .enabled))
@@ -38,4 +32,4 @@ returns c = refl
 pub with-modes-spec : {M : Type 1} → statement M
 with-modes-spec =
     tie.close
-    (tie.spec cast-result mul-result add-result cast-result-2 mul-result-2 add-result-2 returns)
+    (tie.spec (λ c. search needs) mul-result add-result (λ c. search needs) mul-result-2 add-result-2 returns)

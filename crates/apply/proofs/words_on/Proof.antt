@@ -7,30 +7,6 @@ use borrow.Author.Needs.{needs}
 use Rattle.apply.proofs.words_on.Statement.{statement}
 use Rattle.apply.proofs.words_on.Tie as tie
 
-psr-requires : tie.Need-psr-requires
-psr-requires c κs = search needs
-
-has-flag-requires : tie.Need-has-flag-requires
-has-flag-requires c κs = search needs
-
-pc-requires : tie.Need-pc-requires
-pc-requires c κs = search needs
-
-mul-wrapping-add-u32 : tie.Need-mul-wrapping-add-u32
-mul-wrapping-add-u32 c = search needs
-
-wrapping-add-u32-requires : tie.Need-wrapping-add-u32-requires
-wrapping-add-u32-requires c κs = search needs
-
-pc-requires-2 : tie.Need-pc-requires-2
-pc-requires-2 c κs = search needs
-
-mul-wrapping-add-u32-2 : tie.Need-mul-wrapping-add-u32-2
-mul-wrapping-add-u32-2 c = search needs
-
-wrapping-add-u32-requires-2 : tie.Need-wrapping-add-u32-requires-2
-wrapping-add-u32-requires-2 c κs = search needs
-
 returns : tie.Need-returns
 unfolding wordsOn widthOf wideWords widthBy bytesOf
 returns c =
@@ -53,13 +29,6 @@ pub words-on-spec : {M : Type 1} → statement M
 words-on-spec =
     tie.close
     (tie.spec
-    psr-requires
-    has-flag-requires
-    pc-requires
-    mul-wrapping-add-u32
-    wrapping-add-u32-requires
-    pc-requires-2
-    mul-wrapping-add-u32-2
-    wrapping-add-u32-requires-2
+    (λ c κs. search needs) (λ c κs. search needs) (λ c κs. search needs) (λ c. search needs) (λ c κs. search needs) (λ c κs. search needs) (λ c. search needs) (λ c κs. search needs)
     returns
     returns-2)

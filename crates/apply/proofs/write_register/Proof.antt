@@ -7,18 +7,6 @@ use borrow.Author.Needs.{needs}
 use Rattle.apply.proofs.write_register.Statement.{statement}
 use Rattle.apply.proofs.write_register.Tie as tie
 
-psr-requires : tie.Need-psr-requires
-psr-requires c κs = search needs
-
-has-flag-requires : tie.Need-has-flag-requires
-has-flag-requires c κs = search needs
-
-write-register-requires : tie.Need-write-register-requires
-write-register-requires c κs = search needs
-
-same-length : tie.Need-same-length
-same-length c = search needs
-
 returns : tie.Need-returns
 unfolding writesSet2
 returns c =
@@ -32,4 +20,4 @@ returns c =
 
 pub write-register-spec : {M : Type 1} → statement M
 write-register-spec =
-    tie.close (tie.spec psr-requires has-flag-requires write-register-requires same-length returns)
+    tie.close (tie.spec (λ c κs. search needs) (λ c κs. search needs) (λ c κs. search needs) (λ c. search needs) returns)

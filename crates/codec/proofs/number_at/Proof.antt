@@ -5,12 +5,6 @@ use Rattle.codec.proofs.Laws.{reversed-lowFirstAt}
 use Rattle.codec.proofs.number_at.Statement.{statement}
 use Rattle.codec.proofs.number_at.Tie as tie
 
-low-first-at-requires : tie.Need-low-first-at-requires
-low-first-at-requires c κs = search needs
-
-reversed-requires : tie.Need-reversed-requires
-reversed-requires c κs = search needs
-
 returns : tie.Need-returns
 returns c =
     let known = c .before .before in
@@ -18,4 +12,4 @@ returns c =
     cc
 
 pub number-at-spec : {M : Type 1} → statement M
-number-at-spec = tie.close (tie.spec low-first-at-requires reversed-requires returns)
+number-at-spec = tie.close (tie.spec (λ c κs. search needs) (λ c κs. search needs) returns)

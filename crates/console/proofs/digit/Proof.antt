@@ -7,18 +7,6 @@ use borrow.Author.Needs.{needs}
 use Rattle.console.proofs.digit.Statement.{statement}
 use Rattle.console.proofs.digit.Tie as tie
 
-add-result : tie.Need-add-result
-add-result c = search needs
-
-cast-result : tie.Need-cast-result
-cast-result c = search needs
-
-add-result-2 : tie.Need-add-result-2
-add-result-2 c = search needs
-
-cast-result-2 : tie.Need-cast-result-2
-cast-result-2 c = search needs
-
 returns : tie.Need-returns
 unfolding digitOf
 returns c = sym (if-true _ _ _ (lt-ltb _ _ (c .if1 .taken)))
@@ -29,4 +17,4 @@ returns-2 c = sym (if-false _ _ _ (le-ltb _ _ (c .if1 .left)))
 
 pub digit-spec : {M : Type 1} → statement M
 digit-spec =
-    tie.close (tie.spec add-result cast-result add-result-2 cast-result-2 returns returns-2)
+    tie.close (tie.spec (λ c. search needs) (λ c. search needs) (λ c. search needs) (λ c. search needs) returns returns-2)

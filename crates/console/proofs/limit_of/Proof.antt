@@ -8,14 +8,8 @@ use borrow.Author.Needs.{needs}
 use Rattle.console.proofs.limit_of.Statement.{statement}
 use Rattle.console.proofs.limit_of.Tie as tie
 
-line-length-requires : tie.Need-line-length-requires
-line-length-requires c κs = search needs
-
 slice-aggregate-number : tie.Need-slice-aggregate-number
 slice-aggregate-number c = sym (length-take-le _ _ (omega (arith, c .before .line-length .ensures, lineLength-near (c .before .before .before .args .text .now))))
-
-number-requires : tie.Need-number-requires
-number-requires c κs = search needs
 
 returns : tie.Need-returns
 unfolding limitOf
@@ -23,4 +17,4 @@ returns c = simp (← (c .before .before .line-length .ensures)) (c .number .ens
 
 pub limit-of-spec : {M : Type 1} → statement M
 limit-of-spec =
-    tie.close (tie.spec line-length-requires slice-aggregate-number number-requires returns)
+    tie.close (tie.spec (λ c κs. search needs) slice-aggregate-number (λ c κs. search needs) returns)

@@ -40,12 +40,6 @@ returns-2 c = number-long _ (c .before .if1 .left) (omega arith)
 loop-holds : tie.Need-loop-holds Inv-loop μ-loop
 loop-holds c = (search needs, (search needs, number-read _ (c .before .if1 .left) (omega arith)))
 
-shared-slice-read-b : tie.Need-shared-slice-read-b Inv-loop μ-loop
-shared-slice-read-b c = search needs
-
-is-digit-requires : tie.Need-is-digit-requires Inv-loop μ-loop
-is-digit-requires c κs = search needs
-
 mul-value : tie.Need-mul-value Inv-loop μ-loop
 mul-value c = omega (arith, small c)
 
@@ -62,12 +56,6 @@ returns-3 : tie.Need-returns-3 Inv-loop μ-loop
 returns-3 c =
     let at-loop = c .before .before .before .before .loop in
     sym (number-other (c .before .before .before .before .before .before .before .before .args .text .now) (at-loop .i) (at-loop .value) (omega arith) (sym (c .before .is-digit .ensures) ∙ c .if3 .left)) ∙ at-loop .inv .1 .1
-
-add-i : tie.Need-add-i Inv-loop μ-loop
-add-i c = search needs
-
-loop-less : tie.Need-loop-less Inv-loop μ-loop
-loop-less c = search needs
 
 loop-again : tie.Need-loop-again Inv-loop μ-loop
 loop-again c =
@@ -91,14 +79,12 @@ number-spec =
     returns
     returns-2
     loop-holds
-    shared-slice-read-b
-    is-digit-requires
+    (λ c. search needs) (λ c κs. search needs)
     mul-value
     sub-value
     cast-value
     add-value
     returns-3
-    add-i
-    loop-less
+    (λ c. search needs) (λ c. search needs)
     loop-again
     returns-4)

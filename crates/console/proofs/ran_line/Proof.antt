@@ -15,29 +15,14 @@ few c =
       omega (arith, c .places2 .ensures, places-few (start .args .ending) (start .fits .ending .fits)),
     )
 
-places-requires : tie.Need-places-requires
-places-requires c κs = search needs
-
-places-requires-2 : tie.Need-places-requires-2
-places-requires-2 c κs = search needs
-
-slice-aggregate-put-number : tie.Need-slice-aggregate-put-number
-slice-aggregate-put-number c = search needs
-
 put-number-requires : tie.Need-put-number-requires
 put-number-requires c κs = omega (arith, few (c .before))
-
-slice-aggregate-put-number-2 : tie.Need-slice-aggregate-put-number-2
-slice-aggregate-put-number-2 c = search needs
 
 add-put-number : tie.Need-add-put-number
 add-put-number c = omega (arith, few (c .before .before .before .before))
 
 put-number-requires-2 : tie.Need-put-number-requires-2
 put-number-requires-2 c κs = omega (arith, few (c .before .before .before .before))
-
-slice-aggregate-put-number-3 : tie.Need-slice-aggregate-put-number-3
-slice-aggregate-put-number-3 c = search needs
 
 add-put-number-2 : tie.Need-add-put-number-2
 add-put-number-2 c = omega (arith, few (c .before .before .before .before .before .before .before))
@@ -67,14 +52,12 @@ pub ran-line-spec : {M : Type 1} → statement M
 ran-line-spec =
     tie.close
     (tie.spec
-    places-requires
-    places-requires-2
-    slice-aggregate-put-number
+    (λ c κs. search needs) (λ c κs. search needs) (λ c. search needs)
     put-number-requires
-    slice-aggregate-put-number-2
+    (λ c. search needs)
     add-put-number
     put-number-requires-2
-    slice-aggregate-put-number-3
+    (λ c. search needs)
     add-put-number-2
     add-put-number-3
     put-number-requires-3

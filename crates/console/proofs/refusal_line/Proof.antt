@@ -11,12 +11,6 @@ use Rattle.console.proofs.refusal_line.Tie as tie
 few : (c : tie.After-places) → c .places .result ≤ 10
 few c = omega (arith, c .places .ensures, places-few (c .before .args .n) (c .before .fits .n .fits))
 
-places-requires : tie.Need-places-requires
-places-requires c κs = search needs
-
-slice-aggregate-put-number : tie.Need-slice-aggregate-put-number
-slice-aggregate-put-number c = search needs
-
 put-number-requires : tie.Need-put-number-requires
 put-number-requires c κs = omega (arith, few (c .before))
 
@@ -31,4 +25,4 @@ returns c =
 pub refusal-line-spec : {M : Type 1} → statement M
 refusal-line-spec =
     tie.close
-    (tie.spec places-requires slice-aggregate-put-number put-number-requires add-t8 returns)
+    (tie.spec (λ c κs. search needs) (λ c. search needs) put-number-requires add-t8 returns)

@@ -1,15 +1,9 @@
 -- `decide::condition_false` meets its contract: by the conditional bit. Assumes nothing.
 use borrow.Author.Needs.{needs}
-use Rattle.decide.specs.Decide.{conditionFalse}
+use Rattle.decide.specs.View.{conditionFalse}
 use Rattle.decide.specs.View.{view}
 use Rattle.decide.proofs.condition_false.Statement.{statement}
 use Rattle.decide.proofs.condition_false.Tie as tie
-
-condition-requires : tie.Need-condition-requires
-condition-requires c κs = search needs
-
-holds-requires : tie.Need-holds-requires
-holds-requires c κs = search needs
 
 returns : tie.Need-returns
 unfolding view conditionFalse
@@ -20,4 +14,4 @@ unfolding view conditionFalse
 returns-2 c q cells = rw (c .if1 .left)
 
 pub condition-false-spec : {M : Type 1} → statement M
-condition-false-spec = tie.close (tie.spec condition-requires holds-requires returns returns-2)
+condition-false-spec = tie.close (tie.spec (λ c κs. search needs) (λ c κs. search needs) returns returns-2)

@@ -22,41 +22,20 @@ returns c = program-no _ _ _ _ _ (c .if1 .taken)
 returns-2 : tie.Need-returns-2
 returns-2 c = cells-no _ _ _ _ _ (c .before .if1 .left) (c .if2 .taken)
 
-read-requires : tie.Need-read-requires
-read-requires c κs = search needs
-
-same-length : tie.Need-same-length
-same-length c = search needs
-
 returns-3 : tie.Need-returns-3
 returns-3 c = let read = c .before .before .before in
     image-no _ _ _ _ _ (read .before .before .before .if1 .left) (read .before .before .if2 .left) _ (read .read .ensures) (c .if3 .taken)
 
-all-below-requires : tie.Need-all-below-requires
-all-below-requires c κs = search needs
-
-same-length-2 : tie.Need-same-length-2
-same-length-2 c = search needs
-
 returns-4 : tie.Need-returns-4
 returns-4 c = requests-no _ _ (sym (c .before .all-below .ensures) ∙ not-true _ (c .if4 .taken)) ∙ past (c .before .before)
-
-same-length-3 : tie.Need-same-length-3
-same-length-3 c = search needs
 
 returns-5 : tie.Need-returns-5
 returns-5 c = let asked = c .before .before in
     limit-no _ _ (sym (asked .all-below .ensures) ∙ not-false _ (c .before .if4 .left)) (c .if5 .taken) ∙ past (asked .before)
 
-same-length-4 : tie.Need-same-length-4
-same-length-4 c = search needs
-
 returns-6 : tie.Need-returns-6
 returns-6 c = let asked = c .before .before .before in
     room-no _ _ (sym (asked .all-below .ensures) ∙ not-false _ (c .before .before .if4 .left)) (c .before .if5 .left) (c .if6 .taken) ∙ past (asked .before)
-
-same-length-5 : tie.Need-same-length-5
-same-length-5 c = search needs
 
 returns-7 : tie.Need-returns-7
 returns-7 c = let asked = c .before .before .before in
@@ -68,15 +47,13 @@ refusal-spec =
     (tie.spec
     returns
     returns-2
-    read-requires
-    same-length
+    (λ c κs. search needs) (λ c. search needs)
     returns-3
-    all-below-requires
-    same-length-2
+    (λ c κs. search needs) (λ c. search needs)
     returns-4
-    same-length-3
+    (λ c. search needs)
     returns-5
-    same-length-4
+    (λ c. search needs)
     returns-6
-    same-length-5
+    (λ c. search needs)
     returns-7)

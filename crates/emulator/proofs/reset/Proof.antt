@@ -12,20 +12,8 @@ returns : tie.Need-returns
 unfolding resetCall if_then_else_
 returns c = rw (lt-leb 708 _ (c .if1 .taken))
 
-slice-aggregate-reset : tie.Need-slice-aggregate-reset
-slice-aggregate-reset c = search needs
-
-reset-requires : tie.Need-reset-requires
-reset-requires c κs = search needs
-
-slice-aggregate-write : tie.Need-slice-aggregate-write
-slice-aggregate-write c = search needs
-
 write-requires : tie.Need-write-requires
 write-requires c κs = (search needs, rw (c .before .before .before .reset .ensures) (stacked-depth (reset-formed .stack)), search needs)
-
-same-length : tie.Need-same-length
-same-length c = search needs
 
 returns-2 : tie.Need-returns-2
 unfolding resetCall if_then_else_
@@ -37,9 +25,7 @@ reset-spec =
     tie.close
     (tie.spec
     returns
-    slice-aggregate-reset
-    reset-requires
-    slice-aggregate-write
+    (λ c. search needs) (λ c κs. search needs) (λ c. search needs)
     write-requires
-    same-length
+    (λ c. search needs)
     returns-2)

@@ -4,31 +4,13 @@ use Rattle.emulator.proofs.Running.{run-refused, run-yes, run-formed, r
 use Rattle.emulator.proofs.run.Statement.{statement}
 use Rattle.emulator.proofs.run.Tie as tie
 
-slice-aggregate-refusal : tie.Need-slice-aggregate-refusal
-slice-aggregate-refusal c = search needs
-
-refusal-requires : tie.Need-refusal-requires
-refusal-requires c κs = search needs
-
-same-length : tie.Need-same-length
-same-length c = search needs
-
-same-length-2 : tie.Need-same-length-2
-same-length-2 c = search needs
-
 returns : tie.Need-returns
 returns c = run-refused _ _ _ _ _ _ (c .before .before .refusal .ensures) (c .if1 .taken)
-
-slice-aggregate-run-steps : tie.Need-slice-aggregate-run-steps
-slice-aggregate-run-steps c = search needs
 
 run-steps-requires : tie.Need-run-steps-requires
 run-steps-requires c κs = let refused = c .before .before .before .before in
     let no = c .before .before .if1 .left in
     (search needs, run-yes _ _ _ _ _ _ (refused .refusal .ensures) no .programSize, run-formed _ _ _ _ _ _ (refused .refusal .ensures) no)
-
-slice-aggregate-write : tie.Need-slice-aggregate-write
-slice-aggregate-write c = search needs
 
 write-requires : tie.Need-write-requires
 write-requires c κs = let ran = c .before .before .before .before .before in
@@ -38,12 +20,6 @@ write-requires c κs = let ran = c .before .before .before .before .before in
       run-deep _ _ _ _ _ _ (refused .refusal .ensures) no _ _ _ (ran .run-steps .ensures),
       run-yes _ _ _ _ _ _ (refused .refusal .ensures) no .room,
     )
-
-same-length-3 : tie.Need-same-length-3
-same-length-3 c = search needs
-
-same-length-4 : tie.Need-same-length-4
-same-length-4 c = search needs
 
 returns-2 : tie.Need-returns-2
 returns-2 c = let ran = c .before .before .before .before .before .before .before .before .before in
@@ -55,15 +31,11 @@ pub run-spec : {M : Type 1} → statement M
 run-spec =
     tie.close
     (tie.spec
-    slice-aggregate-refusal
-    refusal-requires
-    same-length
-    same-length-2
+    (λ c. search needs) (λ c κs. search needs) (λ c. search needs) (λ c. search needs)
     returns
-    slice-aggregate-run-steps
+    (λ c. search needs)
     run-steps-requires
-    slice-aggregate-write
+    (λ c. search needs)
     write-requires
-    same-length-3
-    same-length-4
+    (λ c. search needs) (λ c. search needs)
     returns-2)

@@ -26,20 +26,8 @@ abbrev μ-loop : tie.MeasureT-loop
 loop-holds : tie.Need-loop-holds Inv-loop μ-loop
 loop-holds c = (search needs, (c .before .before .before .before .pre .2, rw sub-zero))
 
-cast-request-at : tie.Need-cast-request-at Inv-loop μ-loop
-cast-request-at c = search needs
-
-request-at-requires : tie.Need-request-at-requires Inv-loop μ-loop
-request-at-requires c κs = search needs
-
 step-requires : tie.Need-step-requires Inv-loop μ-loop
 step-requires c κs = (search needs, search needs, c .before .before .before .before .loop .inv .1 .0)
-
-same-length : tie.Need-same-length Inv-loop μ-loop
-same-length c = search needs
-
-same-length-2 : tie.Need-same-length-2 Inv-loop μ-loop
-same-length-2 c = search needs
 
 returns : tie.Need-returns Inv-loop μ-loop
 returns c =
@@ -47,12 +35,6 @@ returns c =
     let top = stepped .before .before .before .before .before in
     step-stop _ _ _ _ _ _ _ _ _ _ (stepped .before .request-at .ensures) (stepped .step .ensures) (stepped .before .before .before .before .loop-test .taken) (c .if1 .taken)
     ∙ top .loop .inv .1 .1
-
-add-done : tie.Need-add-done Inv-loop μ-loop
-add-done c = search needs
-
-loop-less : tie.Need-loop-less Inv-loop μ-loop
-loop-less c = search needs
 
 loop-again : tie.Need-loop-again Inv-loop μ-loop
 loop-again c =
@@ -66,12 +48,6 @@ loop-again c =
       ),
     )
 
-same-length-3 : tie.Need-same-length-3 Inv-loop μ-loop
-same-length-3 c = search needs
-
-same-length-4 : tie.Need-same-length-4 Inv-loop μ-loop
-same-length-4 c = search needs
-
 returns-2 : tie.Need-returns-2 Inv-loop μ-loop
 returns-2 c = sym (at-end _ _ _ _ _ (c .loop-test .left)) ∙ c .before .loop .inv .1 .1
 
@@ -82,15 +58,11 @@ run-steps-spec =
     Inv-loop
     μ-loop
     loop-holds
-    cast-request-at
-    request-at-requires
+    (λ c. search needs) (λ c κs. search needs)
     step-requires
-    same-length
-    same-length-2
+    (λ c. search needs) (λ c. search needs)
     returns
-    add-done
-    loop-less
+    (λ c. search needs) (λ c. search needs)
     loop-again
-    same-length-3
-    same-length-4
+    (λ c. search needs) (λ c. search needs)
     returns-2)

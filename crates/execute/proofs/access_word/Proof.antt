@@ -14,9 +14,6 @@ entry c = c .before .before .before .before .before
 given : (c : tie.After-decode-access) → Decoded (now (entry c .args .w)) (entry c .args .word) (entry c .args .op) (c .decode-access .result)
 given c = decoded _ _ _ _ _ (c .before .wide-words .ensures) (c .decode-access .ensures) (entry c .pre .1)
 
-wide-words-requires : tie.Need-wide-words-requires
-wide-words-requires c κs = search needs
-
 decode-access-requires : tie.Need-decode-access-requires
 unfolding widthOf
 decode-access-requires c κs = (rw (c .wide-words .ensures) (c .before .before .before .before .pre .1), search needs, search needs)
@@ -24,17 +21,11 @@ decode-access-requires c κs = (rw (c .wide-words .ensures) (c .before .before .
 condition-false-requires : tie.Need-condition-false-requires
 condition-false-requires c κs = (search needs, given (c .before) .range .creg)
 
-next-requires : tie.Need-next-requires
-next-requires c κs = search needs
-
 source-requires : tie.Need-source-requires
 source-requires c κs = (search needs, given (c .before .before .before .before) .range .sreg1)
 
 access-requires : tie.Need-access-requires
 access-requires c κs = let d = given (c .before .before .before .before .before .before .before) in let e = d .number in (search needs, d .range .dreg, omega arith, omega arith)
-
-same-length : tie.Need-same-length
-same-length c = search needs
 
 returns : tie.Need-returns
 returns c p =
@@ -43,12 +34,6 @@ returns c p =
     let cells = now (entry d .args .cells) in
     c .before .before .next .ensures cells
     ∙ sym (low-skipped p _ cells (given d) (omega arith) (sym (tested .condition-false .ensures p cells) ∙ c .before .before .before .before .if1 .taken))
-
-same-length-2 : tie.Need-same-length-2
-same-length-2 c = search needs
-
-same-length-3 : tie.Need-same-length-3
-same-length-3 c = search needs
 
 returns-2 : tie.Need-returns-2
 returns-2 c p =
@@ -64,14 +49,13 @@ pub access-word-spec : {M : Type 1} → statement M
 access-word-spec =
     tie.close
     (tie.spec
-    wide-words-requires
+    (λ c κs. search needs)
     decode-access-requires
     condition-false-requires
-    next-requires
+    (λ c κs. search needs)
     source-requires
     access-requires
-    same-length
+    (λ c. search needs)
     returns
-    same-length-2
-    same-length-3
+    (λ c. search needs) (λ c. search needs)
     returns-2)

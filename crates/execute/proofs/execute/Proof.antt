@@ -6,8 +6,8 @@ use borrow.Author.Needs.{needs}
 use Rattle.machine.specs.Machine.{psr, widthOf}
 use Rattle.machine.specs.Words.{machineOf}
 use Rattle.decide.specs.View.{View, view, viewOf}
-use Rattle.decide.specs.Effect.{Effect}
-use Rattle.decide.specs.Decide.{fetchedThen, decide}
+use Rattle.apply.specs.Effect.{Effect}
+use Rattle.execute.specs.Decide.{fetchedThen, decide}
 use Rattle.decide.specs.declared.Fetched.{Fetched}
 use Rattle.decide.proofs.Bytes.{bytes-positive, fetched-inside}
 use Rattle.apply.specs.Apply.{apply, stopNumber, told, effectOn}
@@ -28,12 +28,6 @@ given c f e =
     let cells = now (a .cells) in
     ap (λ (f : Fetched). effectOn (fetchedThen (viewOf (now (a .program)) (now (a .w)) cells) f) (now (a .w)) cells) (sym e ∙ c .fetch .ensures cells)
 
-fetch-requires : tie.Need-fetch-requires
-fetch-requires c κs = search needs
-
-enum-known-fetched : tie.Need-enum-known-fetched
-enum-known-fetched c = search needs
-
 instruction-requires : tie.Need-instruction-requires
 unfolding view
 instruction-requires c κs =
@@ -44,37 +38,16 @@ instruction-requires c κs =
     let p = entry f .pre .1 in
     (search needs, omega arith, entry f .pre .2)
 
-enum-known-fetched-2 : tie.Need-enum-known-fetched-2
-enum-known-fetched-2 c = search needs
-
-raise-requires : tie.Need-raise-requires
-raise-requires c κs = search needs
-
-enum-told : tie.Need-enum-told
-enum-told c = search needs
-
-same-length : tie.Need-same-length
-same-length c = search needs
-
-same-length-2 : tie.Need-same-length-2
-same-length-2 c = search needs
-
 returns : tie.Need-returns
 returns c =
     let match = c .before .before .before .before .before .before .before .before .before in
     c .before .before .before .before .instruction .ensures (now (entry (match .before) .args .program)) ∙ given (match .before) _ (c .before .before .before .before .before .before .before .before .fetched .given .1)
-
-same-length-3 : tie.Need-same-length-3
-same-length-3 c = search needs
 
 returns-2 : tie.Need-returns-2
 unfolding fetchedThen
 returns-2 c =
     let match = c .before .before .before .before .before .before in
     c .before .before .raise .ensures (now (entry (match .before) .args .cells)) ∙ given (match .before) _ (c .before .before .before .before .before .fetched2 .given .1)
-
-same-length-4 : tie.Need-same-length-4
-same-length-4 c = search needs
 
 returns-3 : tie.Need-returns-3
 unfolding fetchedThen effectOn told stopNumber apply
@@ -84,16 +57,11 @@ pub execute-spec : {M : Type 1} → statement M
 execute-spec =
     tie.close
     (tie.spec
-    fetch-requires
-    enum-known-fetched
+    (λ c κs. search needs) (λ c. search needs)
     instruction-requires
-    enum-known-fetched-2
-    raise-requires
-    enum-told
-    same-length
-    same-length-2
+    (λ c. search needs) (λ c κs. search needs) (λ c. search needs) (λ c. search needs) (λ c. search needs)
     returns
-    same-length-3
+    (λ c. search needs)
     returns-2
-    same-length-4
+    (λ c. search needs)
     returns-3)

@@ -2,15 +2,12 @@
 use native.Mathlib.Omega.{arith}
 use borrow.Author.Needs.{needs}
 use Rattle.word.specs.Word.{wordOf}
-use Rattle.decide.proofs.Signed.{handed}
+use Rattle.word.proofs.Handed.{handed}
 use Rattle.execute.proofs.immediate_value.Statement.{statement}
 use Rattle.execute.proofs.immediate_value.Tie as tie
-
-word-requires : tie.Need-word-requires
-word-requires c κs = search needs
 
 returns : tie.Need-returns
 returns c = handed (wordOf 32) (record { sfits = omega arith }) (c .word .ensures)
 
 pub immediate-value-spec : {M : Type 1} → statement M
-immediate-value-spec = tie.close (tie.spec word-requires returns)
+immediate-value-spec = tie.close (tie.spec (λ c κs. search needs) returns)

@@ -14,9 +14,6 @@ entry c = c .before .before .before .before
 given : (c : tie.After-decode-immediate) → Decoded (now (entry c .args .w)) (entry c .args .word) (entry c .args .op) (c .decode-immediate .result)
 given c = decoded _ _ _ _ _ (c .before .wide-words .ensures) (c .decode-immediate .ensures) (entry c .pre .1)
 
-wide-words-requires : tie.Need-wide-words-requires
-wide-words-requires c κs = search needs
-
 decode-immediate-requires : tie.Need-decode-immediate-requires
 unfolding widthOf
 decode-immediate-requires c κs = (rw (c .wide-words .ensures) (c .before .before .before .pre .1), search needs, search needs)
@@ -24,26 +21,17 @@ decode-immediate-requires c κs = (rw (c .wide-words .ensures) (c .before .befor
 condition-false-requires : tie.Need-condition-false-requires
 condition-false-requires c κs = (search needs, given (c .before) .range .creg)
 
-next-requires : tie.Need-next-requires
-next-requires c κs = search needs
-
 source-requires : tie.Need-source-requires
 source-requires c κs = (search needs, given (c .before .before .before .before) .range .sreg1)
 
 immediates-requires : tie.Need-immediates-requires
 immediates-requires c κs = let e = given (c .before .before .before .before .before .before) .number in (search needs, omega arith, omega arith)
 
-same-length : tie.Need-same-length
-same-length c = search needs
-
 returns : tie.Need-returns
 returns c p cells =
     let tested = c .before .before .before .before .before in
     c .before .before .next .ensures cells
     ∙ sym (low-skipped p _ cells (given (tested .before .before)) (omega arith) (sym (tested .condition-false .ensures p cells) ∙ c .before .before .before .before .if1 .taken))
-
-same-length-2 : tie.Need-same-length-2
-same-length-2 c = search needs
 
 returns-2 : tie.Need-returns-2
 returns-2 c p cells =
@@ -57,13 +45,13 @@ pub immediate-word-spec : {M : Type 1} → statement M
 immediate-word-spec =
     tie.close
     (tie.spec
-    wide-words-requires
+    (λ c κs. search needs)
     decode-immediate-requires
     condition-false-requires
-    next-requires
+    (λ c κs. search needs)
     source-requires
     immediates-requires
-    same-length
+    (λ c. search needs)
     returns
-    same-length-2
+    (λ c. search needs)
     returns-2)

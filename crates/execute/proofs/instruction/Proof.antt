@@ -17,32 +17,14 @@ number : (c : tie.After-opcode) → c .opcode .result ≡ opcodeOf (widthOf (psr
 unfolding widthOf
 number c = c .opcode .ensures ∙ ap (λ (wide : Bool). opcodeOf (widthBy wide) (entry c .args .word)) (c .before .wide-words .ensures)
 
-wide-words-requires : tie.Need-wide-words-requires
-wide-words-requires c κs = search needs
-
-opcode-requires : tie.Need-opcode-requires
-opcode-requires c κs = search needs
-
 lower-half-requires : tie.Need-lower-half-requires
 lower-half-requires c κs = (search needs, number (c .before .before .before), search needs)
 
 upper-half-requires : tie.Need-upper-half-requires
 upper-half-requires c κs = let o = c .before .before in (search needs, entry o .pre .1, entry o .pre .2, number o, search needs)
 
-same-length : tie.Need-same-length
-same-length c = search needs
-
-same-length-2 : tie.Need-same-length-2
-same-length-2 c = search needs
-
-returns : tie.Need-returns
-returns c = search needs
-
-same-length-3 : tie.Need-same-length-3
-same-length-3 c = search needs
-
 returns-2 : tie.Need-returns-2
 returns-2 c p = let o = c .before .before .before .before .before in c .before .before .upper-half .ensures p (now (entry o .args .cells))
 
 pub instruction-spec : {M : Type 1} → statement M
-instruction-spec = tie.close (tie.spec wide-words-requires opcode-requires lower-half-requires upper-half-requires same-length same-length-2 returns same-length-3 returns-2)
+instruction-spec = tie.close (tie.spec (λ c κs. search needs) (λ c κs. search needs) lower-half-requires upper-half-requires (λ c. search needs) (λ c. search needs) (λ c. search needs) (λ c. search needs) returns-2)

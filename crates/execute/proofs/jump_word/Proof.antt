@@ -31,12 +31,6 @@ usable : (c : tie.After-decode-jump) → let m = machineOf (now (entry c .args .
     codeOf (unavailable (properties (operationOf (entry c .args .op)) .availability) (widthOf (psr m)) (userMode (psr m))) ≡ 0
 usable c = usable-jump _ _ (entry c .args .op) (omega arith) (omega arith)
 
-slot-requires : tie.Need-slot-requires
-slot-requires c κs = search needs
-
-same-length : tie.Need-same-length
-same-length c = search needs
-
 returns : tie.Need-returns
 unfolding effectOn told stopNumber apply
 returns c p cells =
@@ -44,18 +38,12 @@ returns c p cells =
     sym (word-in-slot p _ cells (decoded-word (now (s .args .w)) _ _ (s .pre .2)) (usable-jump _ _ (s .args .op) (omega arith) (omega arith))
     (rw (transfers (s .args .op) (omega arith) (omega arith), ← (c .before .slot .ensures), c .if1 .taken)))
 
-wide-words-requires : tie.Need-wide-words-requires
-wide-words-requires c κs = search needs
-
 decode-jump-requires : tie.Need-decode-jump-requires
 unfolding widthOf
 decode-jump-requires c κs = (rw (c .wide-words .ensures) (c .before .before .before .before .before .before .pre .2), search needs, search needs)
 
 condition-false-requires : tie.Need-condition-false-requires
 condition-false-requires c κs = (search needs, given (c .before) .range .creg)
-
-next-requires : tie.Need-next-requires
-next-requires c κs = search needs
 
 source-requires : tie.Need-source-requires
 source-requires c κs = (search needs, given (c .before .before .before .before) .range .sreg1)
@@ -66,18 +54,12 @@ jumps-requires c κs =
     let e = d .number in
     (search needs, search needs, d .range .creg, omega arith, omega arith)
 
-same-length-2 : tie.Need-same-length-2
-same-length-2 c = search needs
-
 returns-2 : tie.Need-returns-2
 returns-2 c p cells =
     let tested = c .before .before .before .before .before in
     let d = tested .before .before in
     c .before .before .next .ensures cells
     ∙ sym (word-skipped p _ cells (given d) (usable d) (stays d) (sym (tested .condition-false .ensures p cells) ∙ c .before .before .before .before .if2 .taken))
-
-same-length-3 : tie.Need-same-length-3
-same-length-3 c = search needs
 
 returns-3 : tie.Need-returns-3
 returns-3 c p cells =
@@ -92,16 +74,15 @@ pub jump-word-spec : {M : Type 1} → statement M
 jump-word-spec =
     tie.close
     (tie.spec
-    slot-requires
-    same-length
+    (λ c κs. search needs) (λ c. search needs)
     returns
-    wide-words-requires
+    (λ c κs. search needs)
     decode-jump-requires
     condition-false-requires
-    next-requires
+    (λ c κs. search needs)
     source-requires
     jumps-requires
-    same-length-2
+    (λ c. search needs)
     returns-2
-    same-length-3
+    (λ c. search needs)
     returns-3)

@@ -23,15 +23,6 @@ given c = decoded _ _ _ _ _ (c .before .wide-words .ensures) (c .decode-move .en
 stays : (c : tie.After-decode-move) → properties (operationOf (entry c .args .op)) .transfer && eqb (machineOf (now (entry c .args .w)) .position .slot) 1 ≡ false
 stays c = rw (no-transfer (entry c .args .op) (omega arith))
 
-unavailability-requires : tie.Need-unavailability-requires
-unavailability-requires c κs = search needs
-
-raise-requires : tie.Need-raise-requires
-raise-requires c κs = search needs
-
-same-length : tie.Need-same-length
-same-length c = search needs
-
 returns : tie.Need-returns
 returns c p cells =
     let told = c .before .before .before .before .before in
@@ -39,18 +30,12 @@ returns c p cells =
     c .before .before .raise .ensures cells
     ∙ sym (word-barred p _ cells (decoded-word (now (s .args .w)) _ _ (s .pre .1)) _ (told .unavailability .ensures) (c .before .before .before .before .if1 .taken))
 
-wide-words-requires : tie.Need-wide-words-requires
-wide-words-requires c κs = search needs
-
 decode-move-requires : tie.Need-decode-move-requires
 unfolding widthOf
 decode-move-requires c κs = (rw (c .wide-words .ensures) (c .before .before .before .before .before .before .pre .1), search needs, search needs)
 
 condition-false-requires : tie.Need-condition-false-requires
 condition-false-requires c κs = (search needs, given (c .before) .range .creg)
-
-next-requires : tie.Need-next-requires
-next-requires c κs = search needs
 
 source-requires : tie.Need-source-requires
 source-requires c κs = (search needs, given (c .before .before .before .before) .range .sreg1)
@@ -64,9 +49,6 @@ moves-requires c κs =
     let e = d .number in
     (search needs, d .range .dreg, omega arith, omega arith)
 
-same-length-2 : tie.Need-same-length-2
-same-length-2 c = search needs
-
 returns-2 : tie.Need-returns-2
 returns-2 c p cells =
     let tested = c .before .before .before .before .before in
@@ -74,9 +56,6 @@ returns-2 c p cells =
     let free = d .before .before .before in
     c .before .before .next .ensures cells
     ∙ sym (word-skipped p _ cells (given d) (sym (free .before .unavailability .ensures) ∙ free .if1 .left) (stays d) (sym (tested .condition-false .ensures p cells) ∙ c .before .before .before .before .if2 .taken))
-
-same-length-3 : tie.Need-same-length-3
-same-length-3 c = search needs
 
 returns-3 : tie.Need-returns-3
 returns-3 c p cells =
@@ -92,18 +71,16 @@ pub move-word-spec : {M : Type 1} → statement M
 move-word-spec =
     tie.close
     (tie.spec
-    unavailability-requires
-    raise-requires
-    same-length
+    (λ c κs. search needs) (λ c κs. search needs) (λ c. search needs)
     returns
-    wide-words-requires
+    (λ c κs. search needs)
     decode-move-requires
     condition-false-requires
-    next-requires
+    (λ c κs. search needs)
     source-requires
     source-requires-2
     moves-requires
-    same-length-2
+    (λ c. search needs)
     returns-2
-    same-length-3
+    (λ c. search needs)
     returns-3)

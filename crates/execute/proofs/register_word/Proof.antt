@@ -14,18 +14,12 @@ entry c = c .before .before .before .before
 given : (c : tie.After-decode-registers) → Decoded (now (entry c .args .w)) (entry c .args .word) (entry c .args .op) (c .decode-registers .result)
 given c = decoded _ _ _ _ _ (c .before .wide-words .ensures) (c .decode-registers .ensures) (entry c .pre .1)
 
-wide-words-requires : tie.Need-wide-words-requires
-wide-words-requires c κs = search needs
-
 decode-registers-requires : tie.Need-decode-registers-requires
 unfolding widthOf
 decode-registers-requires c κs = (rw (c .wide-words .ensures) (c .before .before .before .pre .1), search needs, search needs)
 
 condition-false-requires : tie.Need-condition-false-requires
 condition-false-requires c κs = (search needs, given (c .before) .range .creg)
-
-next-requires : tie.Need-next-requires
-next-requires c κs = search needs
 
 source-requires : tie.Need-source-requires
 source-requires c κs = (search needs, given (c .before .before .before .before) .range .sreg1)
@@ -36,17 +30,11 @@ source-requires-2 c κs = (search needs, given (c .before .before .before .befor
 registers-requires : tie.Need-registers-requires
 registers-requires c κs = let e = given (c .before .before .before .before .before .before .before .before) .number in (search needs, omega arith, omega arith)
 
-same-length : tie.Need-same-length
-same-length c = search needs
-
 returns : tie.Need-returns
 returns c p cells =
     let tested = c .before .before .before .before .before in
     c .before .before .next .ensures cells
     ∙ sym (low-skipped p _ cells (given (tested .before .before)) (omega arith) (sym (tested .condition-false .ensures p cells) ∙ c .before .before .before .before .if1 .taken))
-
-same-length-2 : tie.Need-same-length-2
-same-length-2 c = search needs
 
 returns-2 : tie.Need-returns-2
 returns-2 c p cells =
@@ -60,14 +48,14 @@ pub register-word-spec : {M : Type 1} → statement M
 register-word-spec =
     tie.close
     (tie.spec
-    wide-words-requires
+    (λ c κs. search needs)
     decode-registers-requires
     condition-false-requires
-    next-requires
+    (λ c κs. search needs)
     source-requires
     source-requires-2
     registers-requires
-    same-length
+    (λ c. search needs)
     returns
-    same-length-2
+    (λ c. search needs)
     returns-2)

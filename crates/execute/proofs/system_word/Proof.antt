@@ -29,30 +29,12 @@ usable c = let free = asked c .before .before .before .before in sym (free .befo
 stays : (c : tie.After-decode-system) → properties (operationOf (entry c .args .op)) .transfer && eqb (machineOf (now (entry c .args .w)) .position .slot) 1 ≡ false
 stays c = rw (← (asked c .before .before .before .is-transfer .ensures), ← (asked c .before .slot .ensures)) (asked c .if2 .left)
 
-unavailability-requires : tie.Need-unavailability-requires
-unavailability-requires c κs = search needs
-
-raise-requires : tie.Need-raise-requires
-raise-requires c κs = search needs
-
-same-length : tie.Need-same-length
-same-length c = search needs
-
 returns : tie.Need-returns
 returns c p cells =
     let told = c .before .before .before .before .before in
     let s = told .before .before .before in
     c .before .before .raise .ensures cells
     ∙ sym (word-barred p _ cells (decoded-word (now (s .args .w)) _ _ (s .pre .2)) _ (told .unavailability .ensures) (c .before .before .before .before .if1 .taken))
-
-is-transfer-requires : tie.Need-is-transfer-requires
-is-transfer-requires c κs = search needs
-
-slot-requires : tie.Need-slot-requires
-slot-requires c κs = search needs
-
-same-length-2 : tie.Need-same-length-2
-same-length-2 c = search needs
 
 returns-2 : tie.Need-returns-2
 unfolding effectOn told stopNumber apply
@@ -62,18 +44,12 @@ returns-2 c p cells =
     sym (word-in-slot p _ cells (decoded-word (now (s .args .w)) _ _ (s .pre .2)) (sym (free .before .unavailability .ensures) ∙ free .if1 .left)
     (rw (← (c .before .before .before .is-transfer .ensures), ← (c .before .slot .ensures)) (c .if2 .taken)))
 
-wide-words-requires : tie.Need-wide-words-requires
-wide-words-requires c κs = search needs
-
 decode-system-requires : tie.Need-decode-system-requires
 unfolding widthOf
 decode-system-requires c κs = let s = c .before .before .before .before .before .before .before .before .before .before in (rw (c .wide-words .ensures) (s .pre .2), s .pre .3, s .pre .4)
 
 condition-false-requires : tie.Need-condition-false-requires
 condition-false-requires c κs = (search needs, given (c .before) .range .creg)
-
-next-requires : tie.Need-next-requires
-next-requires c κs = search needs
 
 source-requires : tie.Need-source-requires
 source-requires c κs = (search needs, given (c .before .before .before .before) .range .sreg1)
@@ -84,18 +60,12 @@ system-requires c κs =
     let s = entry d in
     (search needs, s .pre .1, rw (given d .number) (s .pre .3), rw (given d .number) (s .pre .4))
 
-same-length-3 : tie.Need-same-length-3
-same-length-3 c = search needs
-
 returns-3 : tie.Need-returns-3
 returns-3 c p cells =
     let tested = c .before .before .before .before .before in
     let d = tested .before .before in
     c .before .before .next .ensures cells
     ∙ sym (word-skipped p _ cells (given d) (usable d) (stays d) (sym (tested .condition-false .ensures p cells) ∙ c .before .before .before .before .if3 .taken))
-
-same-length-4 : tie.Need-same-length-4
-same-length-4 c = search needs
 
 returns-4 : tie.Need-returns-4
 returns-4 c p cells =
@@ -110,21 +80,17 @@ pub system-word-spec : {M : Type 1} → statement M
 system-word-spec =
     tie.close
     (tie.spec
-    unavailability-requires
-    raise-requires
-    same-length
+    (λ c κs. search needs) (λ c κs. search needs) (λ c. search needs)
     returns
-    is-transfer-requires
-    slot-requires
-    same-length-2
+    (λ c κs. search needs) (λ c κs. search needs) (λ c. search needs)
     returns-2
-    wide-words-requires
+    (λ c κs. search needs)
     decode-system-requires
     condition-false-requires
-    next-requires
+    (λ c κs. search needs)
     source-requires
     system-requires
-    same-length-3
+    (λ c. search needs)
     returns-3
-    same-length-4
+    (λ c. search needs)
     returns-4)

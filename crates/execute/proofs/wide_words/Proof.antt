@@ -4,15 +4,9 @@ use Rattle.machine.specs.Machine.{wideWords}
 use Rattle.execute.proofs.wide_words.Statement.{statement}
 use Rattle.execute.proofs.wide_words.Tie as tie
 
-psr-requires : tie.Need-psr-requires
-psr-requires c κs = search needs
-
-has-flag-requires : tie.Need-has-flag-requires
-has-flag-requires c κs = search needs
-
 returns : tie.Need-returns
 unfolding wideWords
 returns c = rw (c .has-flag .ensures, c .before .psr .ensures)
 
 pub wide-words-spec : {M : Type 1} → statement M
-wide-words-spec = tie.close (tie.spec psr-requires has-flag-requires returns)
+wide-words-spec = tie.close (tie.spec (λ c κs. search needs) (λ c κs. search needs) returns)

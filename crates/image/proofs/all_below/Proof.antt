@@ -14,21 +14,6 @@ Inv-loop numbers top i₀ i = (i ≤ length numbers) × (every (below top) i (dr
 abbrev μ-loop : tie.MeasureT-loop
 μ-loop numbers top i₀ i = length numbers - i
 
-loop-holds : tie.Need-loop-holds Inv-loop μ-loop
-loop-holds c = search needs
-
-mul-if1 : tie.Need-mul-if1 Inv-loop μ-loop
-mul-if1 c = search needs
-
-shared-slice-read-if1 : tie.Need-shared-slice-read-if1 Inv-loop μ-loop
-shared-slice-read-if1 c = search needs
-
-add-i : tie.Need-add-i Inv-loop μ-loop
-add-i c = search needs
-
-loop-less : tie.Need-loop-less Inv-loop μ-loop
-loop-less c = search needs
-
 loop-again : tie.Need-loop-again Inv-loop μ-loop
 loop-again c = let args = c .before .before .before .before .args in
     let next = every-next (below (args .top)) (args .numbers .now) _ (c .before .before .loop-test .taken) (lt-ltb _ _ (c .if1 .taken)) in
@@ -50,11 +35,7 @@ all-below-spec =
     (tie.spec
     Inv-loop
     μ-loop
-    loop-holds
-    mul-if1
-    shared-slice-read-if1
-    add-i
-    loop-less
+    (λ c. search needs) (λ c. search needs) (λ c. search needs) (λ c. search needs) (λ c. search needs)
     loop-again
     returns
     returns-2)

@@ -13,27 +13,6 @@ Inv-loop registers i₀ i = (i ≤ length registers) × (every held i (drop i re
 abbrev μ-loop : tie.MeasureT-loop
 μ-loop registers i₀ i = length registers - i
 
-loop-holds : tie.Need-loop-holds Inv-loop μ-loop
-loop-holds c = search needs
-
-cast-can-hold : tie.Need-cast-can-hold Inv-loop μ-loop
-cast-can-hold c = search needs
-
-mul-can-hold : tie.Need-mul-can-hold Inv-loop μ-loop
-mul-can-hold c = search needs
-
-shared-slice-read-can-hold : tie.Need-shared-slice-read-can-hold Inv-loop μ-loop
-shared-slice-read-can-hold c = search needs
-
-can-hold-requires : tie.Need-can-hold-requires Inv-loop μ-loop
-can-hold-requires c κs = search needs
-
-add-i : tie.Need-add-i Inv-loop μ-loop
-add-i c = search needs
-
-loop-less : tie.Need-loop-less Inv-loop μ-loop
-loop-less c = search needs
-
 loop-again : tie.Need-loop-again Inv-loop μ-loop
 loop-again c = let l = c .before .before .before .before .before .before .args .registers .now in
     let next = every-next held l _ (c .before .before .before .loop-test .taken) (sym (c .before .can-hold .ensures) ∙ c .if1 .taken) in
@@ -55,13 +34,7 @@ all-held-spec =
     (tie.spec
     Inv-loop
     μ-loop
-    loop-holds
-    cast-can-hold
-    mul-can-hold
-    shared-slice-read-can-hold
-    can-hold-requires
-    add-i
-    loop-less
+    (λ c. search needs) (λ c. search needs) (λ c. search needs) (λ c. search needs) (λ c κs. search needs) (λ c. search needs) (λ c. search needs)
     loop-again
     returns
     returns-2)

@@ -5,9 +5,6 @@ use Rattle.image.proofs.Reading.{held-base, held-status, held-version, 
 use Rattle.image.proofs.can_hold.Statement.{statement}
 use Rattle.image.proofs.can_hold.Tie as tie
 
-limit-requires : tie.Need-limit-requires
-limit-requires c κs = search needs
-
 returns : tie.Need-returns
 returns c = rw (c .match .keys1) (held-base (c .before .args .x) (omega arith))
 
@@ -23,4 +20,4 @@ returns-4 c = let start = c .before .before in
     rw (c .limit .ensures) (held-others (start .args .offset) (start .args .x) (start .pre) (rest .0 .0 .1) (rest .0 .1) (rest .1))
 
 pub can-hold-spec : {M : Type 1} → statement M
-can-hold-spec = tie.close (tie.spec limit-requires returns returns-2 returns-3 returns-4)
+can-hold-spec = tie.close (tie.spec (λ c κs. search needs) returns returns-2 returns-3 returns-4)

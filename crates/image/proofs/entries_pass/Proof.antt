@@ -15,27 +15,12 @@ Inv-loop t w n all₀ i₀ all i = (i ≤ n) × (all ≡ allPass t (stackOf i w)
 abbrev μ-loop : tie.MeasureT-loop
 μ-loop t w n all₀ i₀ all i = n - i
 
-depth-requires : tie.Need-depth-requires Inv-loop μ-loop
-depth-requires c κs = search needs
-
-cast-n : tie.Need-cast-n Inv-loop μ-loop
-cast-n c = search needs
-
 loop-holds : tie.Need-loop-holds Inv-loop μ-loop
 loop-holds c = let args = c .before .before .args in
     (search needs, pass-none (args .t) (args .w .now))
 
 entry-requires : tie.Need-entry-requires Inv-loop μ-loop
 entry-requires c κs = omega arith
-
-passes-requires : tie.Need-passes-requires Inv-loop μ-loop
-passes-requires c κs = search needs
-
-add-i : tie.Need-add-i Inv-loop μ-loop
-add-i c = search needs
-
-loop-less : tie.Need-loop-less Inv-loop μ-loop
-loop-less c = search needs
 
 loop-again : tie.Need-loop-again Inv-loop μ-loop
 loop-again c = let args = c .before .before .before .before .before .before .args in
@@ -54,12 +39,9 @@ entries-pass-spec =
     (tie.spec
     Inv-loop
     μ-loop
-    depth-requires
-    cast-n
+    (λ c κs. search needs) (λ c. search needs)
     loop-holds
     entry-requires
-    passes-requires
-    add-i
-    loop-less
+    (λ c κs. search needs) (λ c. search needs) (λ c. search needs)
     loop-again
     returns)

@@ -5,18 +5,9 @@ use Rattle.image.proofs.Reading.{position-words}
 use Rattle.image.proofs.position_fits.Statement.{statement}
 use Rattle.image.proofs.position_fits.Tie as tie
 
-idle-requires : tie.Need-idle-requires
-idle-requires c κs = search needs
-
-idle-requires-2 : tie.Need-idle-requires-2
-idle-requires-2 c κs = search needs
-
-idle-requires-3 : tie.Need-idle-requires-3
-idle-requires-3 c κs = search needs
-
 returns : tie.Need-returns
 returns c = let p = c .before .before .before .before .before .args .p in
     cc (position-words p (omega arith) (omega arith) (omega arith) (omega arith))
 
 pub position-fits-spec : {M : Type 1} → statement M
-position-fits-spec = tie.close (tie.spec idle-requires idle-requires-2 idle-requires-3 returns)
+position-fits-spec = tie.close (tie.spec (λ c κs. search needs) (λ c κs. search needs) (λ c κs. search needs) returns)

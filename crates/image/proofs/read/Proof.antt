@@ -5,9 +5,6 @@ use Rattle.image.proofs.Reading.{refused-2, read-fits, read-length, rea
 use Rattle.image.proofs.read.Statement.{statement}
 use Rattle.image.proofs.read.Tie as tie
 
-sections-fit-requires : tie.Need-sections-fit-requires
-sections-fit-requires c κs = search needs
-
 read-numbers-requires : tie.Need-read-numbers-requires
 read-numbers-requires c κs = let start = c .before .before .before .before .before in
     read-fits (start .args .image .now) (start .args .w .now) (sym (c .before .before .sections-fit .ensures) ∙ c .before .if1 .taken) (start .pre)
@@ -18,9 +15,6 @@ refusal-requires c κs = let start = c .before .before .before .before .before .
     let s = start .args .image .now in
     let w = start .args .w .now in
     rw (c .before .before .before .read-numbers .ensures) (read-length s w fits (start .pre), read-deep s w fits (start .pre))
-
-same-length : tie.Need-same-length
-same-length c = search needs
 
 returns : tie.Need-returns
 returns c = let start = c .before .before .before .before .before .before .before .before .before .before in
@@ -35,9 +29,9 @@ pub read-spec : {M : Type 1} → statement M
 read-spec =
     tie.close
     (tie.spec
-    sections-fit-requires
+    (λ c κs. search needs)
     read-numbers-requires
     refusal-requires
-    same-length
+    (λ c. search needs)
     returns
     returns-2)

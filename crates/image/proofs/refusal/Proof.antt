@@ -5,15 +5,6 @@ use Rattle.image.proofs.Reading.{refused-3, refused-4, refused-5, refus
 use Rattle.image.proofs.refusal.Statement.{statement}
 use Rattle.image.proofs.refusal.Tie as tie
 
-numbers-fit-requires : tie.Need-numbers-fit-requires
-numbers-fit-requires c κs = search needs
-
-modes-fit-requires : tie.Need-modes-fit-requires
-modes-fit-requires c κs = search needs
-
-stack-fits-requires : tie.Need-stack-fits-requires
-stack-fits-requires c κs = search needs
-
 returns : tie.Need-returns
 returns c = let asked = c .before .before .before in
     refused-none _ (sym (asked .before .before .numbers-fit .ensures) ∙ c .before .before .if1 .taken)
@@ -36,9 +27,7 @@ pub refusal-spec : {M : Type 1} → statement M
 refusal-spec =
     tie.close
     (tie.spec
-    numbers-fit-requires
-    modes-fit-requires
-    stack-fits-requires
+    (λ c κs. search needs) (λ c κs. search needs) (λ c κs. search needs)
     returns
     returns-2
     returns-3

@@ -18,12 +18,6 @@ Inv-loop w n flags₀ i₀ flags i = (i ≤ n) × (flags ≡ serviceFlags (stack
 abbrev μ-loop : tie.MeasureT-loop
 μ-loop w n flags₀ i₀ flags i = n - i
 
-depth-requires : tie.Need-depth-requires Inv-loop μ-loop
-depth-requires c κs = search needs
-
-cast-n : tie.Need-cast-n Inv-loop μ-loop
-cast-n c = search needs
-
 loop-holds : tie.Need-loop-holds Inv-loop μ-loop
 loop-holds c = (search needs, flags-none (c .before .before .args .w .now))
 
@@ -37,12 +31,6 @@ with-flag-requires c κs = let start = c .before .before .before .before .before
     let all : allPass Source (stackOf (n .result) w) ≡ true = ap (allPass Source) (stack-of w (n .result) (n .ensures)) ∙ start .pre .1 in
     let e = source-small _ (pass-at Source w (n .result) (c .before .before .loop .i) all (c .before .loop-test .taken)) in
     rw (c .entry .ensures) (omega arith)
-
-add-i : tie.Need-add-i Inv-loop μ-loop
-add-i c = search needs
-
-loop-less : tie.Need-loop-less Inv-loop μ-loop
-loop-less c = search needs
 
 loop-again : tie.Need-loop-again Inv-loop μ-loop
 loop-again c = let w = c .before .before .before .before .before .before .args .w .now in
@@ -61,12 +49,10 @@ service-flags-spec =
     (tie.spec
     Inv-loop
     μ-loop
-    depth-requires
-    cast-n
+    (λ c κs. search needs) (λ c. search needs)
     loop-holds
     entry-requires
     with-flag-requires
-    add-i
-    loop-less
+    (λ c. search needs) (λ c. search needs)
     loop-again
     returns)

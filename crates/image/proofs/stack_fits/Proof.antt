@@ -6,32 +6,11 @@ use Rattle.image.proofs.Reading.{service-small, sources-refused, source
 use Rattle.image.proofs.stack_fits.Statement.{statement}
 use Rattle.image.proofs.stack_fits.Tie as tie
 
-entries-pass-requires : tie.Need-entries-pass-requires
-entries-pass-requires c κs = search needs
-
 service-flags-requires : tie.Need-service-flags-requires
 service-flags-requires c κs = (search needs, sym (c .before .entries-pass .ensures) ∙ c .if1 .taken)
 
 ones-requires : tie.Need-ones-requires
 ones-requires c κs = rw (c .service-flags .ensures) (service-small _ (sym (c .before .before .entries-pass .ensures) ∙ c .before .if1 .taken))
-
-depth-requires : tie.Need-depth-requires
-depth-requires c κs = search needs
-
-control-requires : tie.Need-control-requires
-control-requires c κs = search needs
-
-top-requires : tie.Need-top-requires
-top-requires c κs = search needs
-
-control-requires-2 : tie.Need-control-requires-2
-control-requires-2 c κs = search needs
-
-control-requires-3 : tie.Need-control-requires-3
-control-requires-3 c κs = search needs
-
-control-requires-4 : tie.Need-control-requires-4
-control-requires-4 c κs = search needs
 
 returns : tie.Need-returns
 returns c = let after-flags = c .before .before .before .before .before .before .before .before .before .before in
@@ -55,14 +34,9 @@ pub stack-fits-spec : {M : Type 1} → statement M
 stack-fits-spec =
     tie.close
     (tie.spec
-    entries-pass-requires
+    (λ c κs. search needs)
     service-flags-requires
     ones-requires
-    depth-requires
-    control-requires
-    top-requires
-    control-requires-2
-    control-requires-3
-    control-requires-4
+    (λ c κs. search needs) (λ c κs. search needs) (λ c κs. search needs) (λ c κs. search needs) (λ c κs. search needs) (λ c κs. search needs)
     returns
     returns-2)

@@ -11,30 +11,6 @@ use Rattle.image.proofs.Writing.{counted-numbers}
 use Rattle.image.proofs.write.Statement.{statement}
 use Rattle.image.proofs.write.Tie as tie
 
-depth-requires : tie.Need-depth-requires
-depth-requires c κs = search needs
-
-cast-n : tie.Need-cast-n
-cast-n c = search needs
-
-mul-n : tie.Need-mul-n
-mul-n c = search needs
-
-add-n : tie.Need-add-n
-add-n c = search needs
-
-slice-write-w : tie.Need-slice-write-w
-slice-write-w c = search needs
-
-slice-write-w-2 : tie.Need-slice-write-w-2
-slice-write-w-2 c = search needs
-
-slice-write-w-3 : tie.Need-slice-write-w-3
-slice-write-w-3 c = search needs
-
-slice-write-w-4 : tie.Need-slice-write-w-4
-slice-write-w-4 c = search needs
-
 slice-write-w-5 : tie.Need-slice-write-w-5
 slice-write-w-5 c = simp length-set (omega arith)
 
@@ -47,12 +23,6 @@ slice-aggregate-write-numbers c = simp (length-take, length-set) (omega arith)
 write-numbers-requires : tie.Need-write-numbers-requires
 write-numbers-requires c κs = simp (length-take, length-set) (omega arith)
 
-same-length : tie.Need-same-length
-same-length c = search needs
-
-same-length-2 : tie.Need-same-length-2
-same-length-2 c = search needs
-
 returns : tie.Need-returns
 unfolding writeImage
 returns c = let start = c .before .before .before .before .before .before .before .before .before in
@@ -63,18 +33,10 @@ pub write-spec : {M : Type 1} → statement M
 write-spec =
     tie.close
     (tie.spec
-    depth-requires
-    cast-n
-    mul-n
-    add-n
-    slice-write-w
-    slice-write-w-2
-    slice-write-w-3
-    slice-write-w-4
+    (λ c κs. search needs) (λ c. search needs) (λ c. search needs) (λ c. search needs) (λ c. search needs) (λ c. search needs) (λ c. search needs) (λ c. search needs)
     slice-write-w-5
     slice-reshare-prefix-write-numbers
     slice-aggregate-write-numbers
     write-numbers-requires
-    same-length
-    same-length-2
+    (λ c. search needs) (λ c. search needs)
     returns)

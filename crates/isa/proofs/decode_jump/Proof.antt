@@ -5,24 +5,6 @@ use Rattle.isa.proofs.Parts.{assembled-decode}
 use Rattle.isa.proofs.decode_jump.Statement.{statement}
 use Rattle.isa.proofs.decode_jump.Tie as tie
 
-is-conditional-requires : tie.Need-is-conditional-requires
-is-conditional-requires c κs = search needs
-
-wide-jump-requires : tie.Need-wide-jump-requires
-wide-jump-requires c κs = search needs
-
-assembled-requires : tie.Need-assembled-requires
-assembled-requires c κs = search needs
-
-is-conditional-requires-2 : tie.Need-is-conditional-requires-2
-is-conditional-requires-2 c κs = search needs
-
-narrow-jump-requires : tie.Need-narrow-jump-requires
-narrow-jump-requires c κs = search needs
-
-assembled-requires-2 : tie.Need-assembled-requires-2
-assembled-requires-2 c κs = search needs
-
 returns : tie.Need-returns
 unfolding widthBy
 returns c =
@@ -41,11 +23,6 @@ pub decode-jump-spec : {M : Type 1} → statement M
 decode-jump-spec =
     tie.close
     (tie.spec
-    is-conditional-requires
-    wide-jump-requires
-    assembled-requires
-    is-conditional-requires-2
-    narrow-jump-requires
-    assembled-requires-2
+    (λ c κs. search needs) (λ c κs. search needs) (λ c κs. search needs) (λ c κs. search needs) (λ c κs. search needs) (λ c κs. search needs)
     returns
     returns-2)

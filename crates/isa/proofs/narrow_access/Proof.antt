@@ -9,15 +9,6 @@ use Rattle.isa.proofs.Table.{values, grouped}
 use Rattle.isa.proofs.narrow_access.Statement.{statement}
 use Rattle.isa.proofs.narrow_access.Tie as tie
 
-add-signed : tie.Need-add-signed
-add-signed c = search needs
-
-add-signed-2 : tie.Need-add-signed-2
-add-signed-2 c = search needs
-
-signed-requires : tie.Need-signed-requires
-signed-requires c κs = search needs
-
 returns : tie.Need-returns
 unfolding instructions values
 returns c =
@@ -25,4 +16,4 @@ returns c =
     c .signed .ensures ∙ (simp (mul-one, add-zero, div-one)) ∙ grouped w16 Memory 27 2 refl (a .op) (a .w) (omega arith) (omega arith)
 
 pub narrow-access-spec : {M : Type 1} → statement M
-narrow-access-spec = tie.close (tie.spec add-signed add-signed-2 signed-requires returns)
+narrow-access-spec = tie.close (tie.spec (λ c. search needs) (λ c. search needs) (λ c κs. search needs) returns)

@@ -11,21 +11,6 @@ use Rattle.isa.proofs.Table.{values, grouped}
 use Rattle.isa.proofs.narrow_immediate.Statement.{statement}
 use Rattle.isa.proofs.narrow_immediate.Tie as tie
 
-add-d : tie.Need-add-d
-add-d c = search needs
-
-signed-requires : tie.Need-signed-requires
-signed-requires c κs = search needs
-
-signed-requires-2 : tie.Need-signed-requires-2
-signed-requires-2 c κs = search needs
-
-unsigned-requires : tie.Need-unsigned-requires
-unsigned-requires c κs = search needs
-
-unsigned-requires-2 : tie.Need-unsigned-requires-2
-unsigned-requires-2 c κs = search needs
-
 returns : tie.Need-returns
 unfolding instructions values
 returns c =
@@ -55,11 +40,7 @@ pub narrow-immediate-spec : {M : Type 1} → statement M
 narrow-immediate-spec =
     tie.close
     (tie.spec
-    add-d
-    signed-requires
-    signed-requires-2
-    unsigned-requires
-    unsigned-requires-2
+    (λ c. search needs) (λ c κs. search needs) (λ c κs. search needs) (λ c κs. search needs) (λ c κs. search needs)
     returns
     returns-2
     returns-3

@@ -11,18 +11,6 @@ use Rattle.isa.proofs.Table.{values, grouped}
 use Rattle.isa.proofs.narrow_jump.Statement.{statement}
 use Rattle.isa.proofs.narrow_jump.Tie as tie
 
-signed-requires : tie.Need-signed-requires
-signed-requires c κs = search needs
-
-add-registers : tie.Need-add-registers
-add-registers c = search needs
-
-registers-requires : tie.Need-registers-requires
-registers-requires c κs = search needs
-
-signed-requires-2 : tie.Need-signed-requires-2
-signed-requires-2 c κs = search needs
-
 returns : tie.Need-returns
 unfolding instructions values
 returns c =
@@ -46,10 +34,7 @@ pub narrow-jump-spec : {M : Type 1} → statement M
 narrow-jump-spec =
     tie.close
     (tie.spec
-    signed-requires
-    add-registers
-    registers-requires
-    signed-requires-2
+    (λ c κs. search needs) (λ c. search needs) (λ c κs. search needs) (λ c κs. search needs)
     returns
     returns-2
     returns-3)

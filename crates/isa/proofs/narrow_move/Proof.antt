@@ -11,27 +11,6 @@ use Rattle.isa.proofs.Table.{values, grouped}
 use Rattle.isa.proofs.narrow_move.Statement.{statement}
 use Rattle.isa.proofs.narrow_move.Tie as tie
 
-add-d : tie.Need-add-d
-add-d c = search needs
-
-add-s : tie.Need-add-s
-add-s c = search needs
-
-registers-requires : tie.Need-registers-requires
-registers-requires c κs = search needs
-
-registers-requires-2 : tie.Need-registers-requires-2
-registers-requires-2 c κs = search needs
-
-signed-requires : tie.Need-signed-requires
-signed-requires c κs = search needs
-
-registers-requires-3 : tie.Need-registers-requires-3
-registers-requires-3 c κs = search needs
-
-registers-requires-4 : tie.Need-registers-requires-4
-registers-requires-4 c κs = search needs
-
 returns : tie.Need-returns
 unfolding instructions values
 returns c =
@@ -67,13 +46,7 @@ pub narrow-move-spec : {M : Type 1} → statement M
 narrow-move-spec =
     tie.close
     (tie.spec
-    add-d
-    add-s
-    registers-requires
-    registers-requires-2
-    signed-requires
-    registers-requires-3
-    registers-requires-4
+    (λ c. search needs) (λ c. search needs) (λ c κs. search needs) (λ c κs. search needs) (λ c κs. search needs) (λ c κs. search needs) (λ c κs. search needs)
     returns
     returns-2
     returns-3

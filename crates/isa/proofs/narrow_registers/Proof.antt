@@ -9,15 +9,6 @@ use Rattle.isa.proofs.Table.{values, grouped}
 use Rattle.isa.proofs.narrow_registers.Statement.{statement}
 use Rattle.isa.proofs.narrow_registers.Tie as tie
 
-add-d : tie.Need-add-d
-add-d c = search needs
-
-add-registers : tie.Need-add-registers
-add-registers c = search needs
-
-registers-requires : tie.Need-registers-requires
-registers-requires c κs = search needs
-
 returns : tie.Need-returns
 unfolding instructions values
 returns c =
@@ -25,4 +16,4 @@ returns c =
     c .registers .ensures ∙ (simp (mul-one, add-zero, div-one)) ∙ grouped w16 ThreeRegisters 1 17 refl (a .op) (a .w) (omega arith) (omega arith)
 
 pub narrow-registers-spec : {M : Type 1} → statement M
-narrow-registers-spec = tie.close (tie.spec add-d add-registers registers-requires returns)
+narrow-registers-spec = tie.close (tie.spec (λ c. search needs) (λ c. search needs) (λ c κs. search needs) returns)

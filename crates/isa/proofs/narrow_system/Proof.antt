@@ -11,33 +11,6 @@ use Rattle.isa.proofs.Table.{values, grouped}
 use Rattle.isa.proofs.narrow_system.Statement.{statement}
 use Rattle.isa.proofs.narrow_system.Tie as tie
 
-unsigned-requires : tie.Need-unsigned-requires
-unsigned-requires c κs = search needs
-
-unsigned-requires-2 : tie.Need-unsigned-requires-2
-unsigned-requires-2 c κs = search needs
-
-unsigned-requires-3 : tie.Need-unsigned-requires-3
-unsigned-requires-3 c κs = search needs
-
-add-registers : tie.Need-add-registers
-add-registers c = search needs
-
-registers-requires : tie.Need-registers-requires
-registers-requires c κs = search needs
-
-registers-requires-2 : tie.Need-registers-requires-2
-registers-requires-2 c κs = search needs
-
-registers-requires-3 : tie.Need-registers-requires-3
-registers-requires-3 c κs = search needs
-
-add-registers-2 : tie.Need-add-registers-2
-add-registers-2 c = search needs
-
-registers-requires-4 : tie.Need-registers-requires-4
-registers-requires-4 c κs = search needs
-
 returns : tie.Need-returns
 unfolding instructions values
 returns c =
@@ -85,15 +58,7 @@ pub narrow-system-spec : {M : Type 1} → statement M
 narrow-system-spec =
     tie.close
     (tie.spec
-    unsigned-requires
-    unsigned-requires-2
-    unsigned-requires-3
-    add-registers
-    registers-requires
-    registers-requires-2
-    registers-requires-3
-    add-registers-2
-    registers-requires-4
+    (λ c κs. search needs) (λ c κs. search needs) (λ c κs. search needs) (λ c. search needs) (λ c κs. search needs) (λ c κs. search needs) (λ c κs. search needs) (λ c. search needs) (λ c κs. search needs)
     returns
     returns-2
     returns-3

@@ -6,11 +6,8 @@ use native.Mathlib.Omega.{arith}
 use Rattle.isa.proofs.unsigned.Statement.{statement}
 use Rattle.isa.proofs.unsigned.Tie as tie
 
-cast-t4 : tie.Need-cast-t4
-cast-t4 c = search needs
-
 returns : tie.Need-returns
 returns c = rw (toZ-pos w32 {n = c .args .n} (omega arith))
 
 pub unsigned-spec : {M : Type 1} → statement M
-unsigned-spec = tie.close (tie.spec cast-t4 returns)
+unsigned-spec = tie.close (tie.spec (λ c. search needs) returns)

@@ -9,15 +9,6 @@ use Rattle.isa.proofs.Table.{values, grouped}
 use Rattle.isa.proofs.wide_access.Statement.{statement}
 use Rattle.isa.proofs.wide_access.Tie as tie
 
-mul-signed : tie.Need-mul-signed
-mul-signed c = search needs
-
-add-signed : tie.Need-add-signed
-add-signed c = search needs
-
-signed-requires : tie.Need-signed-requires
-signed-requires c κs = search needs
-
 returns : tie.Need-returns
 unfolding instructions values
 returns c =
@@ -25,4 +16,4 @@ returns c =
     c .signed .ensures ∙ (simp (mul-one, add-zero, div-one)) ∙ grouped w32 Memory 27 2 refl (a .op) (a .w) (omega arith) (omega arith)
 
 pub wide-access-spec : {M : Type 1} → statement M
-wide-access-spec = tie.close (tie.spec mul-signed add-signed signed-requires returns)
+wide-access-spec = tie.close (tie.spec (λ c. search needs) (λ c. search needs) (λ c κs. search needs) returns)

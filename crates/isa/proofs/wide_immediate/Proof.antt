@@ -11,24 +11,6 @@ use Rattle.isa.proofs.Table.{values, grouped}
 use Rattle.isa.proofs.wide_immediate.Statement.{statement}
 use Rattle.isa.proofs.wide_immediate.Tie as tie
 
-mul-n : tie.Need-mul-n
-mul-n c = search needs
-
-add-n : tie.Need-add-n
-add-n c = search needs
-
-signed-requires : tie.Need-signed-requires
-signed-requires c κs = search needs
-
-signed-requires-2 : tie.Need-signed-requires-2
-signed-requires-2 c κs = search needs
-
-unsigned-requires : tie.Need-unsigned-requires
-unsigned-requires c κs = search needs
-
-unsigned-requires-2 : tie.Need-unsigned-requires-2
-unsigned-requires-2 c κs = search needs
-
 returns : tie.Need-returns
 unfolding instructions values
 returns c =
@@ -58,12 +40,7 @@ pub wide-immediate-spec : {M : Type 1} → statement M
 wide-immediate-spec =
     tie.close
     (tie.spec
-    mul-n
-    add-n
-    signed-requires
-    signed-requires-2
-    unsigned-requires
-    unsigned-requires-2
+    (λ c. search needs) (λ c. search needs) (λ c κs. search needs) (λ c κs. search needs) (λ c κs. search needs) (λ c κs. search needs)
     returns
     returns-2
     returns-3

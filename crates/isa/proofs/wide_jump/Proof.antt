@@ -11,15 +11,6 @@ use Rattle.isa.proofs.Table.{values, grouped}
 use Rattle.isa.proofs.wide_jump.Statement.{statement}
 use Rattle.isa.proofs.wide_jump.Tie as tie
 
-signed-requires : tie.Need-signed-requires
-signed-requires c κs = search needs
-
-registers-requires : tie.Need-registers-requires
-registers-requires c κs = search needs
-
-signed-requires-2 : tie.Need-signed-requires-2
-signed-requires-2 c κs = search needs
-
 returns : tie.Need-returns
 unfolding instructions values
 returns c =
@@ -43,9 +34,7 @@ pub wide-jump-spec : {M : Type 1} → statement M
 wide-jump-spec =
     tie.close
     (tie.spec
-    signed-requires
-    registers-requires
-    signed-requires-2
+    (λ c κs. search needs) (λ c κs. search needs) (λ c κs. search needs)
     returns
     returns-2
     returns-3)

@@ -11,27 +11,6 @@ use Rattle.isa.proofs.Table.{values, grouped}
 use Rattle.isa.proofs.wide_move.Statement.{statement}
 use Rattle.isa.proofs.wide_move.Tie as tie
 
-registers-requires : tie.Need-registers-requires
-registers-requires c κs = search needs
-
-registers-requires-2 : tie.Need-registers-requires-2
-registers-requires-2 c κs = search needs
-
-mul-signed : tie.Need-mul-signed
-mul-signed c = search needs
-
-add-signed : tie.Need-add-signed
-add-signed c = search needs
-
-signed-requires : tie.Need-signed-requires
-signed-requires c κs = search needs
-
-registers-requires-3 : tie.Need-registers-requires-3
-registers-requires-3 c κs = search needs
-
-unsigned-requires : tie.Need-unsigned-requires
-unsigned-requires c κs = search needs
-
 returns : tie.Need-returns
 unfolding instructions values
 returns c =
@@ -67,13 +46,7 @@ pub wide-move-spec : {M : Type 1} → statement M
 wide-move-spec =
     tie.close
     (tie.spec
-    registers-requires
-    registers-requires-2
-    mul-signed
-    add-signed
-    signed-requires
-    registers-requires-3
-    unsigned-requires
+    (λ c κs. search needs) (λ c κs. search needs) (λ c. search needs) (λ c. search needs) (λ c κs. search needs) (λ c κs. search needs) (λ c κs. search needs)
     returns
     returns-2
     returns-3

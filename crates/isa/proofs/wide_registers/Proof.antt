@@ -9,9 +9,6 @@ use Rattle.isa.proofs.Table.{values, grouped}
 use Rattle.isa.proofs.wide_registers.Statement.{statement}
 use Rattle.isa.proofs.wide_registers.Tie as tie
 
-registers-requires : tie.Need-registers-requires
-registers-requires c κs = search needs
-
 returns : tie.Need-returns
 unfolding instructions values
 returns c =
@@ -19,4 +16,4 @@ returns c =
     c .registers .ensures ∙ (simp (mul-one, add-zero, div-one)) ∙ grouped w32 ThreeRegisters 1 17 refl (a .op) (a .w) (omega arith) (omega arith)
 
 pub wide-registers-spec : {M : Type 1} → statement M
-wide-registers-spec = tie.close (tie.spec registers-requires returns)
+wide-registers-spec = tie.close (tie.spec (λ c κs. search needs) returns)

@@ -11,27 +11,6 @@ use Rattle.isa.proofs.Table.{values, grouped}
 use Rattle.isa.proofs.wide_system.Statement.{statement}
 use Rattle.isa.proofs.wide_system.Tie as tie
 
-unsigned-requires : tie.Need-unsigned-requires
-unsigned-requires c κs = search needs
-
-unsigned-requires-2 : tie.Need-unsigned-requires-2
-unsigned-requires-2 c κs = search needs
-
-unsigned-requires-3 : tie.Need-unsigned-requires-3
-unsigned-requires-3 c κs = search needs
-
-registers-requires : tie.Need-registers-requires
-registers-requires c κs = search needs
-
-registers-requires-2 : tie.Need-registers-requires-2
-registers-requires-2 c κs = search needs
-
-registers-requires-3 : tie.Need-registers-requires-3
-registers-requires-3 c κs = search needs
-
-registers-requires-4 : tie.Need-registers-requires-4
-registers-requires-4 c κs = search needs
-
 returns : tie.Need-returns
 unfolding instructions values
 returns c =
@@ -79,13 +58,7 @@ pub wide-system-spec : {M : Type 1} → statement M
 wide-system-spec =
     tie.close
     (tie.spec
-    unsigned-requires
-    unsigned-requires-2
-    unsigned-requires-3
-    registers-requires
-    registers-requires-2
-    registers-requires-3
-    registers-requires-4
+    (λ c κs. search needs) (λ c κs. search needs) (λ c κs. search needs) (λ c κs. search needs) (λ c κs. search needs) (λ c κs. search needs) (λ c κs. search needs)
     returns
     returns-2
     returns-3

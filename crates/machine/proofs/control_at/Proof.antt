@@ -5,14 +5,8 @@ use borrow.Author.Needs.{needs}
 use Rattle.machine.proofs.control_at.Statement.{statement}
 use Rattle.machine.proofs.control_at.Tie as tie
 
-control-requires : tie.Need-control-requires
-control-requires c κs = search needs
-
-returns : tie.Need-returns
-returns c = search needs
-
 returns-2 : tie.Need-returns-2
 returns-2 c = sym (control-beyond (c .before .before .args .w .now) (c .before .before .args .n) (c .before .before .pre) (c .if1 .left))
 
 pub control-at-spec : {M : Type 1} → statement M
-control-at-spec = tie.close (tie.spec control-requires returns returns-2)
+control-at-spec = tie.close (tie.spec (λ c κs. search needs) (λ c. search needs) returns-2)

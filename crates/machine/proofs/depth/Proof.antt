@@ -5,11 +5,8 @@ use borrow.Author.Needs.{needs}
 use Rattle.machine.proofs.depth.Statement.{statement}
 use Rattle.machine.proofs.depth.Tie as tie
 
-shared-slice-read-result : tie.Need-shared-slice-read-result
-shared-slice-read-result c = search needs
-
 returns : tie.Need-returns
 returns c = sym (depth-is (c .before .args .w .now))
 
 pub depth-spec : {M : Type 1} → statement M
-depth-spec = tie.close (tie.spec shared-slice-read-result returns)
+depth-spec = tie.close (tie.spec (λ c. search needs) returns)

@@ -7,9 +7,6 @@ use borrow.Author.Needs.{needs}
 use Rattle.machine.proofs.kept.Statement.{statement}
 use Rattle.machine.proofs.kept.Tie as tie
 
-limit-requires : tie.Need-limit-requires
-limit-requires c κs = search needs
-
 mul-result : tie.Need-mul-result
 mul-result c = omega (arith, and-le-l (c .before .before .args .x) (c .before .limit .result))
 
@@ -23,4 +20,4 @@ returns-2 c =
     rw (c .before .limit .ensures) (mask-whole (registerAt (s .args .offset)) (s .args .x) (no-zeros (s .args .offset) (c .if1 .left)))
 
 pub kept-spec : {M : Type 1} → statement M
-kept-spec = tie.close (tie.spec limit-requires mul-result returns returns-2)
+kept-spec = tie.close (tie.spec (λ c κs. search needs) mul-result returns returns-2)

@@ -17,9 +17,6 @@ by-set : (b : Bool) (n : ℕ) → 1 + boolByte b * 33 + n ≡ startBy b + n
 by-set true n = refl
 by-set false n = refl
 
-cast-result : tie.Need-cast-result
-cast-result c = search needs
-
 mul-result : tie.Need-mul-result
 mul-result c = omega (arith, small (c .args .second))
 
@@ -33,4 +30,4 @@ returns : tie.Need-returns
 returns c = by-set (c .args .second) (c .args .n)
 
 pub place-spec : {M : Type 1} → statement M
-place-spec = tie.close (tie.spec cast-result mul-result add-result add-result-2 returns)
+place-spec = tie.close (tie.spec (λ c. search needs) mul-result add-result add-result-2 returns)

@@ -25,34 +25,19 @@ stored c =
     let e : getD w DEPTH 0 ≡ suc (n .result - 1) = omega (arith, depth-is w, n .ensures, s .pre .1 .1 .1) in
     popped-to w (n .result - 1) (s .pre .0) e
 
-depth-requires : tie.Need-depth-requires
-depth-requires c κs = search needs
-
 top-requires : tie.Need-top-requires
 top-requires c κs = (search needs, depth-most _ (c .before .before .before .before .pre .1 .1 .0))
-
-slice-read-without-flag : tie.Need-slice-read-without-flag
-slice-read-without-flag c = search needs
 
 without-flag-requires : tie.Need-without-flag-requires
 without-flag-requires c κs =
     let s = c .before .before .before .before .before .before in
     rw (c .before .top .ensures) (omega (arith, top-below (machineOf (s .args .w .now) .stack) (s .pre .1 .1 .0) (s .pre .1 .1 .1)))
 
-sub-w : tie.Need-sub-w
-sub-w c = search needs
-
-slice-write-w : tie.Need-slice-write-w
-slice-write-w c = search needs
-
 top-requires-2 : tie.Need-top-requires-2
 top-requires-2 c κs =
     let s = c .before .before .before .before .before .before .before .before in
     let es = machineOf (s .args .w .now) .stack in
     (simp length-set (s .pre .0), rw (stored (c .before)) (omega (arith, depth-most es (s .pre .1 .1 .0), length-popped es)))
-
-show-requires : tie.Need-show-requires
-show-requires c κs = search needs
 
 same-length : tie.Need-same-length
 same-length c = c .before .before .show .kept .0 ∙ simp length-set
@@ -85,13 +70,12 @@ pub pop-spec : {M : Type 1} → statement M
 pop-spec =
     tie.close
     (tie.spec
-    depth-requires
+    (λ c κs. search needs)
     top-requires
-    slice-read-without-flag
+    (λ c. search needs)
     without-flag-requires
-    sub-w
-    slice-write-w
+    (λ c. search needs) (λ c. search needs)
     top-requires-2
-    show-requires
+    (λ c κs. search needs)
     same-length
     returns)

@@ -3,24 +3,6 @@ use borrow.Author.Needs.{needs}
 use Rattle.machine.proofs.position_of.Statement.{statement}
 use Rattle.machine.proofs.position_of.Tie as tie
 
-pc-requires : tie.Need-pc-requires
-pc-requires c κs = search needs
-
-slot-requires : tie.Need-slot-requires
-slot-requires c κs = search needs
-
-target-requires : tie.Need-target-requires
-target-requires c κs = search needs
-
-held-requires : tie.Need-held-requires
-held-requires c κs = search needs
-
-high-requires : tie.Need-high-requires
-high-requires c κs = search needs
-
-low-requires : tie.Need-low-requires
-low-requires c κs = search needs
-
 returns : tie.Need-returns
 returns c =
     λ i. record {
@@ -36,10 +18,5 @@ pub position-of-spec : {M : Type 1} → statement M
 position-of-spec =
     tie.close
     (tie.spec
-    pc-requires
-    slot-requires
-    target-requires
-    held-requires
-    high-requires
-    low-requires
+    (λ c κs. search needs) (λ c κs. search needs) (λ c κs. search needs) (λ c κs. search needs) (λ c κs. search needs) (λ c κs. search needs)
     returns)

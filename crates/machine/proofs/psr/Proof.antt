@@ -8,12 +8,9 @@ use borrow.Author.Needs.{needs}
 use Rattle.machine.proofs.psr.Statement.{statement}
 use Rattle.machine.proofs.psr.Tie as tie
 
-shared-slice-read-result : tie.Need-shared-slice-read-result
-shared-slice-read-result c = search needs
-
 returns : tie.Need-returns
 unfolding psr machineOf
 returns c = sym (section-at (c .before .args .w .now) SET2 32 29 (lit< tt))
 
 pub psr-spec : {M : Type 1} → statement M
-psr-spec = tie.close (tie.spec shared-slice-read-result returns)
+psr-spec = tie.close (tie.spec (λ c. search needs) returns)

@@ -20,56 +20,20 @@ room c =
     let s = c .before .before .before .before .before in
     omega (arith, c .before .before .depth .ensures, depth-most (s .args .e ∷ machineOf (s .args .w .now) .stack) (s .pre .1 .1))
 
-depth-requires : tie.Need-depth-requires
-depth-requires c κs = search needs
-
-slice-read-with-flag : tie.Need-slice-read-with-flag
-slice-read-with-flag c = search needs
-
 with-flag-requires : tie.Need-with-flag-requires
 unfolding shownTop
 with-flag-requires c κs =
     let s = c .before .before .before .before in
     omega (arith, top-below (s .args .e ∷ machineOf (s .args .w .now) .stack) (s .pre .1 .1) (omega arith))
 
-cast-at : tie.Need-cast-at
-cast-at c = search needs
-
-mul-at : tie.Need-mul-at
-mul-at c = search needs
-
-add-at : tie.Need-add-at
-add-at c = search needs
-
-mul-w : tie.Need-mul-w
-mul-w c = search needs
-
 slice-write-w : tie.Need-slice-write-w
 slice-write-w c = omega (arith, room c)
-
-add-w : tie.Need-add-w
-add-w c = search needs
-
-mul-w-2 : tie.Need-mul-w-2
-mul-w-2 c = search needs
 
 slice-write-w-2 : tie.Need-slice-write-w-2
 slice-write-w-2 c = simp length-set (omega (arith, room c))
 
-add-w-2 : tie.Need-add-w-2
-add-w-2 c = search needs
-
-mul-w-3 : tie.Need-mul-w-3
-mul-w-3 c = search needs
-
 slice-write-w-3 : tie.Need-slice-write-w-3
 slice-write-w-3 c = simp length-set (omega (arith, room c))
-
-add-w-3 : tie.Need-add-w-3
-add-w-3 c = search needs
-
-mul-w-4 : tie.Need-mul-w-4
-mul-w-4 c = search needs
 
 slice-write-w-4 : tie.Need-slice-write-w-4
 slice-write-w-4 c = simp length-set (omega (arith, room c))
@@ -79,9 +43,6 @@ add-w-4 c = omega (arith, room c)
 
 slice-write-w-5 : tie.Need-slice-write-w-5
 slice-write-w-5 c = simp length-set (omega arith)
-
-show-requires : tie.Need-show-requires
-show-requires c κs = search needs
 
 same-length : tie.Need-same-length
 same-length c = c .before .before .show .kept .0 ∙ simp length-set
@@ -110,25 +71,18 @@ pub push-spec : {M : Type 1} → statement M
 push-spec =
     tie.close
     (tie.spec
-    depth-requires
-    slice-read-with-flag
+    (λ c κs. search needs) (λ c. search needs)
     with-flag-requires
-    cast-at
-    mul-at
-    add-at
-    mul-w
+    (λ c. search needs) (λ c. search needs) (λ c. search needs) (λ c. search needs)
     slice-write-w
-    add-w
-    mul-w-2
+    (λ c. search needs) (λ c. search needs)
     slice-write-w-2
-    add-w-2
-    mul-w-3
+    (λ c. search needs) (λ c. search needs)
     slice-write-w-3
-    add-w-3
-    mul-w-4
+    (λ c. search needs) (λ c. search needs)
     slice-write-w-4
     add-w-4
     slice-write-w-5
-    show-requires
+    (λ c κs. search needs)
     same-length
     returns)

@@ -6,9 +6,6 @@ use Rattle.machine.proofs.Flat.{start-small, register-at}
 use Rattle.machine.proofs.register.Statement.{statement}
 use Rattle.machine.proofs.register.Tie as tie
 
-place-requires : tie.Need-place-requires
-place-requires c κs = search needs
-
 mul-result : tie.Need-mul-result
 mul-result c = omega (arith, start-small (c .before .before .args .second))
 
@@ -21,4 +18,4 @@ returns c =
     rw (c .before .place .ensures) (sym (register-at (s .args .w .now) (s .args .second) (s .args .n) (s .pre .1)))
 
 pub register-spec : {M : Type 1} → statement M
-register-spec = tie.close (tie.spec place-requires mul-result shared-slice-read-result returns)
+register-spec = tie.close (tie.spec (λ c κs. search needs) mul-result shared-slice-read-result returns)

@@ -4,20 +4,8 @@ use borrow.Author.Needs.{needs}
 use Rattle.machine.proofs.set_condition.Statement.{statement}
 use Rattle.machine.proofs.set_condition.Tie as tie
 
-add-w : tie.Need-add-w
-add-w c = search needs
-
-mul-w : tie.Need-mul-w
-mul-w c = search needs
-
-slice-write-w : tie.Need-slice-write-w
-slice-write-w c = search needs
-
-same-length : tie.Need-same-length
-same-length c = search needs
-
 returns : tie.Need-returns
 returns c = condition-stored (c .args .w .now) (c .args .x) (c .args .n) (c .pre .1)
 
 pub set-condition-spec : {M : Type 1} → statement M
-set-condition-spec = tie.close (tie.spec add-w mul-w slice-write-w same-length returns)
+set-condition-spec = tie.close (tie.spec (λ c. search needs) (λ c. search needs) (λ c. search needs) (λ c. search needs) returns)

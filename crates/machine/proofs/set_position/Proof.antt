@@ -6,26 +6,11 @@ use borrow.Author.Needs.{needs}
 use Rattle.machine.proofs.set_position.Statement.{statement}
 use Rattle.machine.proofs.set_position.Tie as tie
 
-slice-write-w : tie.Need-slice-write-w
-slice-write-w c = search needs
-
-slice-write-w-2 : tie.Need-slice-write-w-2
-slice-write-w-2 c = search needs
-
-slice-write-w-3 : tie.Need-slice-write-w-3
-slice-write-w-3 c = search needs
-
-slice-write-w-4 : tie.Need-slice-write-w-4
-slice-write-w-4 c = search needs
-
 slice-write-w-5 : tie.Need-slice-write-w-5
 slice-write-w-5 c = simp length-set (omega arith)
 
 slice-write-w-6 : tie.Need-slice-write-w-6
 slice-write-w-6 c = simp length-set (omega arith)
-
-same-length : tie.Need-same-length
-same-length c = search needs
 
 returns : tie.Need-returns
 returns c = position-filled (c .args .w .now) (c .args .p) (c .pre)
@@ -34,11 +19,8 @@ pub set-position-spec : {M : Type 1} → statement M
 set-position-spec =
     tie.close
     (tie.spec
-    slice-write-w
-    slice-write-w-2
-    slice-write-w-3
-    slice-write-w-4
+    (λ c. search needs) (λ c. search needs) (λ c. search needs) (λ c. search needs)
     slice-write-w-5
     slice-write-w-6
-    same-length
+    (λ c. search needs)
     returns)

@@ -6,15 +6,9 @@ use borrow.Author.Needs.{needs}
 use Rattle.machine.proofs.set_psr.Statement.{statement}
 use Rattle.machine.proofs.set_psr.Tie as tie
 
-slice-write-w : tie.Need-slice-write-w
-slice-write-w c = search needs
-
-same-length : tie.Need-same-length
-same-length c = search needs
-
 returns : tie.Need-returns
 unfolding withPsr
 returns c = set2-stored (c .args .w .now) (c .args .q) 29 (lit< tt)
 
 pub set-psr-spec : {M : Type 1} → statement M
-set-psr-spec = tie.close (tie.spec slice-write-w same-length returns)
+set-psr-spec = tie.close (tie.spec (λ c. search needs) (λ c. search needs) returns)

@@ -5,17 +5,11 @@ use Rattle.machine.proofs.Flat.{start-small, register-stored}
 use Rattle.machine.proofs.set_register.Statement.{statement}
 use Rattle.machine.proofs.set_register.Tie as tie
 
-place-requires : tie.Need-place-requires
-place-requires c κs = search needs
-
 mul-w : tie.Need-mul-w
 mul-w c = omega (arith, start-small (c .before .before .args .second))
 
 slice-write-w : tie.Need-slice-write-w
 slice-write-w c = omega (arith, start-small (c .before .before .args .second))
-
-same-length : tie.Need-same-length
-same-length c = search needs
 
 returns : tie.Need-returns
 returns c =
@@ -23,4 +17,4 @@ returns c =
     rw (c .place .ensures) (register-stored (s .args .w .now) (s .args .x) (s .args .n) (s .args .second) (s .pre .1))
 
 pub set-register-spec : {M : Type 1} → statement M
-set-register-spec = tie.close (tie.spec place-requires mul-w slice-write-w same-length returns)
+set-register-spec = tie.close (tie.spec (λ c κs. search needs) mul-w slice-write-w (λ c. search needs) returns)

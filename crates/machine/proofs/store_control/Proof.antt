@@ -11,17 +11,8 @@ use Rattle.machine.proofs.store_control.Tie as tie
 is-writable : (c : tie.Then1) → isWritable (registerAt (c .before .before .before .args .offset) .access) ≡ true
 is-writable c = sym (c .before .writable .ensures) ∙ c .if1 .taken
 
-writable-requires : tie.Need-writable-requires
-writable-requires c κs = search needs
-
-kept-requires : tie.Need-kept-requires
-kept-requires c κs = search needs
-
 set-control-requires : tie.Need-set-control-requires
 set-control-requires c κs = (search needs, writable-small _ (is-writable (c .before .before)))
-
-same-length : tie.Need-same-length
-same-length c = search needs
 
 returns : tie.Need-returns
 returns c =
@@ -35,4 +26,4 @@ returns-2 c = rw (stored-ignored _ _ _ (sym (c .before .writable .ensures) ∙ c
 pub store-control-spec : {M : Type 1} → statement M
 store-control-spec =
     tie.close
-    (tie.spec writable-requires kept-requires set-control-requires same-length returns returns-2)
+    (tie.spec (λ c κs. search needs) (λ c κs. search needs) set-control-requires (λ c. search needs) returns returns-2)

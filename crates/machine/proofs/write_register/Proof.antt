@@ -7,17 +7,11 @@ use Rattle.machine.proofs.Flat.{start-small, register-stored, register-
 use Rattle.machine.proofs.write_register.Statement.{statement}
 use Rattle.machine.proofs.write_register.Tie as tie
 
-place-requires : tie.Need-place-requires
-place-requires c κs = search needs
-
 mul-w : tie.Need-mul-w
 mul-w c = omega (arith, start-small (c .before .before .before .args .second))
 
 slice-write-w : tie.Need-slice-write-w
 slice-write-w c = omega (arith, start-small (c .before .before .before .args .second))
-
-same-length : tie.Need-same-length
-same-length c = search needs
 
 returns : tie.Need-returns
 returns c =
@@ -35,4 +29,4 @@ returns-2 c =
 
 pub write-register-spec : {M : Type 1} → statement M
 write-register-spec =
-    tie.close (tie.spec place-requires mul-w slice-write-w same-length returns returns-2)
+    tie.close (tie.spec (λ c κs. search needs) mul-w slice-write-w (λ c. search needs) returns returns-2)

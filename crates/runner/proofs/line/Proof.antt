@@ -4,21 +4,6 @@ use Rattle.runner.specs.Report.{answerText}
 use Rattle.runner.proofs.line.Statement.{statement}
 use Rattle.runner.proofs.line.Tie as tie
 
-enum-known-answer : tie.Need-enum-known-answer
-enum-known-answer c = search needs
-
-refusal-line-requires : tie.Need-refusal-line-requires
-refusal-line-requires c κs = search needs
-
-enum-known-answer-2 : tie.Need-enum-known-answer-2
-enum-known-answer-2 c = search needs
-
-pc-requires : tie.Need-pc-requires
-pc-requires c κs = search needs
-
-ran-line-requires : tie.Need-ran-line-requires
-ran-line-requires c κs = search needs
-
 returns : tie.Need-returns
 unfolding answerText
 returns c = rw (c .before .before .answer .given .1, c .refusal-line .ensures)
@@ -31,10 +16,6 @@ pub line-spec : {M : Type 1} → statement M
 line-spec =
     tie.close
     (tie.spec
-    enum-known-answer
-    refusal-line-requires
-    enum-known-answer-2
-    pc-requires
-    ran-line-requires
+    (λ c. search needs) (λ c κs. search needs) (λ c. search needs) (λ c κs. search needs) (λ c κs. search needs)
     returns
     returns-2)

@@ -8,15 +8,9 @@ use Rattle.runner.proofs.Buffers.{reset-front}
 use Rattle.runner.proofs.reset_image.Statement.{statement}
 use Rattle.runner.proofs.reset_image.Tie as tie
 
-slice-aggregate-reset : tie.Need-slice-aggregate-reset
-slice-aggregate-reset c = search needs
-
-reset-requires : tie.Need-reset-requires
-reset-requires c κs = search needs
-
 returns : tie.Need-returns
 unfolding resetCall if_then_else_
 returns c = ap (λ (o : ResetOutcome). take 516 (o .buffer)) (c .before .reset .ensures) ∙ reset-front _
 
 pub reset-image-spec : {M : Type 1} → statement M
-reset-image-spec = tie.close (tie.spec slice-aggregate-reset reset-requires returns)
+reset-image-spec = tie.close (tie.spec (λ c. search needs) (λ c κs. search needs) returns)

@@ -9,27 +9,6 @@ use borrow.Author.Needs.{needs}
 use Rattle.step.proofs.accept.Statement.{statement}
 use Rattle.step.proofs.accept.Tie as tie
 
-entry-for-requires : tie.Need-entry-for-requires
-entry-for-requires c κs = search needs
-
-service-psr-requires : tie.Need-service-psr-requires
-service-psr-requires c κs = search needs
-
-add-control : tie.Need-add-control
-add-control c = search needs
-
-control-requires : tie.Need-control-requires
-control-requires c κs = search needs
-
-control-requires-2 : tie.Need-control-requires-2
-control-requires-2 c κs = search needs
-
-without-flag-requires : tie.Need-without-flag-requires
-without-flag-requires c κs = search needs
-
-set-control-requires : tie.Need-set-control-requires
-set-control-requires c κs = search needs
-
 push-requires : tie.Need-push-requires
 push-requires c κs =
     let s = c .before .before .before .before .before .before .before .before .before .before .before .before .before .before .before in
@@ -40,15 +19,6 @@ push-requires c κs =
     let stored = c .before .before .before .set-control .ensures in
     let entry = c .before .before .before .before .before .before .before .before .before .before .before .before .entry-for .ensures in
     (search needs, (still-served m n pending stored f, still-distinct m n pending stored entry (s .pre .1 .0) (s .pre .1 .1) f))
-
-set-psr-requires : tie.Need-set-psr-requires
-set-psr-requires c κs = search needs
-
-set-position-requires : tie.Need-set-position-requires
-set-position-requires c κs = search needs
-
-same-length : tie.Need-same-length
-same-length c = search needs
 
 returns : tie.Need-returns
 unfolding positionAt
@@ -72,15 +42,7 @@ pub accept-spec : {M : Type 1} → statement M
 accept-spec =
     tie.close
     (tie.spec
-    entry-for-requires
-    service-psr-requires
-    add-control
-    control-requires
-    control-requires-2
-    without-flag-requires
-    set-control-requires
+    (λ c κs. search needs) (λ c κs. search needs) (λ c. search needs) (λ c κs. search needs) (λ c κs. search needs) (λ c κs. search needs) (λ c κs. search needs)
     push-requires
-    set-psr-requires
-    set-position-requires
-    same-length
+    (λ c κs. search needs) (λ c κs. search needs) (λ c. search needs)
     returns)

@@ -11,15 +11,6 @@ use borrow.Author.Needs.{needs}
 use Rattle.step.proofs.accepted_source.Statement.{statement}
 use Rattle.step.proofs.accepted_source.Tie as tie
 
-waiting-requires : tie.Need-waiting-requires
-waiting-requires c κs = search needs
-
-may-accept-requires : tie.Need-may-accept-requires
-may-accept-requires c κs = search needs
-
-candidate-requires : tie.Need-candidate-requires
-candidate-requires c κs = search needs
-
 returns : tie.Need-returns
 unfolding sourceNumber
 returns c cells =
@@ -38,4 +29,4 @@ returns-3 c cells = rw (sym (c .before .may-accept .ensures cells) ∙ c .if2 .l
 pub accepted-source-spec : {M : Type 1} → statement M
 accepted-source-spec =
     tie.close
-    (tie.spec waiting-requires may-accept-requires candidate-requires returns returns-2 returns-3)
+    (tie.spec (λ c κs. search needs) (λ c κs. search needs) (λ c κs. search needs) returns returns-2 returns-3)

@@ -4,18 +4,6 @@ use borrow.Author.Needs.{needs}
 use Rattle.step.proofs.add_requests.Statement.{statement}
 use Rattle.step.proofs.add_requests.Tie as tie
 
-control-requires : tie.Need-control-requires
-control-requires c κs = search needs
-
-or-requires : tie.Need-or-requires
-or-requires c κs = search needs
-
-set-control-requires : tie.Need-set-control-requires
-set-control-requires c κs = search needs
-
-same-length : tie.Need-same-length
-same-length c = search needs
-
 returns : tie.Need-returns
 unfolding withPending
 returns c =
@@ -25,4 +13,4 @@ returns c =
 pub add-requests-spec : {M : Type 1} → statement M
 add-requests-spec =
     tie.close
-    (tie.spec control-requires or-requires set-control-requires same-length returns)
+    (tie.spec (λ c κs. search needs) (λ c κs. search needs) (λ c κs. search needs) (λ c. search needs) returns)

@@ -6,15 +6,6 @@ use borrow.Author.Needs.{needs}
 use Rattle.step.proofs.candidate.Statement.{statement}
 use Rattle.step.proofs.candidate.Tie as tie
 
-waiting-requires : tie.Need-waiting-requires
-waiting-requires c κs = search needs
-
-service-floor-requires : tie.Need-service-floor-requires
-service-floor-requires c κs = search needs
-
-most-urgent-requires : tie.Need-most-urgent-requires
-most-urgent-requires c κs = search needs
-
 returns : tie.Need-returns
 returns c =
     let s = c .before .before .before .before in
@@ -23,4 +14,4 @@ returns c =
 
 pub candidate-spec : {M : Type 1} → statement M
 candidate-spec =
-    tie.close (tie.spec waiting-requires service-floor-requires most-urgent-requires returns)
+    tie.close (tie.spec (λ c κs. search needs) (λ c κs. search needs) (λ c κs. search needs) returns)

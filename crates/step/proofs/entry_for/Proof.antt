@@ -4,18 +4,9 @@ use borrow.Author.Needs.{needs}
 use Rattle.step.proofs.entry_for.Statement.{statement}
 use Rattle.step.proofs.entry_for.Tie as tie
 
-pc-requires : tie.Need-pc-requires
-pc-requires c κs = search needs
-
-psr-requires : tie.Need-psr-requires
-psr-requires c κs = search needs
-
-condition-requires : tie.Need-condition-requires
-condition-requires c κs = search needs
-
 returns : tie.Need-returns
 unfolding entryFor
 returns c = rw (c .condition .ensures, c .before .psr .ensures, c .before .before .pc .ensures)
 
 pub entry-for-spec : {M : Type 1} → statement M
-entry-for-spec = tie.close (tie.spec pc-requires psr-requires condition-requires returns)
+entry-for-spec = tie.close (tie.spec (λ c κs. search needs) (λ c κs. search needs) (λ c κs. search needs) returns)

@@ -13,21 +13,6 @@ use borrow.Author.Needs.{needs}
 use Rattle.step.proofs.may_accept.Statement.{statement}
 use Rattle.step.proofs.may_accept.Tie as tie
 
-psr-requires : tie.Need-psr-requires
-psr-requires c κs = search needs
-
-has-flag-requires : tie.Need-has-flag-requires
-has-flag-requires c κs = search needs
-
-slot-requires : tie.Need-slot-requires
-slot-requires c κs = search needs
-
-held-requires : tie.Need-held-requires
-held-requires c κs = search needs
-
-next-is-mulhi-requires : tie.Need-next-is-mulhi-requires
-next-is-mulhi-requires c κs = search needs
-
 joined : (a b c t : Bool) → a && b ≡ t → t && c ≡ a && (b && c)
 joined true b c t e = rw e
 joined false b c t e = rw (← e)
@@ -62,11 +47,7 @@ pub may-accept-spec : {M : Type 1} → statement M
 may-accept-spec =
     tie.close
     (tie.spec
-    psr-requires
-    has-flag-requires
-    slot-requires
-    held-requires
-    next-is-mulhi-requires
+    (λ c κs. search needs) (λ c κs. search needs) (λ c κs. search needs) (λ c κs. search needs) (λ c κs. search needs)
     returns
     returns-2
     returns-3)

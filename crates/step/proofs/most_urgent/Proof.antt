@@ -31,18 +31,6 @@ loop-holds : tie.Need-loop-holds Inv-loop μ-loop
 unfolding mostUrgent sourceNumber priorityOr
 loop-holds c = (omega arith, (refl, refl))
 
-has-flag-requires : tie.Need-has-flag-requires Inv-loop μ-loop
-has-flag-requires c κs = search needs
-
-priority-requires : tie.Need-priority-requires Inv-loop μ-loop
-priority-requires c κs = search needs
-
-add-n : tie.Need-add-n Inv-loop μ-loop
-add-n c = search needs
-
-loop-less : tie.Need-loop-less Inv-loop μ-loop
-loop-less c = search needs
-
 -- one turn more
 next : (flags bound : ℕ) (m : Machine) (n best floor : ℕ) (o : Option ℕ) → n < 12 → mostUrgent flags bound m (suc n) ≡ o → best ≡ sourceNumber o → floor ≡ priorityOr bound m o
     → let q = mostUrgent flags bound m (n + 1) in (n + 1 ≤ 12) × ((best ≡ sourceNumber q) × (floor ≡ priorityOr bound m q))
@@ -85,9 +73,6 @@ most-urgent-spec =
     μ-loop
     returns
     loop-holds
-    has-flag-requires
-    priority-requires
-    add-n
-    loop-less
+    (λ c κs. search needs) (λ c κs. search needs) (λ c. search needs) (λ c. search needs)
     loop-again
     returns-2)

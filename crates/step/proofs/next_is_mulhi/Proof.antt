@@ -6,27 +6,6 @@ use borrow.Author.Needs.{needs}
 use Rattle.step.proofs.next_is_mulhi.Statement.{statement}
 use Rattle.step.proofs.next_is_mulhi.Tie as tie
 
-fetch-requires : tie.Need-fetch-requires
-fetch-requires c κs = search needs
-
-enum-known-fetched : tie.Need-enum-known-fetched
-enum-known-fetched c = search needs
-
-psr-requires : tie.Need-psr-requires
-psr-requires c κs = search needs
-
-has-flag-requires : tie.Need-has-flag-requires
-has-flag-requires c κs = search needs
-
-opcode-requires : tie.Need-opcode-requires
-opcode-requires c κs = search needs
-
-enum-told : tie.Need-enum-told
-enum-told c = search needs
-
-enum-told-2 : tie.Need-enum-told-2
-enum-told-2 c = search needs
-
 returns : tie.Need-returns
 unfolding isMulhi properties widthOf wideWords
 returns c cells =
@@ -50,13 +29,7 @@ pub next-is-mulhi-spec : {M : Type 1} → statement M
 next-is-mulhi-spec =
     tie.close
     (tie.spec
-    fetch-requires
-    enum-known-fetched
-    psr-requires
-    has-flag-requires
-    opcode-requires
-    enum-told
-    enum-told-2
+    (λ c κs. search needs) (λ c. search needs) (λ c κs. search needs) (λ c κs. search needs) (λ c κs. search needs) (λ c. search needs) (λ c. search needs)
     returns
     returns-2
     returns-3)

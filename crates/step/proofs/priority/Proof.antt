@@ -6,24 +6,6 @@ use Rattle.step.specs.Interrupt.{priority}
 use Rattle.step.proofs.priority.Statement.{statement}
 use Rattle.step.proofs.priority.Tie as tie
 
-control-requires : tie.Need-control-requires
-control-requires c κs = search needs
-
-mul-field : tie.Need-mul-field
-mul-field c = search needs
-
-field-requires : tie.Need-field-requires
-field-requires c κs = search needs
-
-control-requires-2 : tie.Need-control-requires-2
-control-requires-2 c κs = search needs
-
-mul-field-2 : tie.Need-mul-field-2
-mul-field-2 c = search needs
-
-field-requires-2 : tie.Need-field-requires-2
-field-requires-2 c κs = search needs
-
 returns : tie.Need-returns
 unfolding priority if_then_else_
 returns c = rw (c .field .ensures, c .before .control .ensures, lt-ltb _ _ (c .before .before .if1 .taken))
@@ -36,11 +18,6 @@ pub priority-spec : {M : Type 1} → statement M
 priority-spec =
     tie.close
     (tie.spec
-    control-requires
-    mul-field
-    field-requires
-    control-requires-2
-    mul-field-2
-    field-requires-2
+    (λ c κs. search needs) (λ c. search needs) (λ c κs. search needs) (λ c κs. search needs) (λ c. search needs) (λ c κs. search needs)
     returns
     returns-2)

@@ -8,15 +8,6 @@ use borrow.Author.Needs.{needs}
 use Rattle.step.proofs.service_floor.Statement.{statement}
 use Rattle.step.proofs.service_floor.Tie as tie
 
-control-requires : tie.Need-control-requires
-control-requires c κs = search needs
-
-most-urgent-requires : tie.Need-most-urgent-requires
-most-urgent-requires c κs = search needs
-
-priority-requires : tie.Need-priority-requires
-priority-requires c κs = search needs
-
 -- the number found, by the definition
 found : (c : tie.After-most-urgent) → let m = machineOf (c .before .before .before .args .w .now) in c .most-urgent .result ≡ sourceNumber (mostUrgent (controlAt m INT-SERV) 16 m 12)
 found c = rw (← (c .before .control .ensures)) (c .most-urgent .ensures)
@@ -36,4 +27,4 @@ returns-2 c =
 
 pub service-floor-spec : {M : Type 1} → statement M
 service-floor-spec =
-    tie.close (tie.spec control-requires most-urgent-requires priority-requires returns returns-2)
+    tie.close (tie.spec (λ c κs. search needs) (λ c κs. search needs) (λ c κs. search needs) returns returns-2)

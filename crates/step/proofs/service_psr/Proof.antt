@@ -7,21 +7,6 @@ use borrow.Author.Needs.{needs}
 use Rattle.step.proofs.service_psr.Statement.{statement}
 use Rattle.step.proofs.service_psr.Tie as tie
 
-control-requires : tie.Need-control-requires
-control-requires c κs = search needs
-
-has-flag-requires : tie.Need-has-flag-requires
-has-flag-requires c κs = search needs
-
-cast-wide : tie.Need-cast-wide
-cast-wide c = search needs
-
-control-requires-2 : tie.Need-control-requires-2
-control-requires-2 c κs = search needs
-
-has-flag-requires-2 : tie.Need-has-flag-requires-2
-has-flag-requires-2 c κs = search needs
-
 mul-result : tie.Need-mul-result
 mul-result c = omega (arith, bit-small (c .before .before .before .has-flag .result))
 
@@ -60,11 +45,7 @@ pub service-psr-spec : {M : Type 1} → statement M
 service-psr-spec =
     tie.close
     (tie.spec
-    control-requires
-    has-flag-requires
-    cast-wide
-    control-requires-2
-    has-flag-requires-2
+    (λ c κs. search needs) (λ c κs. search needs) (λ c. search needs) (λ c κs. search needs) (λ c κs. search needs)
     mul-result
     add-result
     mul-result-2

@@ -56,12 +56,6 @@ refused : (c : tie.Else1) → source (asked (c .before)) ≡ none
 refused c =
     number-none _ (λ k e. source-accepted _ _ k e .below) (c .before .accepted-source .ensures (entry (asked (c .before)) .args .cells .now)) (c .if1 .left)
 
-control-requires : tie.Need-control-requires
-control-requires c κs = search needs
-
-add-requests-requires : tie.Need-add-requests-requires
-add-requests-requires c κs = search needs
-
 accepted-source-requires : tie.Need-accepted-source-requires
 accepted-source-requires c κs = (search needs, formed-true (formed (c .before .before .before)))
 
@@ -69,9 +63,6 @@ accept-requires : tie.Need-accept-requires
 accept-requires c κs =
     let taken = c .before in
     ((search needs, formed-true (formed (asked (taken .before)))), (taken .if1 .taken, source-accepted _ _ _ (accepted taken) .new))
-
-same-length : tie.Need-same-length
-same-length c = search needs
 
 returns : tie.Need-returns
 returns c =
@@ -86,15 +77,6 @@ execute-requires c κs =
     let f = formed (asked (c .before .before .before)) in
     (search needs, search needs, stack-shown (f .served) (f .return-address) (f .return-status) (f .return-flags) (stacked-distinct (f .stack)))
 
-set-control-requires : tie.Need-set-control-requires
-set-control-requires c κs = search needs
-
-same-length-2 : tie.Need-same-length-2
-same-length-2 c = search needs
-
-same-length-3 : tie.Need-same-length-3
-same-length-3 c = search needs
-
 returns-2 : tie.Need-returns-2
 unfolding withPending effectOn
 returns-2 c =
@@ -104,12 +86,6 @@ returns-2 c =
     let s = entry a in
     rw (c .before .before .set-control .ensures, a .before .before .control .ensures)
     (step-stops (s .args .program .now) (start s) (s .args .requests) (requested a) (added a) _ (refused (left e)) (e .execute .ensures) (stopped .if2 .taken))
-
-same-length-4 : tie.Need-same-length-4
-same-length-4 c = search needs
-
-same-length-5 : tie.Need-same-length-5
-same-length-5 c = search needs
 
 returns-3 : tie.Need-returns-3
 unfolding effectOn
@@ -123,17 +99,13 @@ pub step-spec : {M : Type 1} → statement M
 step-spec =
     tie.close
     (tie.spec
-    control-requires
-    add-requests-requires
+    (λ c κs. search needs) (λ c κs. search needs)
     accepted-source-requires
     accept-requires
-    same-length
+    (λ c. search needs)
     returns
     execute-requires
-    set-control-requires
-    same-length-2
-    same-length-3
+    (λ c κs. search needs) (λ c. search needs) (λ c. search needs)
     returns-2
-    same-length-4
-    same-length-5
+    (λ c. search needs) (λ c. search needs)
     returns-3)

@@ -6,24 +6,6 @@ use Rattle.word.proofs.Integers.{back, carry-is}
 use Rattle.word.proofs.add.Statement.{statement}
 use Rattle.word.proofs.add.Tie as tie
 
-wrapping-add-u32-requires : tie.Need-wrapping-add-u32-requires
-wrapping-add-u32-requires c κs = search needs
-
-signed-requires : tie.Need-signed-requires
-signed-requires c κs = search needs
-
-signed-requires-2 : tie.Need-signed-requires-2
-signed-requires-2 c κs = search needs
-
-sum-wide-requires : tie.Need-sum-wide-requires
-sum-wide-requires c κs = search needs
-
-result-flags-requires : tie.Need-result-flags-requires
-result-flags-requires c κs = search needs
-
-is-outside-requires : tie.Need-is-outside-requires
-is-outside-requires c κs = search needs
-
 returns : tie.Need-returns
 unfolding addOf
 returns c =
@@ -46,10 +28,5 @@ pub add-spec : {M : Type 1} → statement M
 add-spec =
     tie.close
     (tie.spec
-    wrapping-add-u32-requires
-    signed-requires
-    signed-requires-2
-    sum-wide-requires
-    result-flags-requires
-    is-outside-requires
+    (λ c κs. search needs) (λ c κs. search needs) (λ c κs. search needs) (λ c κs. search needs) (λ c κs. search needs) (λ c κs. search needs)
     returns)

@@ -6,15 +6,6 @@ use Rattle.word.proofs.Integers.{back}
 use Rattle.word.proofs.cmp.Statement.{statement}
 use Rattle.word.proofs.cmp.Tie as tie
 
-signed-requires : tie.Need-signed-requires
-signed-requires c κs = search needs
-
-signed-requires-2 : tie.Need-signed-requires-2
-signed-requires-2 c κs = search needs
-
-condition-flags-requires : tie.Need-condition-flags-requires
-condition-flags-requires c κs = search needs
-
 returns : tie.Need-returns
 unfolding cmpOf
 returns c =
@@ -27,4 +18,4 @@ returns c =
     )
 
 pub cmp-spec : {M : Type 1} → statement M
-cmp-spec = tie.close (tie.spec signed-requires signed-requires-2 condition-flags-requires returns)
+cmp-spec = tie.close (tie.spec (λ c κs. search needs) (λ c κs. search needs) (λ c κs. search needs) returns)

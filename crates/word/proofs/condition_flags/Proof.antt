@@ -11,14 +11,8 @@ small : (b : Bool) → boolByte b ≤ 1
 small true = omega arith
 small false = omega arith
 
-cast-result : tie.Need-cast-result
-cast-result c = search needs
-
 mul-result : tie.Need-mul-result
 mul-result c = omega (arith, small (c .args .z))
-
-cast-result-2 : tie.Need-cast-result-2
-cast-result-2 c = search needs
 
 mul-result-2 : tie.Need-mul-result-2
 mul-result-2 c = omega (arith, small (c .args .n))
@@ -26,24 +20,18 @@ mul-result-2 c = omega (arith, small (c .args .n))
 add-result : tie.Need-add-result
 add-result c = omega (arith, small (c .args .z), small (c .args .n))
 
-cast-result-3 : tie.Need-cast-result-3
-cast-result-3 c = search needs
-
 add-result-2 : tie.Need-add-result-2
 add-result-2 c = omega (arith, small (c .args .z), small (c .args .n), small (c .args .c))
-
-returns : tie.Need-returns
-returns c = search needs
 
 pub condition-flags-spec : {M : Type 1} → statement M
 condition-flags-spec =
     tie.close
     (tie.spec
-    cast-result
+    (λ c. search needs)
     mul-result
-    cast-result-2
+    (λ c. search needs)
     mul-result-2
     add-result
-    cast-result-3
+    (λ c. search needs)
     add-result-2
-    returns)
+    (λ c. search needs))

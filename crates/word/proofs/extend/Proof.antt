@@ -13,9 +13,6 @@ use Rattle.word.proofs.extend.Tie as tie
 low-below : (k a : ℕ) → k ≤ 32 → a % ((1 * 2 ^ k) % 2 ^ 64) < 2 ^ k
 low-below k a u = rw (power-shifted k u) (mod-lt a (pow-pos k))
 
-shl-low : tie.Need-shl-low
-shl-low c = search needs
-
 rem-low : tie.Need-rem-low
 rem-low c = rw (power-shifted (c .args .k) (c .pre .1)) (pow-pos (c .args .k))
 
@@ -25,9 +22,6 @@ cast-low c = rw (power-shifted (c .args .k) (c .pre .1)) (omega (arith, mod-le (
 signed-field-requires : tie.Need-signed-field-requires
 signed-field-requires c κs =
     (c .pre .0, c .pre .1, low-below (c .args .k) (c .args .a) (c .pre .1))
-
-word-requires : tie.Need-word-requires
-word-requires c κs = search needs
 
 returns : tie.Need-returns
 unfolding extendOf
@@ -41,4 +35,4 @@ returns c =
 
 pub extend-spec : {M : Type 1} → statement M
 extend-spec =
-    tie.close (tie.spec shl-low rem-low cast-low signed-field-requires word-requires returns)
+    tie.close (tie.spec (λ c. search needs) rem-low cast-low signed-field-requires (λ c κs. search needs) returns)

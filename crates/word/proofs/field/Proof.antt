@@ -6,12 +6,6 @@ use Rattle.word.proofs.Integers.{one-shifted}
 use Rattle.word.proofs.field.Statement.{statement}
 use Rattle.word.proofs.field.Tie as tie
 
-shr-result : tie.Need-shr-result
-shr-result c = search needs
-
-shl-result : tie.Need-shl-result
-shl-result c = search needs
-
 rem-result : tie.Need-rem-result
 rem-result c = rw (one-shifted 32 (c .args .width) (c .pre .1)) (pow-pos (c .args .width))
 
@@ -20,4 +14,4 @@ unfolding fieldOf
 returns c = rw (one-shifted 32 (c .args .width) (c .pre .1))
 
 pub field-spec : {M : Type 1} → statement M
-field-spec = tie.close (tie.spec shr-result shl-result rem-result returns)
+field-spec = tie.close (tie.spec (λ c. search needs) (λ c. search needs) rem-result returns)

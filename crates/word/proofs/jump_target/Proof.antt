@@ -13,9 +13,6 @@ use Rattle.word.proofs.jump_target.Tie as tie
 twice : {x : ℤ} → SFits w32 x → natAbs (x *ℤ pos 2) ≤ 2 ^ 32
 twice {x} f = rw (abs-mul x (pos 2)) (omega (arith, size f))
 
-cast-result : tie.Need-cast-result
-cast-result c = search needs
-
 cast-result-2 : tie.Need-cast-result-2
 cast-result-2 c = wide-fits (c .fits .x)
 
@@ -39,4 +36,4 @@ returns c =
     )
 
 pub jump-target-spec : {M : Type 1} → statement M
-jump-target-spec = tie.close (tie.spec cast-result cast-result-2 mul-result add-result returns)
+jump-target-spec = tie.close (tie.spec (λ c. search needs) cast-result-2 mul-result add-result returns)

@@ -5,14 +5,8 @@ use Rattle.word.proofs.Integers.{low-word-is}
 use Rattle.word.proofs.low_word.Statement.{statement}
 use Rattle.word.proofs.low_word.Tie as tie
 
-word64-requires : tie.Need-word64-requires
-word64-requires c κs = search needs
-
-cast-result : tie.Need-cast-result
-cast-result c = search needs
-
 returns : tie.Need-returns
 returns c = rw (c .word64 .ensures, toZ-ofZ (c .before .fits .x)) (low-word-is (c .before .args .x))
 
 pub low-word-spec : {M : Type 1} → statement M
-low-word-spec = tie.close (tie.spec word64-requires cast-result returns)
+low-word-spec = tie.close (tie.spec (λ c κs. search needs) (λ c. search needs) returns)

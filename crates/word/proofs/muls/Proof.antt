@@ -5,15 +5,6 @@ use Rattle.word.proofs.Integers.{back}
 use Rattle.word.proofs.muls.Statement.{statement}
 use Rattle.word.proofs.muls.Tie as tie
 
-signed-requires : tie.Need-signed-requires
-signed-requires c κs = search needs
-
-signed-requires-2 : tie.Need-signed-requires-2
-signed-requires-2 c κs = search needs
-
-multiply-requires : tie.Need-multiply-requires
-multiply-requires c κs = search needs
-
 returns : tie.Need-returns
 returns c =
     rw (
@@ -25,4 +16,4 @@ returns c =
     )
 
 pub muls-spec : {M : Type 1} → statement M
-muls-spec = tie.close (tie.spec signed-requires signed-requires-2 multiply-requires returns)
+muls-spec = tie.close (tie.spec (λ c κs. search needs) (λ c κs. search needs) (λ c κs. search needs) returns)

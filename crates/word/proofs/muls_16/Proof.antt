@@ -6,18 +6,6 @@ use Rattle.word.proofs.Integers.{back}
 use Rattle.word.proofs.muls_16.Statement.{statement}
 use Rattle.word.proofs.muls_16.Tie as tie
 
-signed-half-requires : tie.Need-signed-half-requires
-signed-half-requires c κs = search needs
-
-signed-half-requires-2 : tie.Need-signed-half-requires-2
-signed-half-requires-2 c κs = search needs
-
-product-wide-requires : tie.Need-product-wide-requires
-product-wide-requires c κs = search needs
-
-low-word-requires : tie.Need-low-word-requires
-low-word-requires c κs = search needs
-
 returns : tie.Need-returns
 unfolding shortProductOf
 returns c =
@@ -35,8 +23,5 @@ pub muls-16-spec : {M : Type 1} → statement M
 muls-16-spec =
     tie.close
     (tie.spec
-    signed-half-requires
-    signed-half-requires-2
-    product-wide-requires
-    low-word-requires
+    (λ c κs. search needs) (λ c κs. search needs) (λ c κs. search needs) (λ c κs. search needs)
     returns)

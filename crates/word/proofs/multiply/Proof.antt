@@ -7,15 +7,6 @@ use Rattle.word.proofs.Integers.{back}
 use Rattle.word.proofs.multiply.Statement.{statement}
 use Rattle.word.proofs.multiply.Tie as tie
 
-product-wide-requires : tie.Need-product-wide-requires
-product-wide-requires c κs = search needs
-
-word64-requires : tie.Need-word64-requires
-word64-requires c κs = search needs
-
-halves-requires : tie.Need-halves-requires
-halves-requires c κs = search needs
-
 returns : tie.Need-returns
 unfolding productOf
 returns c =
@@ -29,4 +20,4 @@ returns c =
     )
 
 pub multiply-spec : {M : Type 1} → statement M
-multiply-spec = tie.close (tie.spec product-wide-requires word64-requires halves-requires returns)
+multiply-spec = tie.close (tie.spec (λ c κs. search needs) (λ c κs. search needs) (λ c κs. search needs) returns)

@@ -11,12 +11,9 @@ use Rattle.word.proofs.mulu.Tie as tie
 mul-halves : tie.Need-mul-halves
 mul-halves c = record { fits = product-below 32 (c .fits .a .fits) (c .fits .b .fits) }
 
-halves-requires : tie.Need-halves-requires
-halves-requires c κs = search needs
-
 returns : tie.Need-returns
 unfolding modZ productOf
 returns c = c .halves .ensures ∙ ap halvesOf (sym (mod-eq-of-lt (mul-halves (c .before) .fits)))
 
 pub mulu-spec : {M : Type 1} → statement M
-mulu-spec = tie.close (tie.spec mul-halves halves-requires returns)
+mulu-spec = tie.close (tie.spec mul-halves (λ c κs. search needs) returns)

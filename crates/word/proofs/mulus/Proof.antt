@@ -6,18 +6,6 @@ use Rattle.word.proofs.Integers.{back}
 use Rattle.word.proofs.mulus.Statement.{statement}
 use Rattle.word.proofs.mulus.Tie as tie
 
-signed-requires : tie.Need-signed-requires
-signed-requires c κs = search needs
-
-product-mixed-requires : tie.Need-product-mixed-requires
-product-mixed-requires c κs = search needs
-
-word64-requires : tie.Need-word64-requires
-word64-requires c κs = search needs
-
-halves-requires : tie.Need-halves-requires
-halves-requires c κs = search needs
-
 returns : tie.Need-returns
 unfolding productOf
 returns c =
@@ -33,4 +21,4 @@ returns c =
 pub mulus-spec : {M : Type 1} → statement M
 mulus-spec =
     tie.close
-    (tie.spec signed-requires product-mixed-requires word64-requires halves-requires returns)
+    (tie.spec (λ c κs. search needs) (λ c κs. search needs) (λ c κs. search needs) (λ c κs. search needs) returns)

@@ -6,15 +6,6 @@ use Rattle.word.proofs.Integers.{back}
 use Rattle.word.proofs.mulus_16.Statement.{statement}
 use Rattle.word.proofs.mulus_16.Tie as tie
 
-signed-half-requires : tie.Need-signed-half-requires
-signed-half-requires c κs = search needs
-
-product-mixed-requires : tie.Need-product-mixed-requires
-product-mixed-requires c κs = search needs
-
-low-word-requires : tie.Need-low-word-requires
-low-word-requires c κs = search needs
-
 returns : tie.Need-returns
 unfolding shortProductOf
 returns c =
@@ -28,4 +19,4 @@ returns c =
 
 pub mulus-16-spec : {M : Type 1} → statement M
 mulus-16-spec =
-    tie.close (tie.spec signed-half-requires product-mixed-requires low-word-requires returns)
+    tie.close (tie.spec (λ c κs. search needs) (λ c κs. search needs) (λ c κs. search needs) returns)

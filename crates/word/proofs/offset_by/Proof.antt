@@ -9,9 +9,6 @@ use Rattle.word.proofs.Integers.{wide-fits, wide-is, sum-fits, size}
 use Rattle.word.proofs.offset_by.Statement.{statement}
 use Rattle.word.proofs.offset_by.Tie as tie
 
-cast-result : tie.Need-cast-result
-cast-result c = search needs
-
 cast-result-2 : tie.Need-cast-result-2
 cast-result-2 c = wide-fits (c .fits .x)
 
@@ -24,4 +21,4 @@ returns : tie.Need-returns
 returns c = rw (toZ-ofZ (add-result c), toZ-pos w64 {n = c .args .a} (omega arith), wide-is (c .fits .x))
 
 pub offset-by-spec : {M : Type 1} → statement M
-offset-by-spec = tie.close (tie.spec cast-result cast-result-2 add-result returns)
+offset-by-spec = tie.close (tie.spec (λ c. search needs) cast-result-2 add-result returns)

@@ -9,9 +9,6 @@ use Rattle.word.proofs.Integers.{wide-fits, wide-is, product-fits, size
 use Rattle.word.proofs.product_mixed.Statement.{statement}
 use Rattle.word.proofs.product_mixed.Tie as tie
 
-cast-result : tie.Need-cast-result
-cast-result c = search needs
-
 cast-result-2 : tie.Need-cast-result-2
 cast-result-2 c = wide-fits (c .fits .y)
 
@@ -24,4 +21,4 @@ returns : tie.Need-returns
 returns c = rw (toZ-ofZ (mul-result c), toZ-pos w64 {n = c .args .a} (omega arith), wide-is (c .fits .y))
 
 pub product-mixed-spec : {M : Type 1} → statement M
-product-mixed-spec = tie.close (tie.spec cast-result cast-result-2 mul-result returns)
+product-mixed-spec = tie.close (tie.spec (λ c. search needs) cast-result-2 mul-result returns)

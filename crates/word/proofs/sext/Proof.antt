@@ -4,15 +4,9 @@ use Rattle.word.specs.Arithmetic.{sextOf}
 use Rattle.word.proofs.sext.Statement.{statement}
 use Rattle.word.proofs.sext.Tie as tie
 
-add-extend : tie.Need-add-extend
-add-extend c = search needs
-
-extend-requires : tie.Need-extend-requires
-extend-requires c κs = search needs
-
 returns : tie.Need-returns
 unfolding sextOf
 returns c = c .extend .ensures
 
 pub sext-spec : {M : Type 1} → statement M
-sext-spec = tie.close (tie.spec add-extend extend-requires returns)
+sext-spec = tie.close (tie.spec (λ c. search needs) (λ c κs. search needs) returns)

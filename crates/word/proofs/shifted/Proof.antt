@@ -12,12 +12,6 @@ use Rattle.word.proofs.shifted.Tie as tie
 cast-result : tie.Need-cast-result
 cast-result c = wide-fits (c .fits .x)
 
-cast-result-2 : tie.Need-cast-result-2
-cast-result-2 c = search needs
-
-shr-result : tie.Need-shr-result
-shr-result c = search needs
-
 returns : tie.Need-returns
 unfolding divZ
 returns c =
@@ -25,4 +19,4 @@ returns c =
     (toZ-ofZ (sfits-le (mag-shr (c .args .x) (2 ^ c .args .s)) (sfits-widen tt (c .fits .x))))
 
 pub shifted-spec : {M : Type 1} → statement M
-shifted-spec = tie.close (tie.spec cast-result cast-result-2 shr-result returns)
+shifted-spec = tie.close (tie.spec cast-result (λ c. search needs) (λ c. search needs) returns)

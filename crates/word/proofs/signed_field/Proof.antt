@@ -39,20 +39,8 @@ above c = rw (half-shifted (c .before .args .k) (c .before .pre .1)) at (c .if1 
 fits : (c : tie.Else1) → SFits w32 (signedOf (c .before .args .k) (c .before .args .v))
 fits c = signed-fits (c .before .args .k) (c .before .pre .0) (c .before .pre .1) (c .before .args .v) (c .before .pre .2)
 
-sub-if1 : tie.Need-sub-if1
-sub-if1 c = search needs
-
-shl-if1 : tie.Need-shl-if1
-shl-if1 c = search needs
-
 cast-result : tie.Need-cast-result
 cast-result c = record { sfits = small c }
-
-cast-result-2 : tie.Need-cast-result-2
-cast-result-2 c = search needs
-
-shl-result : tie.Need-shl-result
-shl-result c = search needs
 
 cast-result-3 : tie.Need-cast-result-3
 cast-result-3 c =
@@ -87,11 +75,9 @@ pub signed-field-spec : {M : Type 1} → statement M
 signed-field-spec =
     tie.close
     (tie.spec
-    sub-if1
-    shl-if1
+    (λ c. search needs) (λ c. search needs)
     cast-result
-    cast-result-2
-    shl-result
+    (λ c. search needs) (λ c. search needs)
     cast-result-3
     sub-result
     cast-result-4

@@ -5,12 +5,9 @@ use Rattle.word.specs.Arithmetic.{sllOf}
 use Rattle.word.proofs.sll.Statement.{statement}
 use Rattle.word.proofs.sll.Tie as tie
 
-shl-result : tie.Need-shl-result
-shl-result c = search needs
-
 returns : tie.Need-returns
 unfolding sllOf
 returns c = refl
 
 pub sll-spec : {M : Type 1} → statement M
-sll-spec = tie.close (tie.spec shl-result returns)
+sll-spec = tie.close (tie.spec (λ c. search needs) returns)

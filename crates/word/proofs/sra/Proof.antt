@@ -6,15 +6,6 @@ use Rattle.word.proofs.Integers.{back}
 use Rattle.word.proofs.sra.Statement.{statement}
 use Rattle.word.proofs.sra.Tie as tie
 
-signed-requires : tie.Need-signed-requires
-signed-requires c κs = search needs
-
-shifted-requires : tie.Need-shifted-requires
-shifted-requires c κs = search needs
-
-low-word-requires : tie.Need-low-word-requires
-low-word-requires c κs = search needs
-
 returns : tie.Need-returns
 unfolding sraOf
 returns c =
@@ -27,4 +18,4 @@ returns c =
     )
 
 pub sra-spec : {M : Type 1} → statement M
-sra-spec = tie.close (tie.spec signed-requires shifted-requires low-word-requires returns)
+sra-spec = tie.close (tie.spec (λ c κs. search needs) (λ c κs. search needs) (λ c κs. search needs) returns)

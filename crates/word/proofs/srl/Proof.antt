@@ -5,12 +5,9 @@ use Rattle.word.specs.Arithmetic.{srlOf}
 use Rattle.word.proofs.srl.Statement.{statement}
 use Rattle.word.proofs.srl.Tie as tie
 
-shr-result : tie.Need-shr-result
-shr-result c = search needs
-
 returns : tie.Need-returns
 unfolding srlOf
 returns c = refl
 
 pub srl-spec : {M : Type 1} → statement M
-srl-spec = tie.close (tie.spec shr-result returns)
+srl-spec = tie.close (tie.spec (λ c. search needs) returns)

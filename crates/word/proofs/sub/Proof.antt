@@ -6,24 +6,6 @@ use Rattle.word.proofs.Integers.{back, difference-is}
 use Rattle.word.proofs.sub.Statement.{statement}
 use Rattle.word.proofs.sub.Tie as tie
 
-wrapping-sub-u32-requires : tie.Need-wrapping-sub-u32-requires
-wrapping-sub-u32-requires c κs = search needs
-
-signed-requires : tie.Need-signed-requires
-signed-requires c κs = search needs
-
-signed-requires-2 : tie.Need-signed-requires-2
-signed-requires-2 c κs = search needs
-
-difference-wide-requires : tie.Need-difference-wide-requires
-difference-wide-requires c κs = search needs
-
-result-flags-requires : tie.Need-result-flags-requires
-result-flags-requires c κs = search needs
-
-is-outside-requires : tie.Need-is-outside-requires
-is-outside-requires c κs = search needs
-
 returns : tie.Need-returns
 unfolding subOf
 returns c =
@@ -45,10 +27,5 @@ pub sub-spec : {M : Type 1} → statement M
 sub-spec =
     tie.close
     (tie.spec
-    wrapping-sub-u32-requires
-    signed-requires
-    signed-requires-2
-    difference-wide-requires
-    result-flags-requires
-    is-outside-requires
+    (λ c κs. search needs) (λ c κs. search needs) (λ c κs. search needs) (λ c κs. search needs) (λ c κs. search needs) (λ c κs. search needs)
     returns)

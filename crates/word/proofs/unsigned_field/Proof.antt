@@ -5,11 +5,8 @@ use borrow.Author.Needs.{needs}
 use Rattle.word.proofs.unsigned_field.Statement.{statement}
 use Rattle.word.proofs.unsigned_field.Tie as tie
 
-cast-result : tie.Need-cast-result
-cast-result c = search needs
-
 returns : tie.Need-returns
 returns c = toZ-pos w32 (c .pre)
 
 pub unsigned-field-spec : {M : Type 1} → statement M
-unsigned-field-spec = tie.close (tie.spec cast-result returns)
+unsigned-field-spec = tie.close (tie.spec (λ c. search needs) returns)

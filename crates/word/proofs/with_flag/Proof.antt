@@ -11,12 +11,6 @@ use Rattle.word.proofs.with_flag.Tie as tie
 is-clear : (c : tie.Else1) → bitAt (c .before .before .args .n) (c .before .before .args .flags) ≡ false
 is-clear c = sym (c .before .has-flag .ensures) ∙ c .if1 .left
 
-has-flag-requires : tie.Need-has-flag-requires
-has-flag-requires c κs = search needs
-
-shl-result : tie.Need-shl-result
-shl-result c = search needs
-
 add-result : tie.Need-add-result
 add-result c =
     let s = c .before .before in
@@ -32,4 +26,4 @@ returns-2 c =
     (sym (with-clear _ _ (is-clear c)))
 
 pub with-flag-spec : {M : Type 1} → statement M
-with-flag-spec = tie.close (tie.spec has-flag-requires shl-result add-result returns returns-2)
+with-flag-spec = tie.close (tie.spec (λ c κs. search needs) (λ c. search needs) add-result returns returns-2)

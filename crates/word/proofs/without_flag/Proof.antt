@@ -11,12 +11,6 @@ use Rattle.word.proofs.without_flag.Tie as tie
 is-set : (c : tie.Then1) → bitAt (c .before .before .args .n) (c .before .before .args .flags) ≡ true
 is-set c = sym (c .before .has-flag .ensures) ∙ c .if1 .taken
 
-has-flag-requires : tie.Need-has-flag-requires
-has-flag-requires c κs = search needs
-
-shl-result : tie.Need-shl-result
-shl-result c = search needs
-
 sub-result : tie.Need-sub-result
 sub-result c =
     let s = c .before .before in
@@ -30,4 +24,4 @@ returns-2 : tie.Need-returns-2
 returns-2 c = sym (without-clear _ _ (sym (c .before .has-flag .ensures) ∙ c .if1 .left))
 
 pub without-flag-spec : {M : Type 1} → statement M
-without-flag-spec = tie.close (tie.spec has-flag-requires shl-result sub-result returns returns-2)
+without-flag-spec = tie.close (tie.spec (λ c κs. search needs) (λ c. search needs) sub-result returns returns-2)

@@ -7,11 +7,8 @@ use Rattle.word.proofs.word.Tie as tie
 cast-low-word : tie.Need-cast-low-word
 cast-low-word c = wide-fits (c .fits .x)
 
-low-word-requires : tie.Need-low-word-requires
-low-word-requires c κs = search needs
-
 returns : tie.Need-returns
 returns c = rw (c .low-word .ensures, wide-is (c .before .fits .x))
 
 pub word-spec : {M : Type 1} → statement M
-word-spec = tie.close (tie.spec cast-low-word low-word-requires returns)
+word-spec = tie.close (tie.spec cast-low-word (λ c κs. search needs) returns)

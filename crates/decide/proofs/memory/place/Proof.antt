@@ -5,7 +5,7 @@ use borrow.Author.Tests.{lt-ltb, le-ltb}
 use Rattle.word.specs.Choice.{if_then_else_}
 use Rattle.word.specs.Word.{wordOf, isAddress}
 use Rattle.decide.specs.View.{placeAt}
-use Rattle.decide.proofs.Signed.{handed}
+use Rattle.word.proofs.Handed.{handed}
 use Rattle.decide.proofs.Bounds.{in-block-from}
 use Rattle.decide.proofs.memory.place.Statement.{statement}
 use Rattle.decide.proofs.memory.place.Tie as tie
@@ -17,26 +17,8 @@ word-is c = handed (wordOf 32) (c .before .before .fits .address) (c .low-word .
 address-is : (c : tie.After-is-address) → c .is-address .result ≡ isAddress (c .before .before .before .before .args .address)
 address-is c = handed isAddress (c .before .before .before .before .fits .address) (c .is-address .ensures)
 
-low-word-requires : tie.Need-low-word-requires
-low-word-requires c κs = search needs
-
-control-requires : tie.Need-control-requires
-control-requires c κs = search needs
-
-is-address-requires : tie.Need-is-address-requires
-is-address-requires c κs = search needs
-
-guarded-requires : tie.Need-guarded-requires
-guarded-requires c κs = search needs
-
-in-block-requires : tie.Need-in-block-requires
-in-block-requires c κs = search needs
-
 sub-t14 : tie.Need-sub-t14
 sub-t14 c = in-block-from _ _ (sym (c .before .in-block .ensures) ∙ c .if3 .taken)
-
-cast-if4 : tie.Need-cast-if4
-cast-if4 c = search needs
 
 returns : tie.Need-returns
 unfolding placeAt if_then_else_
@@ -99,4 +81,4 @@ returns-5 c =
     )
 
 pub place-spec : {M : Type 1} → statement M
-place-spec = tie.close (tie.spec low-word-requires control-requires is-address-requires guarded-requires in-block-requires sub-t14 cast-if4 returns returns-2 returns-3 returns-4 returns-5)
+place-spec = tie.close (tie.spec (λ c κs. search needs) (λ c κs. search needs) (λ c κs. search needs) (λ c κs. search needs) (λ c κs. search needs) sub-t14 (λ c. search needs) returns returns-2 returns-3 returns-4 returns-5)

@@ -5,18 +5,6 @@ use Rattle.decide.proofs.Bytes.{overlap-past, overlap-test}
 use Rattle.decide.proofs.program.closed.Statement.{statement}
 use Rattle.decide.proofs.program.closed.Tie as tie
 
-control-requires : tie.Need-control-requires
-control-requires c κs = search needs
-
-control-requires-2 : tie.Need-control-requires-2
-control-requires-2 c κs = search needs
-
-sub-result : tie.Need-sub-result
-sub-result c = search needs
-
-add-result : tie.Need-add-result
-add-result c = search needs
-
 returns : tie.Need-returns
 returns c =
     let a = c .before .before .before .before .args in
@@ -30,4 +18,4 @@ returns-2 c =
     (overlap-past (a .user) (c .before .before .control .result) (c .before .control2 .result) (a .a) (a .n) (omega arith) (c .if1 .left))
 
 pub closed-spec : {M : Type 1} → statement M
-closed-spec = tie.close (tie.spec control-requires control-requires-2 sub-result add-result returns returns-2)
+closed-spec = tie.close (tie.spec (λ c κs. search needs) (λ c κs. search needs) (λ c. search needs) (λ c. search needs) returns returns-2)

@@ -17,24 +17,6 @@ use Rattle.decide.proofs.Bytes.{bytes-positive, aligned-fits, aligned-a
 use Rattle.decide.proofs.program.fetch.Statement.{statement}
 use Rattle.decide.proofs.program.fetch.Tie as tie
 
-psr-requires : tie.Need-psr-requires
-psr-requires c κs = search needs
-
-pc-requires : tie.Need-pc-requires
-pc-requires c κs = search needs
-
-has-flag-requires : tie.Need-has-flag-requires
-has-flag-requires c κs = search needs
-
-word-bytes-requires : tie.Need-word-bytes-requires
-word-bytes-requires c κs = search needs
-
-misaligned-requires : tie.Need-misaligned-requires
-misaligned-requires c κs = search needs
-
-has-flag-requires-2 : tie.Need-has-flag-requires-2
-has-flag-requires-2 c κs = search needs
-
 closed-requires : tie.Need-closed-requires
 closed-requires c κs =
     let tested = c .before .before in
@@ -42,9 +24,6 @@ closed-requires c κs =
     let n = tested .before .word-bytes in
     let even = aligned-at _ _ _ (tested .misaligned .ensures) (c .before .if1 .left) in
     (search needs, rw (n .ensures) (bytes-positive wide), aligned-fits wide _ _ (n .ensures) (omega arith) (rw (n .ensures) even))
-
-word-at-requires : tie.Need-word-at-requires
-word-at-requires c κs = search needs
 
 -- with the bits of PSR as they were read
 asked : (c : tie.After-misaligned) (cells : List ℕ)
@@ -93,4 +72,4 @@ returns-3 c cells =
     (c .word-at .ensures)
 
 pub fetch-spec : {M : Type 1} → statement M
-fetch-spec = tie.close (tie.spec psr-requires pc-requires has-flag-requires word-bytes-requires misaligned-requires has-flag-requires-2 closed-requires word-at-requires returns returns-2 returns-3)
+fetch-spec = tie.close (tie.spec (λ c κs. search needs) (λ c κs. search needs) (λ c κs. search needs) (λ c κs. search needs) (λ c κs. search needs) (λ c κs. search needs) closed-requires (λ c κs. search needs) returns returns-2 returns-3)

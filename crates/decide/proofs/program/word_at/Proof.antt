@@ -9,29 +9,11 @@ use Rattle.decide.proofs.Bytes.{four-bytes, two-bytes, bytes-absent}
 use Rattle.decide.proofs.program.word_at.Statement.{statement}
 use Rattle.decide.proofs.program.word_at.Tie as tie
 
-add-if2 : tie.Need-add-if2
-add-if2 c = search needs
-
-number-at-requires : tie.Need-number-at-requires
-number-at-requires c κs = search needs
-
-add-if3 : tie.Need-add-if3
-add-if3 c = search needs
-
-shared-slice-read-t17 : tie.Need-shared-slice-read-t17
-shared-slice-read-t17 c = search needs
-
 cast-t18 : tie.Need-cast-t18
 cast-t18 c = omega (arith, c .shared-slice-known2 .given (c .before .before .before .before .args .a))
 
 mul-t19 : tie.Need-mul-t19
 mul-t19 c = omega (arith, c .shared-slice-known2 .given (c .before .before .before .before .args .a))
-
-add-t20 : tie.Need-add-t20
-add-t20 c = search needs
-
-shared-slice-read-t22 : tie.Need-shared-slice-read-t22
-shared-slice-read-t22 c = search needs
 
 cast-t23 : tie.Need-cast-t23
 cast-t23 c = omega (arith, c .shared-slice-known3 .given (c .before .before .before .before .before .args .a + 1))
@@ -56,4 +38,4 @@ unfolding bytesOf widthBy
 returns-4 c = rw (c .before .if1 .left) (sym (bytes-absent _ 2 _ 0 (omega arith) (c .if3 .left)))
 
 pub word-at-spec : {M : Type 1} → statement M
-word-at-spec = tie.close (tie.spec add-if2 number-at-requires add-if3 shared-slice-read-t17 cast-t18 mul-t19 add-t20 shared-slice-read-t22 cast-t23 add-t24 returns returns-2 returns-3 returns-4)
+word-at-spec = tie.close (tie.spec (λ c. search needs) (λ c κs. search needs) (λ c. search needs) (λ c. search needs) cast-t18 mul-t19 (λ c. search needs) (λ c. search needs) cast-t23 add-t24 returns returns-2 returns-3 returns-4)

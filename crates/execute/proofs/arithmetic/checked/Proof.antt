@@ -5,8 +5,8 @@ use Prim.Native.Nat.{ℕ}
 use borrow.Author.Needs.{needs}
 use Rattle.word.specs.Choice.{if_then_else_}
 use Rattle.word.specs.declared.Sum.{Sum}
-use Rattle.decide.specs.Effect.{Raised, ResultFlags}
-use Rattle.decide.specs.Execute.{checked}
+use Rattle.apply.specs.Effect.{Raised, ResultFlags}
+use Rattle.execute.specs.Execute.{checked}
 use Rattle.execute.proofs.arithmetic.checked.Statement.{statement}
 use Rattle.execute.proofs.arithmetic.checked.Tie as tie
 
@@ -18,22 +18,10 @@ within : (d : ℕ) (s : Sum) → s .overflow ≡ false → checked d s ≡ Resul
 unfolding checked if_then_else_
 within d s e = rw e
 
-raise-requires : tie.Need-raise-requires
-raise-requires c κs = search needs
-
-result-flags-requires : tie.Need-result-flags-requires
-result-flags-requires c κs = search needs
-
-same-length : tie.Need-same-length
-same-length c = search needs
-
 returns : tie.Need-returns
 returns c cells =
     let a = c .before .before .before .before .before .before .args in
     rw (over (a .d) (a .s) (c .before .before .before .before .if1 .taken)) (c .before .before .raise .ensures cells)
-
-same-length-2 : tie.Need-same-length-2
-same-length-2 c = search needs
 
 returns-2 : tie.Need-returns-2
 returns-2 c cells =
@@ -41,4 +29,4 @@ returns-2 c cells =
     rw (within (a .d) (a .s) (c .before .before .before .before .if1 .left)) (c .before .before .result-flags .ensures cells)
 
 pub checked-spec : {M : Type 1} → statement M
-checked-spec = tie.close (tie.spec raise-requires result-flags-requires same-length returns same-length-2 returns-2)
+checked-spec = tie.close (tie.spec (λ c κs. search needs) (λ c κs. search needs) (λ c. search needs) returns (λ c. search needs) returns-2)

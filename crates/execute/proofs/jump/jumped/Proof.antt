@@ -10,9 +10,9 @@ use Rattle.word.specs.Word.{wordOf, isAddress}
 use Rattle.isa.specs.Operation.{widthBy}
 use Rattle.machine.specs.Machine.{userMode, wideWords, widthOf}
 use Rattle.decide.specs.View.{view, viewOf}
-use Rattle.decide.specs.Effect.{Effect, Raised}
-use Rattle.decide.specs.Execute.{jumped}
-use Rattle.decide.proofs.Signed.{handed}
+use Rattle.apply.specs.Effect.{Effect, Raised}
+use Rattle.execute.specs.Execute.{jumped}
+use Rattle.word.proofs.Handed.{handed}
 use Rattle.decide.proofs.Bytes.{bytes-positive, aligned-fits, aligned-at}
 use Rattle.execute.proofs.jump.jumped.Statement.{statement}
 use Rattle.execute.proofs.jump.jumped.Tie as tie
@@ -43,33 +43,6 @@ aligned c p cells taken =
       c .before .before .before .if2 .left,
     )
 
-psr-requires : tie.Need-psr-requires
-psr-requires c κs = search needs
-
-has-flag-requires : tie.Need-has-flag-requires
-has-flag-requires c κs = search needs
-
-word-bytes-requires : tie.Need-word-bytes-requires
-word-bytes-requires c κs = search needs
-
-low-word-requires : tie.Need-low-word-requires
-low-word-requires c κs = search needs
-
-is-address-requires : tie.Need-is-address-requires
-is-address-requires c κs = search needs
-
-raise-requires : tie.Need-raise-requires
-raise-requires c κs = search needs
-
-misaligned-requires : tie.Need-misaligned-requires
-misaligned-requires c κs = search needs
-
-raise-requires-2 : tie.Need-raise-requires-2
-raise-requires-2 c κs = search needs
-
-has-flag-requires-2 : tie.Need-has-flag-requires-2
-has-flag-requires-2 c κs = search needs
-
 closed-requires : tie.Need-closed-requires
 closed-requires c κs =
     let tested = c .before .before .before in
@@ -78,24 +51,9 @@ closed-requires c κs =
     let even = aligned-at _ _ _ (tested .misaligned .ensures) (c .before .before .if2 .left) in
     (search needs, rw (bytes .ensures) (bytes-positive wide), aligned-fits wide _ _ (bytes .ensures) (omega arith) (rw (bytes .ensures) even))
 
-raise-requires-3 : tie.Need-raise-requires-3
-raise-requires-3 c κs = search needs
-
-jump-link-requires : tie.Need-jump-link-requires
-jump-link-requires c κs = search needs
-
-jump-requires : tie.Need-jump-requires
-jump-requires c κs = search needs
-
-same-length : tie.Need-same-length
-same-length c = search needs
-
 returns : tie.Need-returns
 unfolding if_then_else_ jumped
 returns c p cells = rw (← (address-is (c .before .before .before .before .before)), c .before .before .before .before .if1 .taken) (c .before .before .raise .ensures cells)
-
-same-length-2 : tie.Need-same-length-2
-same-length-2 c = search needs
 
 returns-2 : tie.Need-returns-2
 unfolding wideWords widthOf if_then_else_ view jumped
@@ -111,24 +69,15 @@ returns-2 c p cells =
     )
     (c .before .before .raise2 .ensures cells)
 
-same-length-3 : tie.Need-same-length-3
-same-length-3 c = search needs
-
 returns-3 : tie.Need-returns-3
 unfolding if_then_else_
 returns-3 c p cells = rw (aligned (c .before .before .before .before .before) p cells _, c .before .before .before .before .if3 .taken) (c .before .before .raise3 .ensures cells)
-
-same-length-4 : tie.Need-same-length-4
-same-length-4 c = search needs
 
 returns-4 : tie.Need-returns-4
 unfolding if_then_else_
 returns-4 c p cells =
     rw (aligned (c .before .before .before .before .before .before) p cells _, c .before .before .before .before .before .if3 .left, c .before .before .before .before .if4 .taken)
     (c .before .before .jump-link .ensures cells)
-
-same-length-5 : tie.Need-same-length-5
-same-length-5 c = search needs
 
 returns-5 : tie.Need-returns-5
 unfolding if_then_else_
@@ -137,4 +86,4 @@ returns-5 c p cells =
     (c .before .before .jump .ensures cells)
 
 pub jumped-spec : {M : Type 1} → statement M
-jumped-spec = tie.close (tie.spec psr-requires has-flag-requires word-bytes-requires low-word-requires is-address-requires raise-requires misaligned-requires raise-requires-2 has-flag-requires-2 closed-requires raise-requires-3 jump-link-requires jump-requires same-length returns same-length-2 returns-2 same-length-3 returns-3 same-length-4 returns-4 same-length-5 returns-5)
+jumped-spec = tie.close (tie.spec (λ c κs. search needs) (λ c κs. search needs) (λ c κs. search needs) (λ c κs. search needs) (λ c κs. search needs) (λ c κs. search needs) (λ c κs. search needs) (λ c κs. search needs) (λ c κs. search needs) closed-requires (λ c κs. search needs) (λ c κs. search needs) (λ c κs. search needs) (λ c. search needs) returns (λ c. search needs) returns-2 (λ c. search needs) returns-3 (λ c. search needs) returns-4 (λ c. search needs) returns-5)

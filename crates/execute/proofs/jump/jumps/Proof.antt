@@ -10,21 +10,6 @@ use Rattle.execute.proofs.Groups.{jumps-are}
 use Rattle.execute.proofs.jump.jumps.Statement.{statement}
 use Rattle.execute.proofs.jump.jumps.Tie as tie
 
-taken-requires : tie.Need-taken-requires
-taken-requires c κs = search needs
-
-target-requires : tie.Need-target-requires
-target-requires c κs = search needs
-
-jumped-requires : tie.Need-jumped-requires
-jumped-requires c κs = search needs
-
-next-requires : tie.Need-next-requires
-next-requires c κs = search needs
-
-same-length : tie.Need-same-length
-same-length c = search needs
-
 returns : tie.Need-returns
 unfolding if_then_else_ links
 returns c p cells y =
@@ -38,9 +23,6 @@ returns c p cells y =
     )
     (c .before .before .jumped .ensures p cells)
 
-same-length-2 : tie.Need-same-length-2
-same-length-2 c = search needs
-
 returns-2 : tie.Need-returns-2
 unfolding if_then_else_
 returns-2 c p cells y =
@@ -53,4 +35,4 @@ returns-2 c p cells y =
     (c .before .before .next .ensures cells)
 
 pub jumps-spec : {M : Type 1} → statement M
-jumps-spec = tie.close (tie.spec taken-requires target-requires jumped-requires next-requires same-length returns same-length-2 returns-2)
+jumps-spec = tie.close (tie.spec (λ c κs. search needs) (λ c κs. search needs) (λ c κs. search needs) (λ c κs. search needs) (λ c. search needs) returns (λ c. search needs) returns-2)

@@ -7,12 +7,6 @@ use Rattle.execute.specs.Jumps.{taken}
 use Rattle.execute.proofs.jump.taken.Statement.{statement}
 use Rattle.execute.proofs.jump.taken.Tie as tie
 
-condition-requires : tie.Need-condition-requires
-condition-requires c κs = search needs
-
-holds-requires : tie.Need-holds-requires
-holds-requires c κs = search needs
-
 returns : tie.Need-returns
 unfolding if_then_else_ view taken
 returns c p cells = rw (le-leb 40 _ (c .before .before .if1 .taken), ← (c .before .condition .ensures)) (c .holds .ensures)
@@ -22,4 +16,4 @@ unfolding if_then_else_ taken
 returns-2 c p cells = rw (lt-leb 40 _ (c .if1 .left))
 
 pub taken-spec : {M : Type 1} → statement M
-taken-spec = tie.close (tie.spec condition-requires holds-requires returns returns-2)
+taken-spec = tie.close (tie.spec (λ c κs. search needs) (λ c κs. search needs) returns returns-2)

@@ -7,33 +7,15 @@ use Rattle.word.specs.Choice.{if_then_else_}
 use Rattle.word.proofs.Integers.{back}
 use Rattle.isa.specs.Operation.{widthBy}
 use Rattle.machine.specs.Machine.{wideWords, widthOf}
-use Rattle.decide.specs.Execute.{afterThis, targetBy}
+use Rattle.execute.specs.Execute.{afterThis, targetBy}
 use Rattle.decide.specs.View.{view}
 use Rattle.decide.proofs.Bytes.{bytes-most}
 use Rattle.execute.specs.Jumps.{targetOf}
 use Rattle.execute.proofs.jump.target.Statement.{statement}
 use Rattle.execute.proofs.jump.target.Tie as tie
 
-cast-result : tie.Need-cast-result
-cast-result c = search needs
-
-psr-requires : tie.Need-psr-requires
-psr-requires c κs = search needs
-
-has-flag-requires : tie.Need-has-flag-requires
-has-flag-requires c κs = search needs
-
-word-bytes-requires : tie.Need-word-bytes-requires
-word-bytes-requires c κs = search needs
-
-pc-requires : tie.Need-pc-requires
-pc-requires c κs = search needs
-
 add-jump-target : tie.Need-add-jump-target
 add-jump-target c = omega (arith, c .pc .ensures, c .before .word-bytes .ensures, bytes-most (widthBy (c .before .before .has-flag .result)))
-
-jump-target-requires : tie.Need-jump-target-requires
-jump-target-requires c κs = search needs
 
 returns : tie.Need-returns
 unfolding if_then_else_ targetOf
@@ -51,4 +33,4 @@ returns-2 c p cells =
     (simp (c .before .before .pc .ensures, c .before .before .before .word-bytes .ensures, c .before .before .before .before .has-flag .ensures, c .before .before .before .before .before .psr .ensures))
 
 pub target-spec : {M : Type 1} → statement M
-target-spec = tie.close (tie.spec cast-result psr-requires has-flag-requires word-bytes-requires pc-requires add-jump-target jump-target-requires returns returns-2)
+target-spec = tie.close (tie.spec (λ c. search needs) (λ c κs. search needs) (λ c κs. search needs) (λ c κs. search needs) (λ c κs. search needs) add-jump-target (λ c κs. search needs) returns returns-2)

@@ -11,7 +11,7 @@ use borrow.Author.Needs.{needs}
 use Rattle.word.proofs.Integers.{back}
 use Rattle.isa.specs.Operation.{operations, operationOf}
 use Rattle.machine.specs.Machine.{userMode}
-use Rattle.decide.specs.Execute.{loaded, stored, execute}
+use Rattle.execute.specs.Execute.{loaded, stored, execute}
 use Rattle.decide.specs.View.{View, heldAt, view, viewOf}
 use Rattle.apply.specs.Apply.{apply, stopNumber, told, effectOn}
 use Rattle.execute.proofs.Groups.{access-refused, access-missing}
@@ -41,60 +41,6 @@ named c p =
 store : {op : ℕ} → 27 ≤ op → op ≤ 28 → (op ≡ 27 → ⊥) → op ≡ 28
 store l h n = omega arith
 
-offset-by-requires : tie.Need-offset-by-requires
-offset-by-requires c κs = search needs
-
-psr-requires : tie.Need-psr-requires
-psr-requires c κs = search needs
-
-has-flag-requires : tie.Need-has-flag-requires
-has-flag-requires c κs = search needs
-
-place-requires : tie.Need-place-requires
-place-requires c κs = search needs
-
-enum-known-place : tie.Need-enum-known-place
-enum-known-place c = search needs
-
-control-at-requires : tie.Need-control-at-requires
-control-at-requires c κs = search needs
-
-result-requires : tie.Need-result-requires
-result-requires c κs = search needs
-
-source-requires : tie.Need-source-requires
-source-requires c κs = search needs
-
-store-control-requires : tie.Need-store-control-requires
-store-control-requires c κs = search needs
-
-enum-known-place-2 : tie.Need-enum-known-place-2
-enum-known-place-2 c = search needs
-
-cell-requires : tie.Need-cell-requires
-cell-requires c κs = search needs
-
-result-requires-2 : tie.Need-result-requires-2
-result-requires-2 c κs = search needs
-
-source-requires-2 : tie.Need-source-requires-2
-source-requires-2 c κs = search needs
-
-store-cell-requires : tie.Need-store-cell-requires
-store-cell-requires c κs = search needs
-
-enum-known-place-3 : tie.Need-enum-known-place-3
-enum-known-place-3 c = search needs
-
-raise-requires : tie.Need-raise-requires
-raise-requires c κs = search needs
-
-enum-told : tie.Need-enum-told
-enum-told c = search needs
-
-same-length : tie.Need-same-length
-same-length c = search needs
-
 returns : tie.Need-returns
 unfolding operations operationOf heldAt view loaded execute
 returns c p y =
@@ -104,9 +50,6 @@ returns c p y =
     let e = t .before .before in
     rw (t .if1 .taken, named (e .before .before) p ∙ e .place2 .given .1, ← (d .control-at .ensures))
     (b .result .ensures _)
-
-same-length-2 : tie.Need-same-length-2
-same-length-2 c = search needs
 
 returns-2 : tie.Need-returns-2
 unfolding operations operationOf stored execute
@@ -123,12 +66,6 @@ returns-2 c p y =
     )
     (b .store-control .ensures _)
 
-same-length-3 : tie.Need-same-length-3
-same-length-3 c = search needs
-
-same-length-4 : tie.Need-same-length-4
-same-length-4 c = search needs
-
 returns-3 : tie.Need-returns-3
 unfolding operations operationOf heldAt view loaded execute
 returns-3 c p y =
@@ -137,12 +74,6 @@ returns-3 c p y =
     let e = t .before .before in
     rw (t .if2 .taken, named (e .before .before) p ∙ e .place3 .given .1, ← (b .before .cell .ensures))
     (b .result2 .ensures _)
-
-same-length-5 : tie.Need-same-length-5
-same-length-5 c = search needs
-
-same-length-6 : tie.Need-same-length-6
-same-length-6 c = search needs
 
 returns-4 : tie.Need-returns-4
 unfolding operations operationOf stored execute
@@ -159,9 +90,6 @@ returns-4 c p y =
     )
     (b .store-cell .ensures)
 
-same-length-7 : tie.Need-same-length-7
-same-length-7 c = search needs
-
 returns-5 : tie.Need-returns-5
 returns-5 c p y =
     let b = c .before .before in
@@ -171,9 +99,6 @@ returns-5 c p y =
     let here = named (e .before .before) p ∙ e .place4 .given .1 in
     rw (access-refused (viewOf p (now (a .w)) (now (a .cells))) (a .i) (a .x) y (a .i .opcode) _ here (s .pre .2) (s .pre .3))
     (b .raise .ensures _)
-
-same-length-8 : tie.Need-same-length-8
-same-length-8 c = search needs
 
 returns-6 : tie.Need-returns-6
 unfolding apply stopNumber told effectOn
@@ -187,34 +112,15 @@ pub access-spec : {M : Type 1} → statement M
 access-spec =
     tie.close
     (tie.spec
-    offset-by-requires
-    psr-requires
-    has-flag-requires
-    place-requires
-    enum-known-place
-    control-at-requires
-    result-requires
-    source-requires
-    store-control-requires
-    enum-known-place-2
-    cell-requires
-    result-requires-2
-    source-requires-2
-    store-cell-requires
-    enum-known-place-3
-    raise-requires
-    enum-told
-    same-length
+    (λ c κs. search needs) (λ c κs. search needs) (λ c κs. search needs) (λ c κs. search needs) (λ c. search needs) (λ c κs. search needs) (λ c κs. search needs) (λ c κs. search needs) (λ c κs. search needs) (λ c. search needs) (λ c κs. search needs) (λ c κs. search needs) (λ c κs. search needs) (λ c κs. search needs) (λ c. search needs) (λ c κs. search needs) (λ c. search needs) (λ c. search needs)
     returns
-    same-length-2
+    (λ c. search needs)
     returns-2
-    same-length-3
-    same-length-4
+    (λ c. search needs) (λ c. search needs)
     returns-3
-    same-length-5
-    same-length-6
+    (λ c. search needs) (λ c. search needs)
     returns-4
-    same-length-7
+    (λ c. search needs)
     returns-5
-    same-length-8
+    (λ c. search needs)
     returns-6)

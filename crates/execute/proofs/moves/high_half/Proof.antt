@@ -4,22 +4,10 @@ use borrow.Author.Needs.{needs}
 use borrow.Author.Tests.{eq-eqb, ne-eqb}
 use Rattle.word.specs.Choice.{if_then_else_}
 use Rattle.decide.specs.View.{view}
-use Rattle.decide.specs.Execute.{execute}
+use Rattle.execute.specs.Execute.{execute}
 use Rattle.apply.specs.Apply.{apply, stopNumber, told, effectOn}
 use Rattle.execute.proofs.moves.high_half.Statement.{statement}
 use Rattle.execute.proofs.moves.high_half.Tie as tie
-
-held-requires : tie.Need-held-requires
-held-requires c κs = search needs
-
-high-requires : tie.Need-high-requires
-high-requires c κs = search needs
-
-result-requires : tie.Need-result-requires
-result-requires c κs = search needs
-
-same-length : tie.Need-same-length
-same-length c = search needs
 
 returns : tie.Need-returns
 unfolding if_then_else_ view execute
@@ -30,12 +18,9 @@ returns c p cells x y =
     )
     (c .before .before .result .ensures cells)
 
-same-length-2 : tie.Need-same-length-2
-same-length-2 c = search needs
-
 returns-2 : tie.Need-returns-2
 unfolding if_then_else_ view execute apply stopNumber told effectOn
 returns-2 c p cells x y = rw (ne-eqb _ 1 (λ e. c .if1 .left (c .before .held .ensures ∙ e)))
 
 pub high-half-spec : {M : Type 1} → statement M
-high-half-spec = tie.close (tie.spec held-requires high-requires result-requires same-length returns same-length-2 returns-2)
+high-half-spec = tie.close (tie.spec (λ c κs. search needs) (λ c κs. search needs) (λ c κs. search needs) (λ c. search needs) returns (λ c. search needs) returns-2)

@@ -2,28 +2,16 @@
 use mathlib.Core.Path.{sym, _∙_}
 use borrow.Author.Needs.{needs}
 use Rattle.word.specs.Choice.{if_then_else_}
-use Rattle.decide.specs.Execute.{execute}
+use Rattle.execute.specs.Execute.{execute}
 use Rattle.decide.specs.View.{view}
-use Rattle.decide.proofs.Values.{nested-none, nested-some}
+use Rattle.execute.proofs.Values.{nested-none, nested-some}
 use Rattle.apply.specs.Apply.{apply, stopNumber, told, effectOn}
 use Rattle.execute.proofs.system.interrupt_return.Statement.{statement}
 use Rattle.execute.proofs.system.interrupt_return.Tie as tie
 
-depth-requires : tie.Need-depth-requires
-depth-requires c κs = search needs
-
-interrupt-return-requires : tie.Need-interrupt-return-requires
-interrupt-return-requires c κs = search needs
-
-same-length : tie.Need-same-length
-same-length c = search needs
-
 returns : tie.Need-returns
 unfolding if_then_else_ view execute apply stopNumber told effectOn
 returns c q cells x y = rw (nested-none _ (sym (c .before .depth .ensures) ∙ c .if1 .taken))
-
-same-length-2 : tie.Need-same-length-2
-same-length-2 c = search needs
 
 returns-2 : tie.Need-returns-2
 unfolding if_then_else_ view execute
@@ -34,4 +22,4 @@ returns-2 c q cells x y =
 
 pub interrupt-return-spec : {M : Type 1} → statement M
 interrupt-return-spec =
-    tie.close (tie.spec depth-requires interrupt-return-requires same-length returns same-length-2 returns-2)
+    tie.close (tie.spec (λ c κs. search needs) (λ c κs. search needs) (λ c. search needs) returns (λ c. search needs) returns-2)

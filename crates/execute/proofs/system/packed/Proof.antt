@@ -6,8 +6,8 @@ use lib.ListN.{drop, length-drop, drop-of-length-le}
 use denote.Ref.{now}
 use Rattle.machine.specs.Machine.{Machine}
 use Rattle.machine.specs.Words.{machineOf}
-use Rattle.decide.specs.Execute.{packed}
-use Rattle.decide.proofs.Values.{conditions-length, packed-below, packed-from}
+use Rattle.execute.specs.Execute.{packed}
+use Rattle.execute.proofs.Values.{conditions-length, packed-below, packed-from}
 use Rattle.execute.proofs.system.packed.Statement.{statement}
 use Rattle.execute.proofs.system.packed.Tie as tie
 

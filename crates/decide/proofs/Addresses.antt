@@ -13,10 +13,14 @@ use Rattle.word.proofs.Tests.{and-parts}
 use Rattle.word.proofs.Bounds.{word-below}
 use Rattle.machine.specs.Machine.{State, psr, userMode}
 use Rattle.machine.specs.Control.{controlAt, within, CCB-BASE, DMEM-BOUND-LO, DMEM-BOUND-HI}
-use Rattle.decide.specs.View.{inBlock, placeAt, view}
+use Rattle.decide.specs.View.{View, inBlock, placeAt, view}
 use Rattle.decide.specs.declared.Place.{Place}
 use Rattle.decide.specs.declared.Place.the-variants.{Block, Cell, Refused, Missing}
-use Rattle.step.proofs.Safe.{Reached, if-holds}
+use Rattle.word.proofs.Tests.{if-holds}
+
+-- some data address names a place
+abbrev pub Reached : View → Place → Type 0
+Reached v p = (z : ℤ) × (v .place z ≡ p)
 
 open-in : (user b : Bool) → user && b ≡ false → user ≡ true → b ≡ false
 open-in true b e u = e

@@ -16,17 +16,15 @@ use Rattle.isa.specs.Decode.{decode}
 use Rattle.isa.specs.declared.Instruction.{Instruction}
 use Rattle.machine.specs.Machine.{userMode, widthOf}
 use Rattle.decide.specs.View.{View}
-use Rattle.decide.specs.Execute.{checked, wrapped, product, loaded, stored, targetBy, jumped, branch, execute}
-use Rattle.decide.specs.Decide.{perform, ifAvailable, instruction, fetchedThen, decide}
+use Rattle.decide.proofs.Addresses.{Reached}
+use Rattle.word.proofs.Tests.{if-holds}
+use Rattle.execute.specs.Execute.{checked, wrapped, product, loaded, stored, targetBy, jumped, branch, execute}
+use Rattle.execute.specs.Decide.{perform, ifAvailable, instruction, fetchedThen, decide}
 use Rattle.decide.specs.declared.Fetched.{Fetched}
 use Rattle.decide.specs.declared.Fetched.the-variants.{Word, Fault, Absent}
 use Rattle.decide.specs.declared.Place.{Place}
 use Rattle.decide.specs.declared.Place.the-variants.{Block, Cell, Refused, Missing}
-use Rattle.decide.specs.Effect.{Effect, Stopped, Raised, Next, Result, ResultFlags, ResultProduct, Compare, Conditions, StoreControl, StoreCell, Jump, JumpLink, EnableInterrupts, SwitchWidth, SystemCall, InterruptReturn, UserReturn, SelectSets}
-
--- some data address names a place
-abbrev pub Reached : View → Place → Type 0
-Reached v p = (z : ℤ) × (v .place z ≡ p)
+use Rattle.apply.specs.Effect.{Effect, Stopped, Raised, Next, Result, ResultFlags, ResultProduct, Compare, Conditions, StoreControl, StoreCell, Jump, JumpLink, EnableInterrupts, SwitchWidth, SystemCall, InterruptReturn, UserReturn, SelectSets}
 
 -- what a view allows
 abbrev pub Safe : View → Effect → Type 0
@@ -50,12 +48,6 @@ Safe v UserReturn = userMode (v .status) ≡ false
 Safe v (SelectSets n) = userMode (v .status) ≡ false
 
 -- ---- the parts that operations share
-
--- what holds of both branches where they are taken holds of a choice
-pub if-holds : {A : Type 0} (P : A → Type 0) (b : Bool) {x y : A} → (b ≡ true → P x) → (b ≡ false → P y) → P (if_then_else_ b x y)
-unfolding if_then_else_
-if-holds P true f g = f refl
-if-holds P false f g = g refl
 
 module _ (v : View) where
   if-safe : (b : Bool) (x y : Effect) → (b ≡ true → Safe v x) → (b ≡ false → Safe v y) → Safe v (if_then_else_ b x y)

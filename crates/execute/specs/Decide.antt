@@ -11,19 +11,15 @@ use Rattle.isa.specs.Decode.{decode}
 use Rattle.isa.specs.declared.Instruction.{Instruction}
 use Rattle.machine.specs.Machine.{userMode, widthOf}
 use Rattle.machine.specs.declared.Position.{Position}
-use Rattle.decide.specs.View.{View}
-use Rattle.decide.specs.Execute.{execute}
+use Rattle.decide.specs.View.{View, conditionFalse}
+use Rattle.execute.specs.Execute.{execute}
 use Rattle.decide.specs.declared.Fetched.{Fetched}
 use Rattle.decide.specs.declared.Fetched.the-variants.{Word, Fault, Absent}
-use Rattle.decide.specs.Effect.{Effect, Stopped, Raised, Next}
+use Rattle.apply.specs.Effect.{Effect, Stopped, Raised, Next}
 
 -- its own effect, on its two sources
 unfoldable pub perform : View → Instruction → Operation → Effect
 perform v i op = execute op v i (v .source (i .sreg1)) (v .source (i .sreg2))
-
--- a conditional instruction whose condition is false of its condition register
-unfoldable pub conditionFalse : View → Instruction → Bool
-conditionFalse v i = i .conditional && not (holds (conditionOf (i .condition)) (getD (v .conditions) (i .creg) 0))
 
 -- the code of 01h or 02h, if there is one; stop 13 for a control transfer in a slot, condition true or not; "condition false: nothing
 -- but PC moves"; its own effect
