@@ -3,6 +3,7 @@ ghost use mathlib.Core.Path.{_≡_};
 ghost use Rattle.emulator.specs.Run.{runCall};
 ghost use Rattle.emulator.specs.Reset.{resetOutcome, resetCall};
 ghost use Rattle.coffee.specs.Numbers.{numbersOf, shown, inNumbers};
+ghost use Rattle.machine.specs.Machine.{memoryOf};
 use emulator::Answer;
 
 // What a run call answers, in numbers.
@@ -43,7 +44,7 @@ pub extern "C" fn coffee_run(
     limit: u32,
     buffer: &mut [u8],
 ) -> CoffeeAnswer
-    ensures { λ r. ⌜ shown r (now (buffer .exit)) (now (cells .exit)) ≡ inNumbers (runCall (now (program .entry)) (now (image .entry)) (now (cells .entry)) (record { requests = now (requests .entry); limit = limit; buffer = now (buffer .entry) })) ⌝ }
+    ensures { λ r. ⌜ shown r (now (buffer .exit)) (memoryOf (now (cells .exit))) ≡ inNumbers (runCall (now (program .entry)) (now (image .entry)) (memoryOf (now (cells .entry))) (record { requests = now (requests .entry); limit = limit; buffer = now (buffer .entry) })) ⌝ }
 {
     numbers(emulator::run(program, cells, image, requests, limit, buffer))
 }

@@ -12,7 +12,7 @@ use Rattle.machine.specs.Machine.{Machine, State}
 use Rattle.image.specs.Image.{Read, Refused, Accepted, askMachine, readImage, writeImage}
 use Rattle.image.proofs.Image.{accepted-formed, writeImage-longest, writeImage-readImage}
 use Rattle.word.proofs.Tests.{if-holds}
-use Rattle.apply.specs.Apply.{Transition}
+use Rattle.effect.specs.Apply.{Transition}
 use Rattle.emulator.specs.Run.{Call, run, RunResult, resultOf, resultFrom, Asked, No, Start, askCall, ask, stateOf, outcome, calledBy, called, runCall}
 use Rattle.emulator.specs.Closure.{Unchanged, Refusals, Written, Ended, limitReached, stopped, RanAs, Completed, NoStep, LimitZero}
 use Rattle.emulator.specs.declared.Answer.the-variants.{Refusal, Ran}

@@ -15,7 +15,7 @@ use Rattle.image.specs.Image.{Read, Refused, Accepted, readImage}
 use Rattle.image.proofs.Tests.{below-true, true-below}
 use Rattle.image.proofs.Formed.{WellFormed}
 use Rattle.image.proofs.Image.{readImage-writeImage, accepted-formed}
-use Rattle.apply.specs.Apply.{Transition}
+use Rattle.effect.specs.Apply.{Transition}
 use Rattle.step.proofs.Formed.{step-formed}
 use Rattle.emulator.specs.Run.{Call, run, RunResult, resultFrom, Asked, No, Start, askCall, ask, stateOf, calledBy, called, transitions}
 use Rattle.emulator.specs.Closure.{final, Steps, Closure, Continuity, AllYes, Questions}

@@ -18,8 +18,8 @@ use Rattle.machine.specs.Stack.{showStack}
 use Rattle.machine.specs.declared.Entry.{Entry}
 use Rattle.machine.proofs.Lists.{at-set-other}
 use Rattle.image.specs.Image.{writeImage}
-use Rattle.apply.specs.Apply.{Transition}
-use Rattle.apply.specs.Kind.{Kind, Ordinary, Exception}
+use Rattle.effect.specs.Apply.{Transition}
+use Rattle.effect.specs.Kind.{Kind, Ordinary, Exception}
 use Rattle.emulator.specs.Run.{Call}
 use Rattle.emulator.specs.Isolation.{transition, isPreemption, segment, Session, startOf, transitionsOf, UserStart, Integrity, SameStart, SameTransition, Confidentiality, Isolation}
 use Rattle.emulator.specs.Computed.{runs}

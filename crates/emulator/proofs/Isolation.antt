@@ -13,7 +13,7 @@ use Rattle.word.proofs.Tests.{or-parts}
 use Rattle.machine.specs.Machine.{State}
 use Rattle.machine.specs.Control.{controlAt, IMEM-BOUND-LO, IMEM-BOUND-HI}
 use Rattle.image.proofs.Image.{accepted-formed}
-use Rattle.apply.specs.Apply.{Transition}
+use Rattle.effect.specs.Apply.{Transition}
 use Rattle.step.specs.Step.{step}
 use Rattle.emulator.specs.Closure.{Steps, Continuity}
 use Rattle.emulator.specs.Isolation.{transition, isExit, isPreemption, segment, InSegment, Session, startOf, transitionsOf, UserStart, Kept, Integrity, SameStart, SameTransition, bothGoOn, bothExit, Confidentiality, Isolation}

@@ -8,7 +8,7 @@ use lib.ListN.{getD}
 use Rattle.word.specs.Choice.{if_then_else_}
 use Rattle.word.proofs.Tests.{if-true}
 use Rattle.machine.specs.Machine.{State}
-use Rattle.apply.specs.Apply.{Transition, stopNumber}
+use Rattle.effect.specs.Apply.{Transition, stopNumber}
 use Rattle.step.specs.Step.{isStop, step}
 use Rattle.emulator.specs.Run.{run, RunResult, resultOf, resultFrom}
 

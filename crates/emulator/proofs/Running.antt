@@ -7,12 +7,12 @@ use native.Mathlib.Omega.{arith}
 use lib.ListN.{length, getD}
 use Rattle.codec.specs.Number.{over}
 use Rattle.machine.specs.Machine.{Machine}
-use Rattle.machine.specs.Words.{machineOf}
+use Rattle.machine.specs.Words.{machineOf, stateOf}
 use Rattle.image.specs.Questions.{wellFormed}
 use Rattle.image.specs.Image.{writeImage}
 use Rattle.image.proofs.Formed.{true-formed, formed-true, stacked-depth}
 use Rattle.image.proofs.Image.{accepted-formed}
-use Rattle.apply.specs.Apply.{Transition, stateOf, stopNumber, Told, told, toldBy}
+use Rattle.effect.specs.Apply.{Transition, stopNumber, Report, reported, reportBy}
 use Rattle.step.specs.Step.{step}
 use Rattle.step.proofs.Formed.{step-formed}
 use Rattle.step.proofs.Stops.{numbered-stop, numbered-step, stop-number}
@@ -27,41 +27,41 @@ use Rattle.emulator.proofs.Answers.{call-refused, call-started}
 -- ---- one step of the loop
 
 -- the words after a transition say a well-formed machine
-pub step-kept : (p : List ℕ) (q n : ℕ) (w d w₁ d₁ : List ℕ) → toldBy n w₁ d₁ ≡ told (step p (stateOf w d) q)
+pub step-kept : (p : List ℕ) (q n : ℕ) (w d w₁ d₁ : List ℕ) → reportBy n w₁ d₁ ≡ reported (step p (stateOf w d) q)
     → wellFormed (machineOf w) ≡ true → wellFormed (machineOf w₁) ≡ true
-unfolding told
+unfolding reported
 step-kept p q n w d w₁ d₁ e f =
-    let same : machineOf w₁ ≡ step p (stateOf w d) q .after .machine = ap (λ (t : Told). t .after .machine) e in
+    let same : machineOf w₁ ≡ step p (stateOf w d) q .after .machine = ap (λ (t : Report). t .after .machine) e in
     formed-true (rw same (step-formed p (stateOf w d) q (true-formed (machineOf w) f)))
 
 -- n and the words and cells are what a transition with requests q tells
 module _ (p requests : List ℕ) (limit done q n : ℕ) (w d w₁ d₁ : List ℕ) (r : q ≡ getD requests done 0)
-    (e : toldBy n w₁ d₁ ≡ told (step p (stateOf w d) q)) where
+    (e : reportBy n w₁ d₁ ≡ reported (step p (stateOf w d) q)) where
   abbrev next : Transition
   next = step p (stateOf w d) (getD requests done 0)
 
-  same : toldBy n w₁ d₁ ≡ told next
-  same = e ∙ ap (λ (x : ℕ). told (step p (stateOf w d) x)) r
+  same : reportBy n w₁ d₁ ≡ reported next
+  same = e ∙ ap (λ (x : ℕ). reported (step p (stateOf w d) x)) r
 
   number : n ≡ stopNumber (next .kind)
-  unfolding told
-  number = ap (λ (t : Told). t .stop) same
+  unfolding reported
+  number = ap (λ (t : Report). t .stop) same
 
   -- a step: what is left of the limit is one less
   pub step-more : done < limit → n ≡ 0
       → resultFrom p requests (limit - (done + 1)) (done + 1) (stateOf w₁ d₁) ≡ resultFrom p requests (limit - done) done (stateOf w d)
-  unfolding told
+  unfolding reported
   step-more h z =
       let o : done + 1 ≡ suc done = omega arith in
-      rw o (ap (λ (t : Told). resultFrom p requests (limit - suc done) (suc done) (t .after)) same)
+      rw o (ap (λ (t : Report). resultFrom p requests (limit - suc done) (suc done) (t .after)) same)
       ∙ sym (at-more p requests limit done (stateOf w d) h (numbered-step (next .kind) (stop-number p (stateOf w d) (getD requests done 0)) (sym number ∙ z)))
 
   -- a stop: it is not counted
   pub step-stop : done < limit → (n ≡ 0 → ⊥)
       → resultBy (record { steps = done; ending = n }) w₁ d₁ ≡ resultFrom p requests (limit - done) done (stateOf w d)
-  unfolding told
+  unfolding reported
   step-stop h z =
-      ap (λ (t : Told). record { steps = done; ending = t .stop; after = t .after }) same
+      ap (λ (t : Report). record { steps = done; ending = t .stop; after = t .after }) same
       ∙ sym (at-stop p requests limit done (stateOf w d) h (numbered-stop (next .kind) (λ y. z (number ∙ y))))
 
 -- ---- the call

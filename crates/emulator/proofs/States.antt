@@ -9,7 +9,7 @@ use Rattle.word.specs.Arithmetic.{orOf}
 use Rattle.machine.specs.Machine.{State, psr, userMode, withControl}
 use Rattle.machine.specs.Control.{controlAt, protectedCell, CCB-BASE, INT-PEND, DMEM-BOUND-LO, DMEM-BOUND-HI, IMEM-BOUND-LO, IMEM-BOUND-HI}
 use Rattle.machine.proofs.Lists.{at-set-other, same-getD}
-use Rattle.decide.specs.View.{nestedBy}
+use Rattle.view.specs.View.{nestedBy}
 use Rattle.step.specs.Interrupt.{withPending, withRequests}
 use Rattle.emulator.specs.Isolation.{Kept, SameShown}
 use Rattle.emulator.proofs.User.{User, Alike, Guarded, user-bit}

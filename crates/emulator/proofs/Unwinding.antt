@@ -11,14 +11,14 @@ use Rattle.word.proofs.Tests.{if-false}
 use Rattle.machine.specs.Machine.{Machine, State, LINK, userMode}
 use Rattle.machine.specs.Control.{controlAt, within, protectedCell, DMEM-BOUND-LO, DMEM-BOUND-HI, IMEM-BOUND-LO, IMEM-BOUND-HI}
 use Rattle.machine.proofs.Lists.{at-set-other, at-set-same}
-use Rattle.decide.specs.View.{View, view}
+use Rattle.view.specs.View.{View, view}
 use Rattle.execute.specs.Decide.{decide}
-use Rattle.apply.specs.Effect.{Effect, Stopped, Raised, Next, Result, ResultFlags, ResultProduct, Compare, Conditions, StoreControl, StoreCell, Jump, JumpLink, EnableInterrupts, SwitchWidth, SystemCall, InterruptReturn, UserReturn, SelectSets}
+use Rattle.effect.specs.Effect.{Effect, Stopped, Raised, Next, Result, ResultFlags, ResultProduct, Compare, Conditions, StoreControl, StoreCell, Jump, JumpLink, EnableInterrupts, SwitchWidth, SystemCall, InterruptReturn, UserReturn, SelectSets}
 use Rattle.execute.proofs.Safe.{Safe, decide-safe}
-use Rattle.decide.proofs.Addresses.{reached-cell, reached-block}
-use Rattle.apply.specs.Apply.{wordsOn, Transition, machineOnly, storeCell, apply, unpacked}
-use Rattle.apply.specs.Kind.{Kind}
-use Rattle.apply.specs.Kind as kind
+use Rattle.view.proofs.Addresses.{reached-cell, reached-block}
+use Rattle.effect.specs.Apply.{wordsOn, Transition, machineOnly, storeCell, apply, unpacked}
+use Rattle.effect.specs.Kind.{Kind}
+use Rattle.effect.specs.Kind as kind
 use Rattle.step.specs.Interrupt.{withRequests, acceptedSource}
 use Rattle.step.specs.Step.{isStop, interruptOr, step}
 use Rattle.emulator.specs.Isolation.{Kept, isExit, isPreemption}

@@ -11,7 +11,7 @@ use Rattle.machine.specs.Machine.{Machine, PSR, psr, userMode, readsSet2, write
 use Rattle.machine.specs.declared.Position.{Position}
 use Rattle.word.proofs.Tests.{if-false}
 use Rattle.machine.proofs.Lists.{at-set-other}
-use Rattle.apply.specs.Apply.{writeRegister, writeFlags, wordsOn, nextPc, advance, advanceHolding, jumpTo, enableInterrupts, switchWidth}
+use Rattle.effect.specs.Apply.{writeRegister, writeFlags, wordsOn, nextPc, advance, advanceHolding, jumpTo, enableInterrupts, switchWidth}
 
 -- ---- the status in user mode: UM 1, both set bits 0
 

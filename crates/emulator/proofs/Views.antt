@@ -10,14 +10,14 @@ use lib.IntN.{ℤ}
 use borrow.Author.Tests.{le-leb, leb-true}
 use Rattle.word.specs.Word.{wordOf}
 use Rattle.word.proofs.Tests.{and-parts, and-both, or-parts, false-unless, if-false, if-else}
-use Rattle.isa.specs.Decode.{bytesOf}
+use Rattle.isa.specs.Decode.{wordBytes}
 use Rattle.machine.specs.Machine.{Machine, State, psr, userMode, widthOf, setBy}
 use Rattle.machine.specs.Control.{controlAt, within, CCB-BASE, DMEM-BOUND-LO, DMEM-BOUND-HI, IMEM-BOUND-LO, IMEM-BOUND-HI}
 use Rattle.machine.proofs.Lists.{same-getD}
-use Rattle.decide.specs.View.{anyWithin, byteThen, bytesAt, fetchAt, inBlock, placeAt, heldAt, view}
-use Rattle.decide.specs.declared.Place.{Place}
-use Rattle.decide.specs.declared.Place.the-variants.{Block, Cell, Refused, Missing}
-use Rattle.decide.proofs.Addresses.{place-cell, place-block}
+use Rattle.view.specs.View.{anyWithin, byteThen, bytesAt, fetchAt, inBlock, placeAt, heldAt, view}
+use Rattle.view.specs.declared.Place.{Place}
+use Rattle.view.specs.declared.Place.the-variants.{Block, Cell, Denied, Missing}
+use Rattle.view.proofs.Addresses.{place-cell, place-block}
 use Rattle.emulator.proofs.User.{read-bit, write-bit}
 use Rattle.emulator.proofs.States.{Mode, Low, mode-user}
 
@@ -76,7 +76,7 @@ held-same s t i l count z (Block n) e =
 held-same s t i l count z (Cell a) e =
     let c = place-cell true _ _ _ count z a e in
     same-getD (s .cells) (t .cells) a 0 (l .shown .cells a (c .unprotected refl))
-held-same s t i l count z (Refused c) e = refl
+held-same s t i l count z (Denied c) e = refl
 held-same s t i l count z Missing e = refl
 
 -- ---- registers
@@ -96,7 +96,7 @@ view-same p q s t i j l h =
     let um : userMode (psr m) ≡ true = mode-user i in
     let un : userMode (psr n) ≡ true = mode-user j in
     let fetched : view p s .fetched ≡ view q t .fetched =
-    cc (fetch-same _ _ p q h (bytesOf (widthOf (psr m))) (m .position .pc), um, un, l .shown .status, l .imemLow, l .imemHigh, l .shown .position) in
+    cc (fetch-same _ _ p q h (wordBytes (widthOf (psr m))) (m .position .pc), um, un, l .shown .status, l .imemLow, l .imemHigh, l .shown .position) in
     let source : (x : ℕ) → view p s .source x ≡ view q t .source x = λ x.
     ap (λ r. getD r x 0) (set1-used _ m (read-bit (psr m) (i .user .status)) ∙ l .shown .set1 ∙ sym (set1-used _ n (read-bit (psr n) (j .user .status)))) in
     let target : (x : ℕ) → view p s .target x ≡ view q t .target x = λ x.

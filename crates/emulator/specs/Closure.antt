@@ -6,7 +6,7 @@ use Prim.Native.Nat.{ℕ, suc, _≤_, _<_}
 use lib.ListN.{length, getD, getElem?}
 use Rattle.machine.specs.Machine.{Machine, State}
 use Rattle.image.specs.Image.{Accepted, readImage}
-use Rattle.apply.specs.Apply.{Transition}
+use Rattle.effect.specs.Apply.{Transition}
 use Rattle.step.specs.Step.{step}
 use Rattle.emulator.specs.Run.{Call, No, Start, ask, stateOf, Called, called, transitions}
 use Rattle.emulator.specs.declared.Answer.the-variants.{Refusal, Ran}

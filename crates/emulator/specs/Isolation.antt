@@ -10,10 +10,10 @@ use Rattle.word.specs.Choice.{if_then_else_}
 use Rattle.machine.specs.Machine.{Machine, State, PSR, psr, userMode}
 use Rattle.machine.specs.Control.{controlAt, protectedCell, protectedByte, CCB-BASE, INT-PEND, DMEM-BOUND-LO, DMEM-BOUND-HI, IMEM-BOUND-LO, IMEM-BOUND-HI}
 use Rattle.image.specs.Image.{Accepted, readImage}
-use Rattle.decide.specs.View.{nestedBy}
-use Rattle.apply.specs.Apply.{Transition}
+use Rattle.view.specs.View.{nestedBy}
+use Rattle.effect.specs.Apply.{Transition}
 use Rattle.emulator.specs.Run.{Call, stateOf, transitions}
-use Rattle.apply.specs.Kind.{Kind, Ordinary, Interrupt, SystemCall, InterruptReturn, Exception, Stop}
+use Rattle.effect.specs.Kind.{Kind, Ordinary, Interrupt, SystemCall, InterruptReturn, Exception, Stop}
 
 -- ---- which transitions are compared (01: a transition is a turn)
 

@@ -10,7 +10,7 @@ use Rattle.machine.specs.Machine.{Machine, State}
 use Rattle.machine.specs.Words.{machineOf}
 use Rattle.image.specs.Questions.{allBelow}
 use Rattle.image.specs.Image.{Read, Refused, Accepted, readImage, writeImage}
-use Rattle.apply.specs.Apply.{Transition, stopNumber}
+use Rattle.effect.specs.Apply.{Transition, stopNumber}
 use Rattle.step.specs.Step.{isStop, step}
 use Rattle.emulator.specs.declared.Ended.{Ended}
 use Rattle.emulator.specs.declared.Answer.{Answer}

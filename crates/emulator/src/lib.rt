@@ -3,11 +3,11 @@ ghost use mathlib.Core.Path.{_≡_};
 ghost use mathlib.Core.Bool.{true};
 ghost use Prim.Native.Nat.{_≤_};
 ghost use lib.ListN.{length, getD};
-ghost use Rattle.machine.specs.Words.{WORDS, machineOf};
+ghost use Rattle.machine.specs.Words.{MachineWords, machineOf, stateOf};
 ghost use Rattle.image.specs.Questions.{wellFormed};
-ghost use Rattle.apply.specs.Apply.{stateOf};
 ghost use Rattle.emulator.specs.Run.{resultFrom, resultBy, ask, askedBy, outcome, runCall};
 ghost use Rattle.emulator.specs.Reset.{resetOutcome, resetCall};
+ghost use Rattle.machine.specs.Machine.{memoryOf};
 
 // What a run call answers.
 pub enum Answer {
@@ -48,8 +48,8 @@ fn refusal(
     buffer: &[u8],
     w: &mut [u32],
 ) -> u32
-    requires { ⌜ length (now w) ≡ WORDS ⌝ }
-    ensures { λ r. ⌜ askedBy r (machineOf (now (w .exit))) ≡ ask (now (program .entry)) (now (image .entry)) (now (cells .entry)) (record { requests = now (requests .entry); limit = limit; buffer = now (buffer .entry) }) ⌝ }
+    requires { ⌜ MachineWords (now w) ⌝ }
+    ensures { λ r. ⌜ askedBy r (machineOf (now (w .exit))) ≡ ask (now (program .entry)) (now (image .entry)) (memoryOf (now (cells .entry))) (record { requests = now (requests .entry); limit = limit; buffer = now (buffer .entry) }) ⌝ }
 {
     if MOST_MEMORY < program.len() {
         return 1;
@@ -90,8 +90,8 @@ fn run_steps(
     requests: &[u32],
     limit: u32,
 ) -> Ended
-    requires { ⌜ (length (now w) ≡ WORDS) × (length (now program) ≤ 65536) × (wellFormed (machineOf (now w)) ≡ true) ⌝ }
-    ensures { λ r. ⌜ resultBy r (now (w .exit)) (now (cells .exit)) ≡ resultFrom (now (program .entry)) (now (requests .entry)) limit 0 (stateOf (now (w .entry)) (now (cells .entry))) ⌝ }
+    requires { ⌜ MachineWords (now w) × (length (now program) ≤ 65536) × (wellFormed (machineOf (now w)) ≡ true) ⌝ }
+    ensures { λ r. ⌜ resultBy r (now (w .exit)) (memoryOf (now (cells .exit))) ≡ resultFrom (now (program .entry)) (now (requests .entry)) limit 0 (stateOf (now (w .entry)) (memoryOf (now (cells .entry)))) ⌝ }
 {
     let mut done: u32 = 0;
     while done < limit {
@@ -122,7 +122,7 @@ pub fn run(
     limit: u32,
     buffer: &mut [u8],
 ) -> Answer
-    ensures { λ r. ⌜ outcome r (now (buffer .exit)) (now (cells .exit)) ≡ runCall (now (program .entry)) (now (image .entry)) (now (cells .entry)) (record { requests = now (requests .entry); limit = limit; buffer = now (buffer .entry) }) ⌝ }
+    ensures { λ r. ⌜ outcome r (now (buffer .exit)) (memoryOf (now (cells .exit))) ≡ runCall (now (program .entry)) (now (image .entry)) (memoryOf (now (cells .entry))) (record { requests = now (requests .entry); limit = limit; buffer = now (buffer .entry) }) ⌝ }
 {
     let mut words = [0u32; WORDS];
     let no = refusal(program, cells, image, requests, limit, buffer, &mut words);

@@ -10,9 +10,9 @@ use Rattle.isa.specs.Operation.{operationOf, Width, w16, w32, unavailable, code
 use Rattle.isa.specs.Computed.{instructions}
 use Rattle.isa.specs.declared.Instruction.{Instruction}
 use Rattle.isa.proofs.Table.{values, agree, unknown-from}
-use Rattle.decide.specs.View.{View}
-use Rattle.decide.specs.declared.Place.the-variants.{Refused, Missing}
-use Rattle.apply.specs.Effect.{Stopped, Raised, Next, Jump, JumpLink}
+use Rattle.view.specs.View.{View}
+use Rattle.view.specs.declared.Place.the-variants.{Denied, Missing}
+use Rattle.effect.specs.Effect.{Stopped, Raised, Next, Jump, JumpLink}
 use Rattle.execute.specs.Execute.{loaded, stored, jumped, branch, execute}
 use Rattle.execute.specs.Jumps.{taken, targetOf, links}
 
@@ -63,7 +63,7 @@ transfers = agree (λ n. properties (operationOf n) .transfer) (λ n. true) 36 1
 
 module _ (v : View) (i : Instruction) (x y op : ℕ) where
   -- ld and st are alike where the address names nothing to load or store: an exception
-  pub access-refused : (code : ℕ) → v .place (pos x +ℤ i .immediate) ≡ Refused code → 27 ≤ op → op ≤ 28 → execute (operationOf op) v i x y ≡ Raised code
+  pub access-refused : (code : ℕ) → v .place (pos x +ℤ i .immediate) ≡ Denied code → 27 ≤ op → op ≤ 28 → execute (operationOf op) v i x y ≡ Raised code
   unfolding instructions values loaded stored execute
   access-refused code e l h = agree (λ n. execute (operationOf n) v i x y) (λ n. Raised code) 27 2 (rw e) op l (omega arith)
 

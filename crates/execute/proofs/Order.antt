@@ -10,10 +10,10 @@ use Rattle.isa.proofs.Rules.{available, refused}
 use Rattle.isa.specs.declared.Instruction.{Instruction}
 use Rattle.machine.specs.Machine.{userMode, widthOf}
 use Rattle.machine.specs.declared.Position.{Position}
-use Rattle.decide.specs.View.{View}
-use Rattle.apply.specs.Effect.{Effect, Stopped, Raised, Next}
+use Rattle.view.specs.View.{View}
+use Rattle.effect.specs.Effect.{Effect, Stopped, Raised, Next}
 use Rattle.execute.specs.Decide.{perform, ifAvailable, instruction}
-use Rattle.decide.specs.View.{conditionFalse}
+use Rattle.view.specs.View.{conditionFalse}
 
 module _ (v : View) (i : Instruction) where
   -- the code of the exception where it may not be used, or 0

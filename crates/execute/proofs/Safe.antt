@@ -15,16 +15,16 @@ use Rattle.isa.specs.Condition.{Condition}
 use Rattle.isa.specs.Decode.{decode}
 use Rattle.isa.specs.declared.Instruction.{Instruction}
 use Rattle.machine.specs.Machine.{userMode, widthOf}
-use Rattle.decide.specs.View.{View}
-use Rattle.decide.proofs.Addresses.{Reached}
+use Rattle.view.specs.View.{View}
+use Rattle.view.proofs.Addresses.{Reached}
 use Rattle.word.proofs.Tests.{if-holds}
 use Rattle.execute.specs.Execute.{checked, wrapped, product, loaded, stored, targetBy, jumped, branch, execute}
 use Rattle.execute.specs.Decide.{perform, ifAvailable, instruction, fetchedThen, decide}
-use Rattle.decide.specs.declared.Fetched.{Fetched}
-use Rattle.decide.specs.declared.Fetched.the-variants.{Word, Fault, Absent}
-use Rattle.decide.specs.declared.Place.{Place}
-use Rattle.decide.specs.declared.Place.the-variants.{Block, Cell, Refused, Missing}
-use Rattle.apply.specs.Effect.{Effect, Stopped, Raised, Next, Result, ResultFlags, ResultProduct, Compare, Conditions, StoreControl, StoreCell, Jump, JumpLink, EnableInterrupts, SwitchWidth, SystemCall, InterruptReturn, UserReturn, SelectSets}
+use Rattle.view.specs.declared.Fetched.{Fetched}
+use Rattle.view.specs.declared.Fetched.the-variants.{Word, Fault, Absent}
+use Rattle.view.specs.declared.Place.{Place}
+use Rattle.view.specs.declared.Place.the-variants.{Block, Cell, Denied, Missing}
+use Rattle.effect.specs.Effect.{Effect, Stopped, Raised, Next, Result, ResultFlags, ResultProduct, Compare, Conditions, StoreControl, StoreCell, Jump, JumpLink, EnableInterrupts, SwitchWidth, SystemCall, InterruptReturn, UserReturn, SelectSets}
 
 -- what a view allows
 abbrev pub Safe : View → Effect → Type 0
@@ -61,14 +61,14 @@ module _ (v : View) where
   unfolding loaded
   loaded-safe d x (Block n) = tt
   loaded-safe d x (Cell a) = tt
-  loaded-safe d x (Refused c) = tt
+  loaded-safe d x (Denied c) = tt
   loaded-safe d x Missing = (lit≤ tt, lit≤ tt)
 
   stored-safe : (x : ℕ) (p : Place) → Reached v p → Safe v (stored x p)
   unfolding stored
   stored-safe x (Block n) h = h
   stored-safe x (Cell a) h = h
-  stored-safe x (Refused c) h = tt
+  stored-safe x (Denied c) h = tt
   stored-safe x Missing h = (lit≤ tt, lit≤ tt)
 
   jumped-safe : (z : ℤ) (taken : ℕ → Effect) → ((t : ℕ) → Safe v (taken t)) → Safe v (jumped v z taken)

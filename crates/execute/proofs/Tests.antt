@@ -10,17 +10,17 @@ use Rattle.isa.specs.Decode.{opcodeOf, assembled, decode}
 use Rattle.isa.specs.Computed.{instructions}
 use Rattle.isa.specs.declared.Instruction.{Instruction}
 use Rattle.isa.proofs.Decoded.{InRange, in-range}
-use Rattle.machine.specs.Machine.{Machine, psr, userMode, wideWords, widthOf}
+use Rattle.machine.specs.Machine.{Machine, psr, userMode, wideWords, widthOf, Memory}
 use Rattle.machine.specs.declared.Position.{Position}
 use Rattle.machine.specs.Words.{machineOf}
-use Rattle.decide.specs.View.{View, view, viewOf}
-use Rattle.apply.specs.Effect.{Effect, Stopped, Raised, Next}
+use Rattle.view.specs.View.{View, view, viewOf}
+use Rattle.effect.specs.Effect.{Effect, Stopped, Raised, Next}
 use Rattle.execute.specs.Execute.{execute}
 use Rattle.execute.specs.Decide.{perform, fetchedThen}
-use Rattle.decide.specs.View.{conditionFalse}
-use Rattle.decide.specs.declared.Fetched.the-variants.{Word}
+use Rattle.view.specs.View.{conditionFalse}
+use Rattle.view.specs.declared.Fetched.the-variants.{Word}
 use Rattle.execute.proofs.Order.{codeFor, transferInSlot, barred, in-slot, skipped, performed}
-use Rattle.apply.specs.Apply.{Told, effectOn}
+use Rattle.effect.specs.Apply.{Report, reportOn}
 use Rattle.execute.proofs.Groups.{usable-low, no-transfer}
 
 -- i is the instruction of a word in the width that PSR says, and op its number
@@ -45,16 +45,16 @@ pub decoded-word : (w : List ℕ) (word op : ℕ) → op ≡ opcodeOf (widthOf (
 unfolding widthOf
 decoded-word w word op o = decoded w word op (wideWords (psr (machineOf w))) (decode (widthOf (psr (machineOf w))) word) refl refl o
 
-module _ (p w cells : List ℕ) {word op : ℕ} {i : Instruction} (d : Decoded w word op i) where
+module _ (p w : List ℕ) (memory : Memory) {word op : ℕ} {i : Instruction} (d : Decoded w word op i) where
   abbrev v : View
-  v = viewOf p w cells
+  v = viewOf p w memory
 
   -- the word carried out
-  abbrev done : Told
-  done = effectOn (fetchedThen v (Word word)) w cells
+  abbrev done : Report
+  done = reportOn (fetchedThen v (Word word)) w memory
 
-  by : (e : Effect) → fetchedThen v (Word word) ≡ e → done ≡ effectOn e w cells
-  by e = ap (λ (e : Effect). effectOn e w cells)
+  by : (e : Effect) → fetchedThen v (Word word) ≡ e → done ≡ reportOn e w memory
+  by e = ap (λ (e : Effect). reportOn e w memory)
 
   -- ---- its tests, by its number
 
@@ -75,25 +75,25 @@ module _ (p w cells : List ℕ) {word op : ℕ} {i : Instruction} (d : Decoded w
   same-transfer = rw (d .number)
 
   -- it may not be used
-  pub word-barred : (code : ℕ) → code ≡ code-now → (code ≡ 0 → ⊥) → done ≡ effectOn (Raised code) w cells
+  pub word-barred : (code : ℕ) → code ≡ code-now → (code ≡ 0 → ⊥) → done ≡ reportOn (Raised code) w memory
   unfolding view fetchedThen
   word-barred code c n = by (Raised code) (rw (← (d .same)) (barred v i code (c ∙ sym same-code) n))
 
   module _ (usable : code-now ≡ 0) where
     -- stop 13
-    pub word-in-slot : transfer-now ≡ true → done ≡ effectOn (Stopped 13) w cells
+    pub word-in-slot : transfer-now ≡ true → done ≡ reportOn (Stopped 13) w memory
     unfolding view fetchedThen
     word-in-slot t = by (Stopped 13) (rw (← (d .same)) (in-slot v i (same-code ∙ usable) (same-transfer ∙ t)))
 
     module _ (t : transfer-now ≡ false) where
       -- its condition is false
-      pub word-skipped : conditionFalse v i ≡ true → done ≡ effectOn Next w cells
+      pub word-skipped : conditionFalse v i ≡ true → done ≡ reportOn Next w memory
       unfolding view fetchedThen
       word-skipped c = by Next (rw (← (d .same)) (skipped v i (same-code ∙ usable) (same-transfer ∙ t) c))
 
       -- its own effect, on its two sources
       pub word-performed : conditionFalse v i ≡ false → (x y : ℕ) → x ≡ v .source (i .sreg1) → y ≡ v .source (i .sreg2)
-          → done ≡ effectOn (execute (operationOf (i .opcode)) v i x y) w cells
+          → done ≡ reportOn (execute (operationOf (i .opcode)) v i x y) w memory
       unfolding view fetchedThen perform
       word-performed c x y a b = by (execute (operationOf (i .opcode)) v i x y) (rw (← (d .same), a, b) (performed v i (same-code ∙ usable) (same-transfer ∙ t) c))
 
@@ -102,21 +102,21 @@ module _ (p w cells : List ℕ) {word op : ℕ} {i : Instruction} (d : Decoded w
     stays : transfer-now ≡ false
     stays = rw (no-transfer op (omega arith))
 
-    pub low-skipped : conditionFalse v i ≡ true → done ≡ effectOn Next w cells
+    pub low-skipped : conditionFalse v i ≡ true → done ≡ reportOn Next w memory
     low-skipped = word-skipped (usable-low _ _ op h) stays
 
     pub low-performed : conditionFalse v i ≡ false → (x y : ℕ) → x ≡ v .source (i .sreg1) → y ≡ v .source (i .sreg2)
-        → done ≡ effectOn (execute (operationOf (i .opcode)) v i x y) w cells
+        → done ≡ reportOn (execute (operationOf (i .opcode)) v i x y) w memory
     low-performed = word-performed (usable-low _ _ op h) stays
 
   -- nop: conditional or not, nothing but PC moves
-  pub word-nothing : op ≡ 0 → done ≡ effectOn Next w cells
+  pub word-nothing : op ≡ 0 → done ≡ reportOn Next w memory
   unfolding instructions execute
   word-nothing z = go (conditionFalse v i) refl
     where
       e : i .opcode ≡ 0
       e = d .number ∙ z
 
-      go : (b : Bool) → conditionFalse v i ≡ b → done ≡ effectOn Next w cells
+      go : (b : Bool) → conditionFalse v i ≡ b → done ≡ reportOn Next w memory
       go true c = low-skipped (omega arith) c
       go false c = low-performed (omega arith) c _ _ refl refl ∙ rw e

@@ -13,7 +13,7 @@ use Rattle.word.specs.Word.{modZ, wordOf}
 use Rattle.machine.specs.Machine.{Machine}
 use Rattle.machine.specs.Words.{WORDS, CONDITIONS, machineOf}
 use Rattle.machine.proofs.Flat.{section-length}
-use Rattle.decide.specs.View.{nestedBy}
+use Rattle.view.specs.View.{nestedBy}
 use Rattle.execute.specs.Execute.{packed}
 
 -- ---- low bits

@@ -1,6 +1,6 @@
 -- To unfold `decisions` is to unfold all definitions of this crate, of `decide` and of `apply`.
-use Rattle.decide.specs.Computed.{views}
-use Rattle.apply.specs.Computed.{effects}
+use Rattle.view.specs.Computed.{views}
+use Rattle.effect.specs.Computed.{effects}
 use Rattle.execute.specs.Execute.{checked, wrapped, product, loaded, stored, afterThis, targetBy, jumped, branch, packed, execute}
 use Rattle.execute.specs.Decide.{perform, ifAvailable, instruction, fetchedThen, decide}
 

@@ -11,11 +11,11 @@ use Rattle.isa.specs.Decode.{decode}
 use Rattle.isa.specs.declared.Instruction.{Instruction}
 use Rattle.machine.specs.Machine.{userMode, widthOf}
 use Rattle.machine.specs.declared.Position.{Position}
-use Rattle.decide.specs.View.{View, conditionFalse}
+use Rattle.view.specs.View.{View, conditionFalse}
 use Rattle.execute.specs.Execute.{execute}
-use Rattle.decide.specs.declared.Fetched.{Fetched}
-use Rattle.decide.specs.declared.Fetched.the-variants.{Word, Fault, Absent}
-use Rattle.apply.specs.Effect.{Effect, Stopped, Raised, Next}
+use Rattle.view.specs.declared.Fetched.{Fetched}
+use Rattle.view.specs.declared.Fetched.the-variants.{Word, Fault, Absent}
+use Rattle.effect.specs.Effect.{Effect, Stopped, Raised, Next}
 
 -- its own effect, on its two sources
 unfoldable pub perform : View → Instruction → Operation → Effect

@@ -14,14 +14,14 @@ use Rattle.word.specs.declared.Product.{Product}
 use Rattle.isa.specs.Operation.{Operation, nop, add, addu, sub, subu, and, or, xor, muls, mulu, mulus, muls16, mulu16, mulus16, sll, srl, sra, sext, addi, addiu, andi, ori, muli, slli, srli, srai, sexti, ld, st, mov, not, mulhi, cmp, cmpi, lli, lui, jmp, jal, jmpr, jalr, bc, begt, belt, beq, bgt, blt, bne, bnc, scall, retu, reti, chrs, di, ei, swm, trap, scon, rcon, unknown}
 use Rattle.isa.specs.Condition.{Condition, holds}
 use Rattle.isa.specs.Condition as condition
-use Rattle.isa.specs.Decode.{bytesOf}
+use Rattle.isa.specs.Decode.{wordBytes}
 use Rattle.isa.specs.declared.Instruction.{Instruction}
 use Rattle.machine.specs.Machine.{widthOf}
 use Rattle.machine.specs.declared.Position.{Position}
-use Rattle.decide.specs.View.{View}
-use Rattle.decide.specs.declared.Place.{Place}
-use Rattle.decide.specs.declared.Place.the-variants.{Block, Cell, Refused, Missing}
-use Rattle.apply.specs.Effect.{Effect, Stopped, Raised, Next, Result, ResultFlags, ResultProduct, Compare, Conditions, StoreControl, StoreCell, Jump, JumpLink, EnableInterrupts, SwitchWidth, SystemCall, InterruptReturn, UserReturn, SelectSets}
+use Rattle.view.specs.View.{View}
+use Rattle.view.specs.declared.Place.{Place}
+use Rattle.view.specs.declared.Place.the-variants.{Block, Cell, Denied, Missing}
+use Rattle.effect.specs.Effect.{Effect, Stopped, Raised, Next, Result, ResultFlags, ResultProduct, Compare, Conditions, StoreControl, StoreCell, Jump, JumpLink, EnableInterrupts, SwitchWidth, SystemCall, InterruptReturn, UserReturn, SelectSets}
 
 -- ---- sums and products
 
@@ -43,21 +43,21 @@ product d p = ResultProduct d (p .high) (p .low)
 unfoldable pub loaded : (dreg value : ℕ) → Place → Effect
 loaded d x (Block n) = Result d x
 loaded d x (Cell a) = Result d x
-loaded d x (Refused c) = Raised c
+loaded d x (Denied c) = Raised c
 loaded d x Missing = Stopped 12
 
 -- st: the place takes the value
 unfoldable pub stored : (value : ℕ) → Place → Effect
 stored x (Block n) = StoreControl n x
 stored x (Cell a) = StoreCell a x
-stored x (Refused c) = Raised c
+stored x (Denied c) = Raised c
 stored x Missing = Stopped 12
 
 -- ---- jumps (01 "Jump tests")
 
 -- the address of the word after this one: a jump's slot
 unfoldable pub afterThis : View → ℕ
-afterThis v = v .position .pc + bytesOf (widthOf (v .status))
+afterThis v = v .position .pc + wordBytes (widthOf (v .status))
 
 -- a target by immediate: the slot's address plus twice the signed immediate
 unfoldable pub targetBy : View → (immediate : ℤ) → ℤ
@@ -69,7 +69,7 @@ unfoldable pub jumped : View → (target : ℤ) (taken : ℕ → Effect) → Eff
 jumped v target taken =
     let t = wordOf 32 target in
     if bool.not (isAddress target) then Raised 0x04
-    else if bool.not (eqb (t % bytesOf (widthOf (v .status))) 0) then Raised 0x03
+    else if bool.not (eqb (t % wordBytes (widthOf (v .status))) 0) then Raised 0x03
     else if v .closed t then Raised 0x09
     else taken t
 

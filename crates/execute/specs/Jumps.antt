@@ -8,7 +8,7 @@ use lib.IntN.{ℤ, pos}
 use Rattle.word.specs.Choice.{if_then_else_}
 use Rattle.isa.specs.Condition.{conditionOf, holds}
 use Rattle.isa.specs.declared.Instruction.{Instruction}
-use Rattle.decide.specs.View.{View}
+use Rattle.view.specs.View.{View}
 use Rattle.execute.specs.Execute.{targetBy}
 
 -- it is taken: a branch, where its condition holds

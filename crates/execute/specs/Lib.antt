@@ -2,4 +2,5 @@
 pub mod Jumps
 pub mod Execute
 pub mod Decide
+pub mod Promises
 pub mod Computed

@@ -1,52 +1,50 @@
 // The operations whose result comes from two sources alone: sums, bits, products, shifts.
 ghost use mathlib.Core.Path.{_≡_};
-ghost use mathlib.Core.List.{List};
 ghost use Prim.Native.Nat.{ℕ, _≤_};
-ghost use lib.ListN.{length};
 ghost use Rattle.isa.specs.Operation.{operationOf};
-ghost use Rattle.machine.specs.Words.{WORDS};
-ghost use Rattle.decide.specs.View.{View};
+ghost use Rattle.machine.specs.Words.{MachineWords};
+ghost use Rattle.view.specs.View.{View};
 ghost use Rattle.execute.specs.Execute.{checked, wrapped, product, execute};
-ghost use Rattle.apply.specs.Apply.{toldBy, effectOn};
+ghost use Rattle.effect.specs.Apply.{Performs};
 use crate::immediate_value;
-use apply::result;
+use effect::result;
 use isa::Instruction;
 use word::Product;
 use word::Sum;
 
 // A sum that gives 06h outside signed 32 bits.
 fn checked(w: &mut [u32], d: u32, s: Sum) -> u32
-    requires { ⌜ length (now w) ≡ WORDS ⌝ }
-    ensures { λ r. ⌜ ((cells : List ℕ) → toldBy r (now (w .exit)) cells ≡ effectOn (checked d s) (now (w .entry)) cells) ⌝ }
+    requires { ⌜ MachineWords (now w) ⌝ }
+    ensures { λ r. ⌜ Performs (checked d s) r (now (w .entry)) (now (w .exit)) ⌝ }
 {
     let over = s.overflow;
     if over {
-        apply::raise(w, 0x06)
+        effect::raise(w, 0x06)
     } else {
-        apply::result_flags(w, d, s.value, s.flags)
+        effect::result_flags(w, d, s.value, s.flags)
     }
 }
 
 // A sum that wraps.
 fn wrapped(w: &mut [u32], d: u32, s: Sum) -> u32
-    requires { ⌜ length (now w) ≡ WORDS ⌝ }
-    ensures { λ r. ⌜ ((cells : List ℕ) → toldBy r (now (w .exit)) cells ≡ effectOn (wrapped d s) (now (w .entry)) cells) ⌝ }
+    requires { ⌜ MachineWords (now w) ⌝ }
+    ensures { λ r. ⌜ Performs (wrapped d s) r (now (w .entry)) (now (w .exit)) ⌝ }
 {
-    apply::result_flags(w, d, s.value, s.flags)
+    effect::result_flags(w, d, s.value, s.flags)
 }
 
 // A product, which is held.
 fn product(w: &mut [u32], d: u32, p: Product) -> u32
-    requires { ⌜ length (now w) ≡ WORDS ⌝ }
-    ensures { λ r. ⌜ ((cells : List ℕ) → toldBy r (now (w .exit)) cells ≡ effectOn (product d p) (now (w .entry)) cells) ⌝ }
+    requires { ⌜ MachineWords (now w) ⌝ }
+    ensures { λ r. ⌜ Performs (product d p) r (now (w .entry)) (now (w .exit)) ⌝ }
 {
-    apply::result_product(w, d, p.high, p.low)
+    effect::result_product(w, d, p.high, p.low)
 }
 
 // Operations 1 to 17: add to sext, on two registers.
 pub fn registers(w: &mut [u32], i: Instruction, x: u32, y: u32) -> u32
-    requires { ⌜ (length (now w) ≡ WORDS) × (1 ≤ i .opcode) × (i .opcode ≤ 17) ⌝ }
-    ensures { λ r. ⌜ ((v : View) (cells : List ℕ) → toldBy r (now (w .exit)) cells ≡ effectOn (execute (operationOf (i .opcode)) v i x y) (now (w .entry)) cells) ⌝ }
+    requires { ⌜ MachineWords (now w) × (1 ≤ i .opcode) × (i .opcode ≤ 17) ⌝ }
+    ensures { λ r. ⌜ ((v : View) → Performs (execute (operationOf (i .opcode)) v i x y) r (now (w .entry)) (now (w .exit))) ⌝ }
 {
     let op = i.opcode;
     let d = i.dreg;
@@ -73,8 +71,8 @@ pub fn registers(w: &mut [u32], i: Instruction, x: u32, y: u32) -> u32
 
 // Operations 18 to 26: addi to sexti, on a register and an immediate.
 pub fn immediates(w: &mut [u32], i: Instruction, x: u32) -> u32
-    requires { ⌜ (length (now w) ≡ WORDS) × (18 ≤ i .opcode) × (i .opcode ≤ 26) ⌝ }
-    ensures { λ r. ⌜ ((v : View) (y : ℕ) (cells : List ℕ) → toldBy r (now (w .exit)) cells ≡ effectOn (execute (operationOf (i .opcode)) v i x y) (now (w .entry)) cells) ⌝ }
+    requires { ⌜ MachineWords (now w) × (18 ≤ i .opcode) × (i .opcode ≤ 26) ⌝ }
+    ensures { λ r. ⌜ ((v : View) (y : ℕ) → Performs (execute (operationOf (i .opcode)) v i x y) r (now (w .entry)) (now (w .exit))) ⌝ }
 {
     let op = i.opcode;
     let d = i.dreg;

@@ -1,18 +1,19 @@
 // The next instruction, carried out in place: its number chooses a group of operations once; the group's function decodes the word, asks
 // the questions that its operations have, and does what the operation does.
 ghost use mathlib.Core.Path.{_≡_};
-ghost use mathlib.Core.List.{List};
-ghost use Prim.Native.Nat.{ℕ, _≤_, _<_};
+ghost use Prim.Native.Nat.{_≤_, _<_};
 ghost use lib.ListN.{length};
 ghost use Rattle.word.specs.Word.{wordOf};
 ghost use Rattle.isa.specs.Operation.{operationOf, Properties, properties, unavailable, codeOf};
 ghost use Rattle.isa.specs.Decode.{opcodeOf};
-ghost use Rattle.machine.specs.Machine.{psr, userMode, wideWords, widthOf};
-ghost use Rattle.machine.specs.Words.{WORDS, machineOf};
-ghost use Rattle.decide.specs.View.{viewOf};
-ghost use Rattle.decide.specs.declared.Fetched.the-variants.{Word};
+ghost use Rattle.machine.specs.Machine.{psr, userMode, wideWords, widthOf, memoryOf};
+ghost use Rattle.machine.specs.Words.{MachineWords, machineOf};
+ghost use Rattle.view.specs.View.{viewOf};
+ghost use Rattle.view.specs.declared.Fetched.the-variants.{Word};
 ghost use Rattle.execute.specs.Decide.{fetchedThen, decide};
-ghost use Rattle.apply.specs.Apply.{StackShown, toldBy, effectOn};
+ghost use Rattle.effect.specs.Apply.{reportBy, reportOn};
+ghost use Rattle.machine.specs.Stack.{StackShown};
+ghost use Rattle.execute.specs.Promises.{PerformsSeen, PerformsStoring};
 
 mod arithmetic;
 mod jump;
@@ -20,17 +21,17 @@ mod memory;
 mod moves;
 mod system;
 
-use apply::next;
 use arithmetic::immediates;
 use arithmetic::registers;
-use decide::Fetched;
-use decide::condition_false;
-use decide::source;
+use effect::next;
 use isa::Instruction;
 use jump::jumps;
 use memory::access;
 use moves::moves;
 use system::system;
+use view::Fetched;
+use view::condition_false;
+use view::source;
 
 // Bits of PSR (002 section 2.4): user mode, 32-bit words.
 const UM: u32 = 0;
@@ -46,7 +47,7 @@ fn immediate_value(i: Instruction) -> u32
 
 // Whether words have 32 bits.
 fn wide_words(w: &[u32]) -> bool
-    requires { ⌜ length (now w) ≡ WORDS ⌝ }
+    requires { ⌜ MachineWords (now w) ⌝ }
     ensures { λ r. ⌜ r ≡ wideWords (psr (machineOf (now (w .entry)))) ⌝ }
 {
     word::has_flag(machine::psr(w), IL)
@@ -54,7 +55,7 @@ fn wide_words(w: &[u32]) -> bool
 
 // The code of the exception where an operation may not be used, by the width and the mode; 0 where it may.
 fn unavailability(w: &[u32], op: u32) -> u32
-    requires { ⌜ length (now w) ≡ WORDS ⌝ }
+    requires { ⌜ MachineWords (now w) ⌝ }
     ensures { λ r. ⌜ r ≡ codeOf (unavailable (properties (operationOf op) .availability) (widthOf (psr (machineOf (now (w .entry))))) (userMode (psr (machineOf (now (w .entry)))))) ⌝ }
 {
     isa::unavailability(op, wide_words(w), word::has_flag(machine::psr(w), UM))
@@ -62,8 +63,8 @@ fn unavailability(w: &[u32], op: u32) -> u32
 
 // Words of operations 1 to 17: add to sext.
 fn register_word(w: &mut [u32], word: u32, op: u32) -> u32
-    requires { ⌜ (length (now w) ≡ WORDS) × (op ≡ opcodeOf (widthOf (psr (machineOf (now w)))) word) × (1 ≤ op) × (op ≤ 17) ⌝ }
-    ensures { λ r. ⌜ ((p cells : List ℕ) → toldBy r (now (w .exit)) cells ≡ effectOn (fetchedThen (viewOf p (now (w .entry)) cells) (Word word)) (now (w .entry)) cells) ⌝ }
+    requires { ⌜ MachineWords (now w) × (op ≡ opcodeOf (widthOf (psr (machineOf (now w)))) word) × (1 ≤ op) × (op ≤ 17) ⌝ }
+    ensures { λ r. ⌜ PerformsSeen (λ v. fetchedThen v (Word word)) r (now (w .entry)) (now (w .exit)) ⌝ }
 {
     let i = isa::decode_registers(word, wide_words(w), op);
     if condition_false(w, i) {
@@ -77,8 +78,8 @@ fn register_word(w: &mut [u32], word: u32, op: u32) -> u32
 
 // Words of operations 18 to 26: addi to sexti.
 fn immediate_word(w: &mut [u32], word: u32, op: u32) -> u32
-    requires { ⌜ (length (now w) ≡ WORDS) × (op ≡ opcodeOf (widthOf (psr (machineOf (now w)))) word) × (18 ≤ op) × (op ≤ 26) ⌝ }
-    ensures { λ r. ⌜ ((p cells : List ℕ) → toldBy r (now (w .exit)) cells ≡ effectOn (fetchedThen (viewOf p (now (w .entry)) cells) (Word word)) (now (w .entry)) cells) ⌝ }
+    requires { ⌜ MachineWords (now w) × (op ≡ opcodeOf (widthOf (psr (machineOf (now w)))) word) × (18 ≤ op) × (op ≤ 26) ⌝ }
+    ensures { λ r. ⌜ PerformsSeen (λ v. fetchedThen v (Word word)) r (now (w .entry)) (now (w .exit)) ⌝ }
 {
     let i = isa::decode_immediate(word, wide_words(w), op);
     if condition_false(w, i) {
@@ -91,8 +92,8 @@ fn immediate_word(w: &mut [u32], word: u32, op: u32) -> u32
 
 // Words of operations 27 and 28: ld and st.
 fn access_word(w: &mut [u32], cells: &mut [u32], word: u32, op: u32) -> u32
-    requires { ⌜ (length (now w) ≡ WORDS) × (op ≡ opcodeOf (widthOf (psr (machineOf (now w)))) word) × (27 ≤ op) × (op ≤ 28) ⌝ }
-    ensures { λ r. ⌜ ((p : List ℕ) → toldBy r (now (w .exit)) (now (cells .exit)) ≡ effectOn (fetchedThen (viewOf p (now (w .entry)) (now (cells .entry))) (Word word)) (now (w .entry)) (now (cells .entry))) ⌝ }
+    requires { ⌜ MachineWords (now w) × (op ≡ opcodeOf (widthOf (psr (machineOf (now w)))) word) × (27 ≤ op) × (op ≤ 28) ⌝ }
+    ensures { λ r. ⌜ PerformsStoring (λ v. fetchedThen v (Word word)) r (now (w .entry)) (now (cells .entry)) (now (w .exit)) (now (cells .exit)) ⌝ }
 {
     let i = isa::decode_access(word, wide_words(w), op);
     if condition_false(w, i) {
@@ -105,12 +106,12 @@ fn access_word(w: &mut [u32], cells: &mut [u32], word: u32, op: u32) -> u32
 
 // Words of operations 29 to 35: mov to lui. lli and lui are not there in 16-bit words.
 fn move_word(w: &mut [u32], word: u32, op: u32) -> u32
-    requires { ⌜ (length (now w) ≡ WORDS) × (op ≡ opcodeOf (widthOf (psr (machineOf (now w)))) word) × (29 ≤ op) × (op ≤ 35) ⌝ }
-    ensures { λ r. ⌜ ((p cells : List ℕ) → toldBy r (now (w .exit)) cells ≡ effectOn (fetchedThen (viewOf p (now (w .entry)) cells) (Word word)) (now (w .entry)) cells) ⌝ }
+    requires { ⌜ MachineWords (now w) × (op ≡ opcodeOf (widthOf (psr (machineOf (now w)))) word) × (29 ≤ op) × (op ≤ 35) ⌝ }
+    ensures { λ r. ⌜ PerformsSeen (λ v. fetchedThen v (Word word)) r (now (w .entry)) (now (w .exit)) ⌝ }
 {
     let code = unavailability(w, op);
     if code != 0 {
-        return apply::raise(w, code);
+        return effect::raise(w, code);
     }
     let i = isa::decode_move(word, wide_words(w), op);
     if condition_false(w, i) {
@@ -124,8 +125,8 @@ fn move_word(w: &mut [u32], word: u32, op: u32) -> u32
 
 // Words of operations 36 to 47: jumps and branches, stop 13 in a slot.
 fn jump_word(w: &mut [u32], word: u32, op: u32) -> u32
-    requires { ⌜ (length (now w) ≡ WORDS) × (machineOf (now w) .position .pc < 65536) × (op ≡ opcodeOf (widthOf (psr (machineOf (now w)))) word) × (36 ≤ op) × (op ≤ 47) ⌝ }
-    ensures { λ r. ⌜ ((p cells : List ℕ) → toldBy r (now (w .exit)) cells ≡ effectOn (fetchedThen (viewOf p (now (w .entry)) cells) (Word word)) (now (w .entry)) cells) ⌝ }
+    requires { ⌜ MachineWords (now w) × (machineOf (now w) .position .pc < 65536) × (op ≡ opcodeOf (widthOf (psr (machineOf (now w)))) word) × (36 ≤ op) × (op ≤ 47) ⌝ }
+    ensures { λ r. ⌜ PerformsSeen (λ v. fetchedThen v (Word word)) r (now (w .entry)) (now (w .exit)) ⌝ }
 {
     if machine::slot(w) == 1 {
         return 13;
@@ -141,12 +142,12 @@ fn jump_word(w: &mut [u32], word: u32, op: u32) -> u32
 
 // Words of operations 48 to 57: scall to rcon.
 fn system_word(w: &mut [u32], word: u32, op: u32) -> u32
-    requires { ⌜ (length (now w) ≡ WORDS) × StackShown (machineOf (now w)) × (op ≡ opcodeOf (widthOf (psr (machineOf (now w)))) word) × (48 ≤ op) × (op ≤ 57) ⌝ }
-    ensures { λ r. ⌜ ((p cells : List ℕ) → toldBy r (now (w .exit)) cells ≡ effectOn (fetchedThen (viewOf p (now (w .entry)) cells) (Word word)) (now (w .entry)) cells) ⌝ }
+    requires { ⌜ MachineWords (now w) × StackShown (machineOf (now w)) × (op ≡ opcodeOf (widthOf (psr (machineOf (now w)))) word) × (48 ≤ op) × (op ≤ 57) ⌝ }
+    ensures { λ r. ⌜ PerformsSeen (λ v. fetchedThen v (Word word)) r (now (w .entry)) (now (w .exit)) ⌝ }
 {
     let code = unavailability(w, op);
     if code != 0 {
-        return apply::raise(w, code);
+        return effect::raise(w, code);
     }
     if isa::is_transfer(op) & (machine::slot(w) == 1) {
         return 13;
@@ -162,8 +163,8 @@ fn system_word(w: &mut [u32], word: u32, op: u32) -> u32
 
 // Words of the lower half of the operations, 0 to 28: nop to st.
 fn lower_half(w: &mut [u32], cells: &mut [u32], word: u32, op: u32) -> u32
-    requires { ⌜ (length (now w) ≡ WORDS) × (op ≡ opcodeOf (widthOf (psr (machineOf (now w)))) word) × (op < 29) ⌝ }
-    ensures { λ r. ⌜ ((p : List ℕ) → toldBy r (now (w .exit)) (now (cells .exit)) ≡ effectOn (fetchedThen (viewOf p (now (w .entry)) (now (cells .entry))) (Word word)) (now (w .entry)) (now (cells .entry))) ⌝ }
+    requires { ⌜ MachineWords (now w) × (op ≡ opcodeOf (widthOf (psr (machineOf (now w)))) word) × (op < 29) ⌝ }
+    ensures { λ r. ⌜ PerformsStoring (λ v. fetchedThen v (Word word)) r (now (w .entry)) (now (cells .entry)) (now (w .exit)) (now (cells .exit)) ⌝ }
 {
     match op {
         0 => next(w),
@@ -175,21 +176,21 @@ fn lower_half(w: &mut [u32], cells: &mut [u32], word: u32, op: u32) -> u32
 
 // Words of the upper half: mov to rcon, and those that are unknown.
 fn upper_half(w: &mut [u32], word: u32, op: u32) -> u32
-    requires { ⌜ (length (now w) ≡ WORDS) × (machineOf (now w) .position .pc < 65536) × StackShown (machineOf (now w)) × (op ≡ opcodeOf (widthOf (psr (machineOf (now w)))) word) × (29 ≤ op) ⌝ }
-    ensures { λ r. ⌜ ((p cells : List ℕ) → toldBy r (now (w .exit)) cells ≡ effectOn (fetchedThen (viewOf p (now (w .entry)) cells) (Word word)) (now (w .entry)) cells) ⌝ }
+    requires { ⌜ MachineWords (now w) × (machineOf (now w) .position .pc < 65536) × StackShown (machineOf (now w)) × (op ≡ opcodeOf (widthOf (psr (machineOf (now w)))) word) × (29 ≤ op) ⌝ }
+    ensures { λ r. ⌜ PerformsSeen (λ v. fetchedThen v (Word word)) r (now (w .entry)) (now (w .exit)) ⌝ }
 {
     match op {
         0..=35 => move_word(w, word, op),
         36..=47 => jump_word(w, word, op),
         48..=57 => system_word(w, word, op),
-        _ => apply::raise(w, 0x01),
+        _ => effect::raise(w, 0x01),
     }
 }
 
 // An instruction word, by the number of its operation, in two halves: in one chain of tests the compiler takes the last groups for rare.
 fn instruction(w: &mut [u32], cells: &mut [u32], word: u32) -> u32
-    requires { ⌜ (length (now w) ≡ WORDS) × (machineOf (now w) .position .pc < 65536) × StackShown (machineOf (now w)) ⌝ }
-    ensures { λ r. ⌜ ((p : List ℕ) → toldBy r (now (w .exit)) (now (cells .exit)) ≡ effectOn (fetchedThen (viewOf p (now (w .entry)) (now (cells .entry))) (Word word)) (now (w .entry)) (now (cells .entry))) ⌝ }
+    requires { ⌜ MachineWords (now w) × (machineOf (now w) .position .pc < 65536) × StackShown (machineOf (now w)) ⌝ }
+    ensures { λ r. ⌜ PerformsStoring (λ v. fetchedThen v (Word word)) r (now (w .entry)) (now (cells .entry)) (now (w .exit)) (now (cells .exit)) ⌝ }
 {
     let op = isa::opcode(word, wide_words(w));
     if op < 29 {
@@ -201,13 +202,13 @@ fn instruction(w: &mut [u32], cells: &mut [u32], word: u32) -> u32
 
 // The next instruction: 05h, 00h or stop 11, then the instruction word.
 pub fn execute(program: &[u8], w: &mut [u32], cells: &mut [u32]) -> u32
-    requires { ⌜ (length (now w) ≡ WORDS) × (length (now program) ≤ 65536) × StackShown (machineOf (now w)) ⌝ }
-    ensures { λ r. ⌜ toldBy r (now (w .exit)) (now (cells .exit)) ≡ effectOn (decide (viewOf (now (program .entry)) (now (w .entry)) (now (cells .entry)))) (now (w .entry)) (now (cells .entry)) ⌝ }
+    requires { ⌜ MachineWords (now w) × (length (now program) ≤ 65536) × StackShown (machineOf (now w)) ⌝ }
+    ensures { λ r. ⌜ reportBy r (now (w .exit)) (memoryOf (now (cells .exit))) ≡ reportOn (decide (viewOf (now (program .entry)) (now (w .entry)) (memoryOf (now (cells .entry))))) (now (w .entry)) (memoryOf (now (cells .entry))) ⌝ }
 {
-    let fetched = decide::fetch(program, w);
+    let fetched = view::fetch(program, w);
     match fetched {
         Fetched::Word(word) => instruction(w, cells, word),
-        Fetched::Fault(code) => apply::raise(w, code),
+        Fetched::Fault(code) => effect::raise(w, code),
         Fetched::Absent => 11,
     }
 }

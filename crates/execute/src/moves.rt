@@ -1,23 +1,21 @@
 // Operations that move a value: mov, not, mulhi, cmp, cmpi, lli, lui.
 ghost use mathlib.Core.Path.{_≡_};
-ghost use mathlib.Core.List.{List};
 ghost use Prim.Native.Nat.{ℕ, _+_, _*_, _%_, _^_, _≤_, _<_};
-ghost use lib.ListN.{length};
 ghost use Rattle.word.specs.Word.{wordOf};
 ghost use Rattle.isa.specs.Operation.{operationOf, mulhi};
-ghost use Rattle.machine.specs.Words.{WORDS};
-ghost use Rattle.decide.specs.View.{viewOf};
+ghost use Rattle.machine.specs.Words.{MachineWords};
+ghost use Rattle.view.specs.View.{Shows};
 ghost use Rattle.execute.specs.Execute.{execute};
-ghost use Rattle.apply.specs.Apply.{toldBy, effectOn};
+ghost use Rattle.execute.specs.Promises.{PerformsSeen};
 use crate::immediate_value;
-use apply::compare;
-use apply::result;
+use effect::compare;
+use effect::result;
 use isa::Instruction;
 
 // The high half of a held product, or stop 14.
 fn high_half(w: &mut [u32], i: Instruction) -> u32
-    requires { ⌜ length (now w) ≡ WORDS ⌝ }
-    ensures { λ r. ⌜ ((p cells : List ℕ) (x y : ℕ) → toldBy r (now (w .exit)) cells ≡ effectOn (execute mulhi (viewOf p (now (w .entry)) cells) i x y) (now (w .entry)) cells) ⌝ }
+    requires { ⌜ MachineWords (now w) ⌝ }
+    ensures { λ r. ⌜ ((x y : ℕ) → PerformsSeen (λ v. execute mulhi v i x y) r (now (w .entry)) (now (w .exit))) ⌝ }
 {
     if machine::held(w) == 1 {
         let high = machine::high(w);
@@ -29,16 +27,16 @@ fn high_half(w: &mut [u32], i: Instruction) -> u32
 
 // lui: the immediate, above the low half of the register's own value.
 fn high_immediate(w: &[u32], i: Instruction) -> u32
-    requires { ⌜ (length (now w) ≡ WORDS) × (i .dreg < 32) ⌝ }
-    ensures { λ r. ⌜ ((p cells : List ℕ) → r ≡ wordOf 16 (i .immediate) * 2 ^ 16 + viewOf p (now (w .entry)) cells .target (i .dreg) % 2 ^ 16) ⌝ }
+    requires { ⌜ MachineWords (now w) × (i .dreg < 32) ⌝ }
+    ensures { λ r. ⌜ Shows (λ v. wordOf 16 (i .immediate) * 2 ^ 16 + v .target (i .dreg) % 2 ^ 16) r (now (w .entry)) ⌝ }
 {
-    immediate_value(i) % 0x1_0000 * 0x1_0000 + decide::target(w, i.dreg) % 0x1_0000
+    immediate_value(i) % 0x1_0000 * 0x1_0000 + view::target(w, i.dreg) % 0x1_0000
 }
 
 // Operations 29 to 35: mov to lui.
 pub fn moves(w: &mut [u32], i: Instruction, x: u32, y: u32) -> u32
-    requires { ⌜ (length (now w) ≡ WORDS) × (i .dreg < 32) × (29 ≤ i .opcode) × (i .opcode ≤ 35) ⌝ }
-    ensures { λ r. ⌜ ((p cells : List ℕ) → toldBy r (now (w .exit)) cells ≡ effectOn (execute (operationOf (i .opcode)) (viewOf p (now (w .entry)) cells) i x y) (now (w .entry)) cells) ⌝ }
+    requires { ⌜ MachineWords (now w) × (i .dreg < 32) × (29 ≤ i .opcode) × (i .opcode ≤ 35) ⌝ }
+    ensures { λ r. ⌜ PerformsSeen (λ v. execute (operationOf (i .opcode)) v i x y) r (now (w .entry)) (now (w .exit)) ⌝ }
 {
     let op = i.opcode;
     let d = i.dreg;

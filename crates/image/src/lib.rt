@@ -7,7 +7,7 @@ ghost use lib.ListN.{length};
 ghost use Rattle.codec.specs.Number.{over};
 ghost use Rattle.machine.specs.Control.{registerAt, canHold, reset as resetOf};
 ghost use Rattle.machine.specs.Stack.{serviceFlags};
-ghost use Rattle.machine.specs.Words.{WORDS, ENTRIES, section, entryOf, machineOf};
+ghost use Rattle.machine.specs.Words.{MachineWords, ENTRIES, section, entryOf, machineOf};
 ghost use Rattle.image.specs.Questions.{all, implies, allBelow, allHeld, positionTests, setsFit, question3, question4, question5};
 ghost use Rattle.image.specs.Entries.{passes as passesOf, allPass};
 ghost use Rattle.image.specs.Image.{question2, askMachine, readImage, readBy, writeImage};
@@ -54,7 +54,7 @@ fn sections_fit(image: &[u8]) -> bool
 
 // Entry i of the stack, counted from the bottom.
 fn entry(w: &[u32], i: usize) -> machine::Entry
-    requires { ⌜ (length (now w) ≡ WORDS) × (i < 12) ⌝ }
+    requires { ⌜ MachineWords (now w) × (i < 12) ⌝ }
     ensures { λ r. ⌜ r ≡ entryOf (section (ENTRIES + 4 * i) 4 (now (w .entry))) ⌝ }
 {
     let at = 129 + 4 * i;
@@ -86,7 +86,7 @@ fn passes(t: Test, e: machine::Entry) -> bool
 
 // Whether every entry of the stack passes a test.
 fn entries_pass(t: Test, w: &[u32]) -> bool
-    requires { ⌜ (length (now w) ≡ WORDS) × (length (machineOf (now w) .stack) ≤ 12) ⌝ }
+    requires { ⌜ MachineWords (now w) × (length (machineOf (now w) .stack) ≤ 12) ⌝ }
     ensures { λ r. ⌜ r ≡ allPass t (machineOf (now (w .entry)) .stack) ⌝ }
 {
     let n = machine::depth(w) as usize;
@@ -161,7 +161,7 @@ fn all_held(registers: &[u32]) -> bool
 
 // Whether every number is one that its register can hold.
 fn numbers_fit(w: &[u32]) -> bool
-    requires { ⌜ (length (now w) ≡ WORDS) × (length (machineOf (now w) .stack) ≤ 12) ⌝ }
+    requires { ⌜ MachineWords (now w) × (length (machineOf (now w) .stack) ≤ 12) ⌝ }
     ensures { λ r. ⌜ r ≡ question3 (machineOf (now (w .entry))) ⌝ }
 {
     let status = machine::psr(w) < 32;
@@ -176,7 +176,7 @@ fn numbers_fit(w: &[u32]) -> bool
 
 // Whether every current or stacked status with UM 1 has both set bits 0.
 fn modes_fit(w: &[u32]) -> bool
-    requires { ⌜ (length (now w) ≡ WORDS) × (length (machineOf (now w) .stack) ≤ 12) ⌝ }
+    requires { ⌜ MachineWords (now w) × (length (machineOf (now w) .stack) ≤ 12) ⌝ }
     ensures { λ r. ⌜ r ≡ question4 (machineOf (now (w .entry))) ⌝ }
 {
     sets_fit(machine::psr(w)) & entries_pass(Test::Mode, w)
@@ -186,7 +186,7 @@ fn modes_fit(w: &[u32]) -> bool
 
 // The flags of the sources on the stack.
 fn service_flags(w: &[u32]) -> u32
-    requires { ⌜ (length (now w) ≡ WORDS) × (length (machineOf (now w) .stack) ≤ 12) ⌝ }
+    requires { ⌜ MachineWords (now w) × (length (machineOf (now w) .stack) ≤ 12) ⌝ }
     requires sources { ⌜ allPass Test.Source (machineOf (now w) .stack) ≡ true ⌝ }
     ensures { λ r. ⌜ r ≡ serviceFlags (machineOf (now (w .entry)) .stack) ⌝ }
 {
@@ -201,7 +201,7 @@ fn service_flags(w: &[u32]) -> u32
 
 // Whether the stack's sources are below 12, all different and those of INT_SERV, and RETI_ is its top.
 fn stack_fits(w: &[u32]) -> bool
-    requires { ⌜ (length (now w) ≡ WORDS) × (length (machineOf (now w) .stack) ≤ 12) ⌝ }
+    requires { ⌜ MachineWords (now w) × (length (machineOf (now w) .stack) ≤ 12) ⌝ }
     ensures { λ r. ⌜ r ≡ question5 (machineOf (now (w .entry))) ⌝ }
 {
     if entries_pass(Test::Source, w) {
@@ -222,7 +222,7 @@ fn stack_fits(w: &[u32]) -> bool
 
 // The number of the first of questions 3 to 5 that says no, or 0.
 fn refusal(w: &[u32]) -> u32
-    requires { ⌜ (length (now w) ≡ WORDS) × (length (machineOf (now w) .stack) ≤ 12) ⌝ }
+    requires { ⌜ MachineWords (now w) × (length (machineOf (now w) .stack) ≤ 12) ⌝ }
     ensures { λ r. ⌜ readBy r (machineOf (now (w .entry))) ≡ askMachine (machineOf (now (w .entry))) ⌝ }
 {
     let numbers = numbers_fit(w);
@@ -237,7 +237,7 @@ fn refusal(w: &[u32]) -> u32
 
 // Reads an image: the number of the first question that says no, or 0 and the machine's words.
 pub fn read(image: &[u8], w: &mut [u32]) -> u32
-    requires { ⌜ length (now w) ≡ WORDS ⌝ }
+    requires { ⌜ MachineWords (now w) ⌝ }
     ensures { λ r. ⌜ readBy r (machineOf (now (w .exit))) ≡ readImage (now (image .entry)) ⌝ }
 {
     if sections_fit(image) {
@@ -252,7 +252,7 @@ pub fn read(image: &[u8], w: &mut [u32]) -> u32
 
 // Writes the machine's image to the front of a longer buffer, whose further bytes stay. The sections' counts go into the words first.
 pub fn write(w: &mut [u32], buffer: &mut [u8])
-    requires { ⌜ (length (now w) ≡ WORDS) × (length (machineOf (now w) .stack) ≤ 12) × (708 ≤ length (now buffer)) ⌝ }
+    requires { ⌜ MachineWords (now w) × (length (machineOf (now w) .stack) ≤ 12) × (708 ≤ length (now buffer)) ⌝ }
     ensures { λ _. ⌜ now (buffer .exit) ≡ over (writeImage (machineOf (now (w .entry)))) (now (buffer .entry)) ⌝ }
 {
     let n = 129 + 4 * (machine::depth(w) as usize);
@@ -327,7 +327,7 @@ fn copy(from: &[u32], to: &mut [u32])
 
 // Puts the machine at reset into its words.
 pub fn reset(w: &mut [u32])
-    requires { ⌜ length (now w) ≡ WORDS ⌝ }
+    requires { ⌜ MachineWords (now w) ⌝ }
     ensures { λ _. ⌜ machineOf (now (w .exit)) ≡ resetOf ⌝ }
 {
     let control = RESET;

@@ -9,7 +9,7 @@ use Rattle.word.specs.Word.{Field}
 use Rattle.word.specs.Choice.{if_then_else_}
 use Rattle.isa.specs.Operation.{operationOf, Width, w16, w32, Properties, properties}
 use Rattle.isa.specs.Format.{fieldsWidth, operationField, conditionalField, cregField, conditionField, Role, Dreg, Sreg1, Sreg2, Creg, Imm, Immediate, Layout, layoutOf, operandFields}
-use Rattle.isa.specs.Decode.{bytesOf}
+use Rattle.isa.specs.Decode.{wordBytes}
 use Rattle.isa.specs.Computed.{instructions}
 use Rattle.isa.proofs.Fields.{within, apart, apartFrom, separate}
 use Rattle.isa.proofs.Table.{values, by-number}
@@ -46,7 +46,7 @@ pub record Sound (width : Width) (p : Properties) : Type 0 where
   pub sreg1 : fieldsWidth (layoutOf width (p .form) .sreg1) ≤ registerWidth width
   pub sreg2 : fieldsWidth (layoutOf width (p .form) .sreg2) ≤ registerWidth width
   pub immediate : immediateFits (layoutOf width (p .form) .immediate) ≡ true
-  pub inside : within (8 * bytesOf width) (rowFields width p) ≡ true
+  pub inside : within (8 * wordBytes width) (rowFields width p) ≡ true
   pub apart : separate (usedFields width p) ≡ true
 
 -- the same as a test
@@ -54,7 +54,7 @@ unfoldable sound : Width → Properties → Bool
 sound width p =
     let l = layoutOf width (p .form) in
     (leb (fieldsWidth (l .dreg)) (registerWidth width) && (leb (fieldsWidth (l .sreg1)) (registerWidth width) && leb (fieldsWidth (l .sreg2)) (registerWidth width)))
-    && (immediateFits (l .immediate) && (within (8 * bytesOf width) (rowFields width p) && separate (usedFields width p)))
+    && (immediateFits (l .immediate) && (within (8 * wordBytes width) (rowFields width p) && separate (usedFields width p)))
 
 pub parts : (a b : Bool) → a && b ≡ true → (a ≡ true) × (b ≡ true)
 parts a b e = and-eq-true-iff a b .0 e

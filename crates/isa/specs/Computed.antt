@@ -4,8 +4,8 @@ use Rattle.isa.specs.Text.{bytes}
 use Rattle.isa.specs.Operation.{operations, operationOf, widthBy, unavailable, codeOf, properties}
 use Rattle.isa.specs.Condition.{conditions, conditionOf, holds}
 use Rattle.isa.specs.Format.{fieldsWidth, fieldsOf, operationField, conditionalField, cregField, conditionField, layoutOf, operandFields}
-use Rattle.isa.specs.Decode.{bytesOf, registerOf, immediateOf, operandsOf, opcodeOf, assembled, decode}
+use Rattle.isa.specs.Decode.{wordBytes, registerOf, immediateOf, operandsOf, opcodeOf, assembled, decode}
 
 unfoldable pub instructions : Unit {0}
-unfolding words bytes operations operationOf widthBy unavailable codeOf properties conditions conditionOf holds fieldsWidth fieldsOf operationField conditionalField cregField conditionField layoutOf operandFields bytesOf registerOf immediateOf operandsOf opcodeOf assembled decode
+unfolding words bytes operations operationOf widthBy unavailable codeOf properties conditions conditionOf holds fieldsWidth fieldsOf operationField conditionalField cregField conditionField layoutOf operandFields wordBytes registerOf immediateOf operandsOf opcodeOf assembled decode
 instructions = tt

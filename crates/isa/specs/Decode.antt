@@ -12,9 +12,9 @@ use Rattle.isa.specs.declared.Operands.{Operands}
 use Rattle.isa.specs.declared.Instruction.{Instruction}
 
 -- how many bytes a word is
-unfoldable pub bytesOf : Width → ℕ
-bytesOf w16 = 2
-bytesOf w32 = 4
+unfoldable pub wordBytes : Width → ℕ
+wordBytes w16 = 2
+wordBytes w32 = 4
 
 -- a register's number: registers n of 16-bit words mean n + 24; one that is absent reads 0
 unfoldable pub registerOf : Width → List Field → (word : ℕ) → ℕ

@@ -20,10 +20,17 @@ pub record Machine : Type 0 where
   pub position : Position
   pub stack : List Entry  -- top first
 
--- with the data memory
+-- what a program loads from and stores to, but for the control block: the data memory's cells
+pub record Memory : Type 0 where
+  pub cells : List ℕ
+
+abbrev pub memoryOf : (cells : List ℕ) → Memory
+memoryOf cells = record { cells = cells }
+
+-- a machine with its memory
 pub record State : Type 0 where
   pub machine : Machine
-  pub cells : List ℕ
+  pub memory : Memory
 
 -- a position with no slot and no product
 unfoldable pub positionAt : (pc : ℕ) → Position

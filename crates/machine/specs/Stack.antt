@@ -1,8 +1,10 @@
 -- The hardware stack of interrupts in service, and the control registers that show it (01 "One step", "Control block"). Assumes nothing.
+use mathlib.Core.Path.{_≡_}
+use mathlib.Core.Bool.{true}
 use mathlib.Core.List.{List, [], _∷_, map}
 use Prim.Native.Nat.{ℕ}
 use lib.ListN.{set}
-use Rattle.word.specs.Flags.{flagsAt}
+use Rattle.word.specs.Flags.{flagsAt, distinctBelow}
 use Rattle.machine.specs.Machine.{Machine}
 use Rattle.machine.specs.Control.{INT-SERV, RETI-ADDR, RETI-PSR, RETI-CR0}
 use Rattle.machine.specs.declared.Position.{Position}
@@ -37,3 +39,8 @@ showStack es l = showTop (serviceFlags es) (shownTop es) l
 -- the machine with this stack, and its control block showing it
 unfoldable pub withStack : List Entry → Machine → Machine
 withStack es m = record { set1 = m .set1; set2 = m .set2; conditions = m .conditions; control = showStack es (m .control); position = m .position; stack = es }
+
+-- the control block shows the stack, and the stack's sources are below 12 and all different (question 5)
+pub record StackShown (m : Machine) : Type 0 where
+  pub shown : showStack (m .stack) (m .control) ≡ m .control
+  pub distinct : distinctBelow 12 (sourcesOf (m .stack)) ≡ true

@@ -1,9 +1,10 @@
 -- The running machine as one list of words: an image's numbers in their order (01 "Machine image"). Assumes nothing.
+use mathlib.Core.Path.{_≡_}
 use mathlib.Core.Bool.{Bool, true, false}
 use mathlib.Core.List.{List, [], _∷_, reverse}
 use Prim.Native.Nat.{ℕ, zero, suc, _+_, _*_}
-use lib.ListN.{getD, take, drop}
-use Rattle.machine.specs.Machine.{Machine}
+use lib.ListN.{length, getD, take, drop}
+use Rattle.machine.specs.Machine.{Machine, Memory, State}
 use Rattle.machine.specs.declared.Position.{Position}
 use Rattle.machine.specs.declared.Entry.{Entry}
 
@@ -48,6 +49,10 @@ ENTRIES = DEPTH + 1
 abbrev pub WORDS : ℕ
 WORDS = ENTRIES + 4 * 12
 
+-- words are as many as a machine has
+abbrev pub MachineWords : (words : List ℕ) → Type 0
+MachineWords ws = length ws ≡ WORDS
+
 -- where the registers begin of set 2 if a bit of PSR is 1, else of set 1
 abbrev pub startBy : Bool → ℕ
 startBy true = SET2
@@ -77,3 +82,7 @@ machineOf ws =
       position = positionOf (section POSITION 6 ws);
       stack = reverse (entriesOf (getD ws DEPTH 0) (drop ENTRIES ws));
     }
+
+-- the state that words and a memory hold
+abbrev pub stateOf : (words : List ℕ) → Memory → State
+stateOf words memory = record { machine = machineOf words; memory = memory }

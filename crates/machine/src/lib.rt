@@ -9,7 +9,7 @@ ghost use Rattle.word.specs.Flags.{distinctBelow};
 ghost use Rattle.machine.specs.Machine.{psr, setBy, withRegister, written, withPsr, withConditions, withControl, withPosition};
 ghost use Rattle.machine.specs.Control.{registerAt, controlAt, largest, keptBy, isWritable, storedControl, within, INT-SERV};
 ghost use Rattle.machine.specs.Stack.{popped, sourcesOf, serviceFlags, shownTop, showTop, withStack};
-ghost use Rattle.machine.specs.Words.{WORDS, startBy, machineOf};
+ghost use Rattle.machine.specs.Words.{MachineWords, startBy, machineOf};
 use word::with_flag;
 use word::without_flag;
 
@@ -78,7 +78,7 @@ const ENTRIES: usize = DEPTH + 1;
 
 // Register n of set 1.
 pub fn register1(w: &[u32], n: u32) -> u32
-    requires { ⌜ (length (now w) ≡ WORDS) × (n < 32) ⌝ }
+    requires { ⌜ MachineWords (now w) × (n < 32) ⌝ }
     ensures { λ r. ⌜ r ≡ getD (machineOf (now (w .entry)) .set1) n 0 ⌝ }
 {
     w[SET1 + n as usize]
@@ -86,7 +86,7 @@ pub fn register1(w: &[u32], n: u32) -> u32
 
 // Register n of set 2.
 pub fn register2(w: &[u32], n: u32) -> u32
-    requires { ⌜ (length (now w) ≡ WORDS) × (n < 32) ⌝ }
+    requires { ⌜ MachineWords (now w) × (n < 32) ⌝ }
     ensures { λ r. ⌜ r ≡ getD (machineOf (now (w .entry)) .set2) n 0 ⌝ }
 {
     w[SET2 + n as usize]
@@ -102,7 +102,7 @@ fn place(second: bool, n: u32) -> usize
 
 // Register n of the set that a bit of PSR names.
 pub fn register(w: &[u32], second: bool, n: u32) -> u32
-    requires { ⌜ (length (now w) ≡ WORDS) × (n < 32) ⌝ }
+    requires { ⌜ MachineWords (now w) × (n < 32) ⌝ }
     ensures { λ r. ⌜ r ≡ getD (setBy second (machineOf (now (w .entry)))) n 0 ⌝ }
 {
     w[place(second, n)]
@@ -110,7 +110,7 @@ pub fn register(w: &[u32], second: bool, n: u32) -> u32
 
 // The program status register.
 pub fn psr(w: &[u32]) -> u32
-    requires { ⌜ length (now w) ≡ WORDS ⌝ }
+    requires { ⌜ MachineWords (now w) ⌝ }
     ensures { λ r. ⌜ r ≡ psr (machineOf (now (w .entry))) ⌝ }
 {
     w[PSR]
@@ -118,7 +118,7 @@ pub fn psr(w: &[u32]) -> u32
 
 // Condition register n.
 pub fn condition(w: &[u32], n: u32) -> u32
-    requires { ⌜ (length (now w) ≡ WORDS) × (n < 8) ⌝ }
+    requires { ⌜ MachineWords (now w) × (n < 8) ⌝ }
     ensures { λ r. ⌜ r ≡ getD (machineOf (now (w .entry)) .conditions) n 0 ⌝ }
 {
     w[CONDITIONS + n as usize]
@@ -126,7 +126,7 @@ pub fn condition(w: &[u32], n: u32) -> u32
 
 // Register n of the set that a bit of PSR names takes x.
 pub fn set_register(w: &mut [u32], second: bool, n: u32, x: u32)
-    requires { ⌜ (length (now w) ≡ WORDS) × (n < 32) ⌝ }
+    requires { ⌜ MachineWords (now w) × (n < 32) ⌝ }
     ensures { λ _. ⌜ machineOf (now (w .exit)) ≡ withRegister second n x (machineOf (now (w .entry))) ⌝ }
 {
     w[place(second, n)] = x;
@@ -134,7 +134,7 @@ pub fn set_register(w: &mut [u32], second: bool, n: u32, x: u32)
 
 // Register n of the set that a bit of PSR names takes x; a write to PSR is ignored.
 pub fn write_register(w: &mut [u32], second: bool, n: u32, x: u32)
-    requires { ⌜ (length (now w) ≡ WORDS) × (n < 32) ⌝ }
+    requires { ⌜ MachineWords (now w) × (n < 32) ⌝ }
     ensures { λ _. ⌜ machineOf (now (w .exit)) ≡ written second n x (machineOf (now (w .entry))) ⌝ }
 {
     let at = place(second, n);
@@ -145,7 +145,7 @@ pub fn write_register(w: &mut [u32], second: bool, n: u32, x: u32)
 
 // The program status register takes q.
 pub fn set_psr(w: &mut [u32], q: u32)
-    requires { ⌜ length (now w) ≡ WORDS ⌝ }
+    requires { ⌜ MachineWords (now w) ⌝ }
     ensures { λ _. ⌜ machineOf (now (w .exit)) ≡ withPsr q (machineOf (now (w .entry))) ⌝ }
 {
     w[PSR] = q;
@@ -153,7 +153,7 @@ pub fn set_psr(w: &mut [u32], q: u32)
 
 // Condition register n takes x.
 pub fn set_condition(w: &mut [u32], n: u32, x: u32)
-    requires { ⌜ (length (now w) ≡ WORDS) × (n < 8) ⌝ }
+    requires { ⌜ MachineWords (now w) × (n < 8) ⌝ }
     ensures { λ _. ⌜ machineOf (now (w .exit)) ≡ withConditions (set (machineOf (now (w .entry)) .conditions) n x) (machineOf (now (w .entry))) ⌝ }
 {
     w[CONDITIONS + n as usize] = x;
@@ -163,7 +163,7 @@ pub fn set_condition(w: &mut [u32], n: u32, x: u32)
 
 // The control register at an offset of the block's registers.
 pub fn control(w: &[u32], n: u32) -> u32
-    requires { ⌜ (length (now w) ≡ WORDS) × (n < 45) ⌝ }
+    requires { ⌜ MachineWords (now w) × (n < 45) ⌝ }
     ensures { λ r. ⌜ r ≡ controlAt (machineOf (now (w .entry))) n ⌝ }
 {
     w[CONTROL + n as usize]
@@ -171,7 +171,7 @@ pub fn control(w: &[u32], n: u32) -> u32
 
 // What a load of the control block gives at an offset.
 pub fn control_at(w: &[u32], n: u32) -> u32
-    requires { ⌜ length (now w) ≡ WORDS ⌝ }
+    requires { ⌜ MachineWords (now w) ⌝ }
     ensures { λ r. ⌜ r ≡ controlAt (machineOf (now (w .entry))) n ⌝ }
 {
     if n < 45 { control(w, n) } else { 0 }
@@ -179,7 +179,7 @@ pub fn control_at(w: &[u32], n: u32) -> u32
 
 // The control register at an offset takes x.
 pub fn set_control(w: &mut [u32], n: u32, x: u32)
-    requires { ⌜ (length (now w) ≡ WORDS) × (n < 45) ⌝ }
+    requires { ⌜ MachineWords (now w) × (n < 45) ⌝ }
     ensures { λ _. ⌜ machineOf (now (w .exit)) ≡ withControl (set (machineOf (now (w .entry)) .control) n x) (machineOf (now (w .entry))) ⌝ }
 {
     w[CONTROL + n as usize] = x;
@@ -231,7 +231,7 @@ pub fn kept(offset: u32, x: u32) -> u32
 
 // A store of x to the control block at an offset.
 pub fn store_control(w: &mut [u32], offset: u32, x: u32)
-    requires { ⌜ length (now w) ≡ WORDS ⌝ }
+    requires { ⌜ MachineWords (now w) ⌝ }
     ensures { λ _. ⌜ machineOf (now (w .exit)) ≡ withControl (storedControl offset x (machineOf (now (w .entry)) .control)) (machineOf (now (w .entry))) ⌝ }
 {
     if writable(offset) {
@@ -250,7 +250,7 @@ pub fn protected(low: u32, high: u32, address: u32) -> bool
 
 // The program counter.
 pub fn pc(w: &[u32]) -> u32
-    requires { ⌜ length (now w) ≡ WORDS ⌝ }
+    requires { ⌜ MachineWords (now w) ⌝ }
     ensures { λ r. ⌜ r ≡ machineOf (now (w .entry)) .position .pc ⌝ }
 {
     w[PC]
@@ -258,7 +258,7 @@ pub fn pc(w: &[u32]) -> u32
 
 // 1 while a branch slot waits.
 pub fn slot(w: &[u32]) -> u32
-    requires { ⌜ length (now w) ≡ WORDS ⌝ }
+    requires { ⌜ MachineWords (now w) ⌝ }
     ensures { λ r. ⌜ r ≡ machineOf (now (w .entry)) .position .slot ⌝ }
 {
     w[SLOT]
@@ -266,7 +266,7 @@ pub fn slot(w: &[u32]) -> u32
 
 // Where control goes after the slot.
 pub fn target(w: &[u32]) -> u32
-    requires { ⌜ length (now w) ≡ WORDS ⌝ }
+    requires { ⌜ MachineWords (now w) ⌝ }
     ensures { λ r. ⌜ r ≡ machineOf (now (w .entry)) .position .target ⌝ }
 {
     w[TARGET]
@@ -274,7 +274,7 @@ pub fn target(w: &[u32]) -> u32
 
 // 1 while a product is held.
 pub fn held(w: &[u32]) -> u32
-    requires { ⌜ length (now w) ≡ WORDS ⌝ }
+    requires { ⌜ MachineWords (now w) ⌝ }
     ensures { λ r. ⌜ r ≡ machineOf (now (w .entry)) .position .held ⌝ }
 {
     w[HELD]
@@ -282,7 +282,7 @@ pub fn held(w: &[u32]) -> u32
 
 // The high word of the held product.
 pub fn high(w: &[u32]) -> u32
-    requires { ⌜ length (now w) ≡ WORDS ⌝ }
+    requires { ⌜ MachineWords (now w) ⌝ }
     ensures { λ r. ⌜ r ≡ machineOf (now (w .entry)) .position .high ⌝ }
 {
     w[HIGH]
@@ -290,7 +290,7 @@ pub fn high(w: &[u32]) -> u32
 
 // Its low word.
 pub fn low(w: &[u32]) -> u32
-    requires { ⌜ length (now w) ≡ WORDS ⌝ }
+    requires { ⌜ MachineWords (now w) ⌝ }
     ensures { λ r. ⌜ r ≡ machineOf (now (w .entry)) .position .low ⌝ }
 {
     w[LOW]
@@ -298,7 +298,7 @@ pub fn low(w: &[u32]) -> u32
 
 // The program position.
 pub fn position_of(w: &[u32]) -> Position
-    requires { ⌜ length (now w) ≡ WORDS ⌝ }
+    requires { ⌜ MachineWords (now w) ⌝ }
     ensures { λ r. ⌜ r ≡ machineOf (now (w .entry)) .position ⌝ }
 {
     Position {
@@ -313,7 +313,7 @@ pub fn position_of(w: &[u32]) -> Position
 
 // The program position takes p.
 pub fn set_position(w: &mut [u32], p: Position)
-    requires { ⌜ length (now w) ≡ WORDS ⌝ }
+    requires { ⌜ MachineWords (now w) ⌝ }
     ensures { λ _. ⌜ machineOf (now (w .exit)) ≡ withPosition p (machineOf (now (w .entry))) ⌝ }
 {
     w[PC] = p.pc;
@@ -328,7 +328,7 @@ pub fn set_position(w: &mut [u32], p: Position)
 
 // The number of interrupts in service.
 pub fn depth(w: &[u32]) -> u32
-    requires { ⌜ length (now w) ≡ WORDS ⌝ }
+    requires { ⌜ MachineWords (now w) ⌝ }
     ensures { λ r. ⌜ r ≡ length (machineOf (now (w .entry)) .stack) ⌝ }
 {
     w[DEPTH]
@@ -336,7 +336,7 @@ pub fn depth(w: &[u32]) -> u32
 
 // What the RETI_ registers show of the stack: its top, or 1, 9, 0 when it is empty.
 pub fn top(w: &[u32]) -> Entry
-    requires { ⌜ (length (now w) ≡ WORDS) × (length (machineOf (now w) .stack) ≤ 12) ⌝ }
+    requires { ⌜ MachineWords (now w) × (length (machineOf (now w) .stack) ≤ 12) ⌝ }
     ensures { λ r. ⌜ r ≡ shownTop (machineOf (now (w .entry)) .stack) ⌝ }
 {
     let n = depth(w) as usize;
@@ -360,7 +360,7 @@ pub fn top(w: &[u32]) -> Entry
 
 // INT_SERV takes flags, and the RETI_ registers show an entry.
 fn show(w: &mut [u32], flags: u32, e: Entry)
-    requires { ⌜ length (now w) ≡ WORDS ⌝ }
+    requires { ⌜ MachineWords (now w) ⌝ }
     ensures { λ _. ⌜ machineOf (now (w .exit)) ≡ withControl (showTop flags e (machineOf (now (w .entry)) .control)) (machineOf (now (w .entry))) ⌝ }
 {
     w[INT_SERV] = flags;
@@ -371,7 +371,7 @@ fn show(w: &mut [u32], flags: u32, e: Entry)
 
 // An entry goes on the stack, and the control block shows it.
 pub fn push(w: &mut [u32], e: Entry)
-    requires { ⌜ length (now w) ≡ WORDS ⌝ }
+    requires { ⌜ MachineWords (now w) ⌝ }
     requires flags { ⌜ controlAt (machineOf (now w)) INT-SERV ≡ serviceFlags (machineOf (now w) .stack) ⌝ }
     requires sources { ⌜ distinctBelow 12 (sourcesOf (e ∷ machineOf (now w) .stack)) ≡ true ⌝ }
     ensures { λ _. ⌜ machineOf (now (w .exit)) ≡ withStack (e ∷ machineOf (now (w .entry)) .stack) (machineOf (now (w .entry))) ⌝ }
@@ -389,7 +389,7 @@ pub fn push(w: &mut [u32], e: Entry)
 
 // The top leaves the stack, and the control block shows the rest.
 pub fn pop(w: &mut [u32])
-    requires { ⌜ length (now w) ≡ WORDS ⌝ }
+    requires { ⌜ MachineWords (now w) ⌝ }
     requires flags { ⌜ controlAt (machineOf (now w)) INT-SERV ≡ serviceFlags (machineOf (now w) .stack) ⌝ }
     requires sources { ⌜ distinctBelow 12 (sourcesOf (machineOf (now w) .stack)) ≡ true ⌝ }
     requires entry { ⌜ 0 < length (machineOf (now w) .stack) ⌝ }

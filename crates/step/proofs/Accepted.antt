@@ -14,7 +14,7 @@ use Rattle.machine.specs.Machine.{Machine}
 use Rattle.machine.specs.Control.{controlAt, INT-MASK, INT-PEND}
 use Rattle.machine.specs.Stack.{sourcesOf}
 use Rattle.machine.specs.declared.Entry.{Entry}
-use Rattle.decide.specs.View.{View}
+use Rattle.view.specs.View.{View}
 use Rattle.step.specs.Interrupt.{priority, belowAll, eligible, before, candidate, mayAccept, acceptedSource}
 use Rattle.word.proofs.Tests.{if-holds}
 

@@ -18,12 +18,12 @@ use Rattle.machine.specs.Control.{controlAt, registers, registerAt, holdsAs, IN
 use Rattle.machine.proofs.Lists.{each-set}
 use Rattle.machine.proofs.Registers.{holds-small}
 use Rattle.image.proofs.Formed.{sized-set, StatusOk, registers-below, Stacked, pushed, stacked-depth, WellFormed}
-use Rattle.decide.specs.View.{View, view}
-use Rattle.apply.specs.Apply.{writeRegister, writeFlags, unpacked, wordsOn, nextPc, advance, advanceHolding, jumpTo, raise, systemCall, userReturn, interruptReturn, enableInterrupts, switchWidth, selectSets, machineOnly, storeCell, apply}
+use Rattle.view.specs.View.{View, view}
+use Rattle.effect.specs.Apply.{writeRegister, writeFlags, unpacked, wordsOn, nextPc, advance, advanceHolding, jumpTo, raise, systemCall, userReturn, interruptReturn, enableInterrupts, switchWidth, selectSets, machineOnly, storeCell, apply}
 use Rattle.execute.specs.Decide.{decide}
 use Rattle.step.specs.Interrupt.{withPending, withRequests, acceptedSource, servicePsr, entryFor, accept}
 use Rattle.step.specs.Step.{interruptOr, step}
-use Rattle.apply.specs.Effect.{Effect, Stopped, Raised, Next, Result, ResultFlags, ResultProduct, Compare, Conditions, StoreControl, StoreCell, Jump, JumpLink, EnableInterrupts, SwitchWidth, SystemCall, InterruptReturn, UserReturn, SelectSets}
+use Rattle.effect.specs.Effect.{Effect, Stopped, Raised, Next, Result, ResultFlags, ResultProduct, Compare, Conditions, StoreControl, StoreCell, Jump, JumpLink, EnableInterrupts, SwitchWidth, SystemCall, InterruptReturn, UserReturn, SelectSets}
 use Rattle.execute.proofs.Safe.{Safe, decide-safe}
 use Rattle.word.proofs.Tests.{if-holds}
 use Rattle.step.proofs.Stored.{control-of, control-put, control-stored, top-shown, rest-stacked}
@@ -273,7 +273,7 @@ step-formed p s q f =
 
 -- what holds of it and goes on holding when a cell takes a word holds after an effect, and after a step
 module _ (P : List ℕ → Type 0) (more : (l : List ℕ) (a x : ℕ) → P l → P (set l a (x % 2 ^ 32))) where
-  pub apply-cells : (e : Effect) (s : State) → P (s .cells) → P (apply e s .after .cells)
+  pub apply-cells : (e : Effect) (s : State) → P (s .memory .cells) → P (apply e s .after .cells)
   unfolding apply machineOnly storeCell
   apply-cells (Stopped n) s h = h
   apply-cells (Raised c) s h = h
@@ -284,7 +284,7 @@ module _ (P : List ℕ → Type 0) (more : (l : List ℕ) (a x : ℕ) → P l �
   apply-cells (Compare c x) s h = h
   apply-cells (Conditions x) s h = h
   apply-cells (StoreControl n x) s h = h
-  apply-cells (StoreCell a x) s h = more (s .cells) a x h
+  apply-cells (StoreCell a x) s h = more (s .memory .cells) a x h
   apply-cells (Jump t) s h = h
   apply-cells (JumpLink t) s h = h
   apply-cells (EnableInterrupts e) s h = h
@@ -294,16 +294,16 @@ module _ (P : List ℕ → Type 0) (more : (l : List ℕ) (a x : ℕ) → P l �
   apply-cells UserReturn s h = h
   apply-cells (SelectSets n) s h = h
 
-  pub step-cells : (program : List ℕ) (s : State) (requests : ℕ) → P (s .cells) → P (step program s requests .after .cells)
+  pub step-cells : (program : List ℕ) (s : State) (requests : ℕ) → P (s .memory .cells) → P (step program s requests .after .cells)
   unfolding withRequests
   step-cells p s q h =
       let r = withRequests q s in
       step-holds (λ (t : State). P (t .cells)) p s q h (λ n a. h) (apply-cells (decide (view p r)) r h)
 
 -- as many cells as before
-pub step-count : (program : List ℕ) (s : State) (requests : ℕ) → length (step program s requests .after .cells) ≡ length (s .cells)
-step-count p s q = step-cells (λ (l : List ℕ). length l ≡ length (s .cells)) (λ l a x h. length-set l a (x % 2 ^ 32) ∙ h) p s q refl
+pub step-count : (program : List ℕ) (s : State) (requests : ℕ) → length (step program s requests .after .cells) ≡ length (s .memory .cells)
+step-count p s q = step-cells (λ (l : List ℕ). length l ≡ length (s .memory .cells)) (λ l a x h. length-set l a (x % 2 ^ 32) ∙ h) p s q refl
 
 -- and each of them a word
-pub step-words : (program : List ℕ) (s : State) (requests : ℕ) → Below (2 ^ 32) (s .cells) → Below (2 ^ 32) (step program s requests .after .cells)
+pub step-words : (program : List ℕ) (s : State) (requests : ℕ) → Below (2 ^ 32) (s .memory .cells) → Below (2 ^ 32) (step program s requests .after .cells)
 step-words p s q h = step-cells (Below (2 ^ 32)) (λ l a x b. each-set (λ j y. y < 2 ^ 32) l a (x % 2 ^ 32) b (mod-lt x (lit< tt))) p s q h

@@ -7,12 +7,12 @@ use Prim.Native.Nat.{ℕ, _≤_}
 use native.Mathlib.Omega.{arith}
 use Rattle.word.proofs.Tests.{false-unless}
 use Rattle.machine.specs.Machine.{State}
-use Rattle.decide.specs.View.{View, view}
+use Rattle.view.specs.View.{View, view}
 use Rattle.execute.specs.Decide.{decide}
-use Rattle.apply.specs.Effect.{Effect, Stopped, Raised, Next, Result, ResultFlags, ResultProduct, Compare, Conditions, StoreControl, StoreCell, Jump, JumpLink, EnableInterrupts, SwitchWidth, SystemCall, InterruptReturn, UserReturn, SelectSets}
-use Rattle.apply.specs.Apply.{Transition, machineOnly, storeCell, apply, stopNumber}
-use Rattle.apply.specs.Kind.{Kind}
-use Rattle.apply.specs.Kind as kind
+use Rattle.effect.specs.Effect.{Effect, Stopped, Raised, Next, Result, ResultFlags, ResultProduct, Compare, Conditions, StoreControl, StoreCell, Jump, JumpLink, EnableInterrupts, SwitchWidth, SystemCall, InterruptReturn, UserReturn, SelectSets}
+use Rattle.effect.specs.Apply.{Transition, machineOnly, storeCell, apply, stopNumber}
+use Rattle.effect.specs.Kind.{Kind}
+use Rattle.effect.specs.Kind as kind
 use Rattle.step.specs.Interrupt.{withRequests, acceptedSource}
 use Rattle.step.specs.Step.{isStop, interruptOr, step}
 use Rattle.execute.proofs.Safe.{Safe, decide-safe}

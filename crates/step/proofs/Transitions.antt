@@ -8,10 +8,10 @@ use Rattle.word.specs.Choice.{if_then_else_}
 use Rattle.word.specs.Arithmetic.{orOf}
 use Rattle.machine.specs.Machine.{State}
 use Rattle.machine.specs.Control.{controlAt, INT-PEND}
-use Rattle.decide.specs.View.{view}
+use Rattle.view.specs.View.{view}
 use Rattle.execute.specs.Decide.{decide}
-use Rattle.apply.specs.Effect.{Effect, Stopped, Raised, Next, Result, ResultFlags, ResultProduct, Compare, Conditions, StoreControl, StoreCell, Jump, JumpLink, EnableInterrupts, SwitchWidth, SystemCall, InterruptReturn, UserReturn, SelectSets}
-use Rattle.apply.specs.Apply.{Transition, machineOnly, storeCell, apply, stopNumber, Told, told}
+use Rattle.effect.specs.Effect.{Effect, Stopped, Raised, Next, Result, ResultFlags, ResultProduct, Compare, Conditions, StoreControl, StoreCell, Jump, JumpLink, EnableInterrupts, SwitchWidth, SystemCall, InterruptReturn, UserReturn, SelectSets}
+use Rattle.effect.specs.Apply.{Transition, machineOnly, storeCell, apply, stopNumber, Report, reported}
 use Rattle.step.specs.Interrupt.{withPending, withRequests, acceptedSource, accept}
 use Rattle.step.specs.Step.{isStop, interruptOr, step}
 use Rattle.step.proofs.Requests.{pending-back}
@@ -47,21 +47,21 @@ requests-back requests s = rw (pending-back (s .machine) (orOf (controlAt (s .ma
 -- r is the state with the requests added
 module _ (program : List ℕ) (s : State) (requests : ℕ) (r : State) (added : r ≡ withRequests requests s) where
   pub step-accepts : (n : ℕ) → acceptedSource (view program r) (r .machine) ≡ some n
-      → record { stop = 0; after = record { machine = accept n (r .machine); cells = r .cells } } ≡ told (step program s requests)
-  unfolding step interruptOr machineOnly isStop if_then_else_ told stopNumber
+      → record { stop = 0; after = record { machine = accept n (r .machine); cells = r .cells } } ≡ reported (step program s requests)
+  unfolding step interruptOr machineOnly isStop if_then_else_ reported stopNumber
   step-accepts n o = rw (← added, o)
 
   -- no source is accepted: the instruction is carried out, and t is what that tells
-  module _ (t : Told) (o : acceptedSource (view program r) (r .machine) ≡ none) (done : t ≡ told (apply (decide (view program r)) r)) where
+  module _ (t : Report) (o : acceptedSource (view program r) (r .machine) ≡ none) (done : t ≡ reported (apply (decide (view program r)) r)) where
     abbrev instruction : Transition
     instruction = apply (decide (view program r)) r
 
     number : t .stop ≡ stopNumber (instruction .kind)
-    unfolding told
-    number = ap (λ (u : Told). u .stop) done
+    unfolding reported
+    number = ap (λ (u : Report). u .stop) done
 
-    pub step-goes-on : t .stop ≡ 0 → t ≡ told (step program s requests)
-    unfolding step interruptOr if_then_else_ told
+    pub step-goes-on : t .stop ≡ 0 → t ≡ reported (step program s requests)
+    unfolding step interruptOr if_then_else_ reported
     step-goes-on z =
         let g = numbered-step (instruction .kind) (instruction-numbered (view program r) r) (sym number ∙ z) in
         done ∙ rw (← added, o, g)
@@ -69,10 +69,10 @@ module _ (program : List ℕ) (s : State) (requests : ℕ) (r : State) (added : 
     -- INT_PEND is put back
     pub step-stops : (t .stop ≡ 0 → ⊥)
         → record { stop = t .stop; after = record { machine = withPending (controlAt (s .machine) INT-PEND) (t .after .machine); cells = t .after .cells } }
-        ≡ told (step program s requests)
-    unfolding step interruptOr if_then_else_ told
+        ≡ reported (step program s requests)
+    unfolding step interruptOr if_then_else_ reported
     step-stops z =
         let g = numbered-stop (instruction .kind) (λ e. z (number ∙ e)) in
-        let same : t .after ≡ withRequests requests s = ap (λ (u : Told). u .after) done ∙ stopped-same (decide (view program r)) r g ∙ added in
+        let same : t .after ≡ withRequests requests s = ap (λ (u : Report). u .after) done ∙ stopped-same (decide (view program r)) r g ∙ added in
         let back = ap (λ (u : State). record { machine = withPending (controlAt (s .machine) INT-PEND) (u .machine); cells = u .cells }) same ∙ requests-back requests s in
         rw (back, number, ← added, o, g)

@@ -16,9 +16,9 @@ use Rattle.machine.specs.Control.{controlAt, INT-VECTORS, INT-MODE-IL, INT-MODE
 use Rattle.machine.specs.Stack.{withStack}
 use Rattle.machine.specs.declared.Position.{Position}
 use Rattle.machine.specs.declared.Entry.{Entry}
-use Rattle.decide.specs.View.{View}
-use Rattle.decide.specs.declared.Fetched.{Fetched}
-use Rattle.decide.specs.declared.Fetched.the-variants.{Word, Fault, Absent}
+use Rattle.view.specs.View.{View}
+use Rattle.view.specs.declared.Fetched.{Fetched}
+use Rattle.view.specs.declared.Fetched.the-variants.{Word, Fault, Absent}
 
 -- ---- requests
 
@@ -30,7 +30,7 @@ abbrev pub addRequests : (requests : ℕ) → Machine → Machine
 addRequests requests m = withPending (orOf (controlAt m INT-PEND) requests % 2 ^ 12) m
 
 unfoldable pub withRequests : (requests : ℕ) → State → State
-withRequests requests s = record { machine = addRequests requests (s .machine); cells = s .cells }
+withRequests requests s = record { machine = addRequests requests (s .machine); memory = s .memory }
 
 -- ---- which source is accepted
 

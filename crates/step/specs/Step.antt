@@ -5,11 +5,11 @@ use mathlib.Core.Option.{Option, none, some}
 use Prim.Native.Nat.{ℕ}
 use Rattle.word.specs.Choice.{if_then_else_}
 use Rattle.machine.specs.Machine.{State}
-use Rattle.decide.specs.View.{View, view}
+use Rattle.view.specs.View.{View, view}
 use Rattle.execute.specs.Decide.{decide}
-use Rattle.apply.specs.Apply.{Transition, machineOnly, apply}
+use Rattle.effect.specs.Apply.{Transition, machineOnly, apply}
 use Rattle.step.specs.Interrupt.{withRequests, acceptedSource, accept}
-use Rattle.apply.specs.Kind.{Kind, Ordinary, Interrupt, SystemCall, InterruptReturn, Exception, Stop}
+use Rattle.effect.specs.Kind.{Kind, Ordinary, Interrupt, SystemCall, InterruptReturn, Exception, Stop}
 
 unfoldable pub isStop : Kind → Bool
 isStop Ordinary = false

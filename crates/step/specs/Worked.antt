@@ -4,13 +4,13 @@ use mathlib.Core.List.{List, [], _∷_}
 use Prim.Native.Nat.{ℕ, _+_, _*_, _/_, _%_, _^_}
 use lib.ListN.{getD, set, replicate}
 use Rattle.isa.specs.Operation.{Operation, add, sub, subu, muls, mulu, mulus, ld, jmp, Properties, properties}
-use Rattle.machine.specs.Machine.{Machine, State, PSR, positionAt}
+use Rattle.machine.specs.Machine.{Machine, memoryOf, State, PSR, positionAt}
 use Rattle.machine.specs.declared.Position.{Position}
 use Rattle.machine.specs.Control.{reset, DMEM-BOUND-LO, DMEM-BOUND-HI, IMEM-BOUND-LO, IMEM-BOUND-HI}
 use Rattle.codec.specs.Number.{bytesOf}
-use Rattle.apply.specs.Apply.{Transition}
+use Rattle.effect.specs.Apply.{Transition}
 use Rattle.step.specs.Step.{step}
-use Rattle.apply.specs.Kind.{Kind, Ordinary, Exception}
+use Rattle.effect.specs.Kind.{Kind, Ordinary, Exception}
 
 pub record Case : Type 0 where
   pub psr : ℕ
@@ -35,7 +35,7 @@ start c =
         position = positionAt 0;
         stack = [];
       };
-      cells = replicate 32 77;
+      memory = memoryOf (replicate 32 77);
     }
 
 abbrev word : ℕ → List ℕ

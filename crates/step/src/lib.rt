@@ -1,22 +1,21 @@
 // One step: requests, an interrupt accepted, or an instruction.
 ghost use mathlib.Core.Path.{_≡_};
 ghost use mathlib.Core.Bool.{true, false};
-ghost use mathlib.Core.List.{List};
-ghost use Prim.Native.Nat.{ℕ, _≤_, _<_};
+ghost use Prim.Native.Nat.{_≤_, _<_};
 ghost use lib.ListN.{length};
 ghost use Rattle.word.specs.Flags.{isAmong};
-ghost use Rattle.machine.specs.Machine.{psr, widthOf};
+ghost use Rattle.machine.specs.Machine.{psr, widthOf, Memory, memoryOf};
 ghost use Rattle.machine.specs.Stack.{sourcesOf};
-ghost use Rattle.machine.specs.Words.{WORDS, machineOf};
+ghost use Rattle.machine.specs.Words.{MachineWords, machineOf, stateOf};
 ghost use Rattle.image.specs.Questions.{wellFormed};
-ghost use Rattle.decide.specs.View.{viewOf};
-ghost use Rattle.apply.specs.Apply.{stateOf, told, toldBy};
+ghost use Rattle.view.specs.View.{viewOf};
+ghost use Rattle.effect.specs.Apply.{reported, reportBy};
 ghost use Rattle.step.specs.Interrupt.{addRequests, priority, candidate, isMulhi, mayAccept, acceptedSource, servicePsr, entryFor, accept};
 ghost use Rattle.step.specs.Step.{step};
 ghost use Rattle.step.specs.Search.{sourceNumber, waiting, mostUrgent, serviceFloor};
-use decide::Fetched;
 use machine::Entry;
 use machine::Position;
+use view::Fetched;
 
 // Bits of PSR (002 section 2.4): 32-bit words, interrupts enabled.
 const IL: u32 = 3;
@@ -50,7 +49,7 @@ const SOURCES: u32 = 12;
 
 // The step's requests are added to INT_PEND.
 fn add_requests(w: &mut [u32], requests: u32)
-    requires { ⌜ (length (now w) ≡ WORDS) × (wellFormed (machineOf (now w)) ≡ true) ⌝ }
+    requires { ⌜ MachineWords (now w) × (wellFormed (machineOf (now w)) ≡ true) ⌝ }
     ensures { λ _. ⌜ machineOf (now (w .exit)) ≡ addRequests requests (machineOf (now (w .entry))) ⌝ }
 {
     let flags = word::or(machine::control(w, INT_PEND), requests);
@@ -61,7 +60,7 @@ fn add_requests(w: &mut [u32], requests: u32)
 
 // The priority number of a source.
 fn priority(w: &[u32], n: u32) -> u32
-    requires { ⌜ (length (now w) ≡ WORDS) × (n < 12) ⌝ }
+    requires { ⌜ MachineWords (now w) × (n < 12) ⌝ }
     ensures { λ r. ⌜ r ≡ priority (machineOf (now (w .entry))) n ⌝ }
 {
     if n < 4 {
@@ -73,7 +72,7 @@ fn priority(w: &[u32], n: u32) -> u32
 
 // Of the sources whose flags are 1 the one with the smallest priority number below a bound; ties to the lower source.
 fn most_urgent(w: &[u32], flags: u32, bound: u32) -> u32
-    requires { ⌜ length (now w) ≡ WORDS ⌝ }
+    requires { ⌜ MachineWords (now w) ⌝ }
     ensures { λ r. ⌜ r ≡ sourceNumber (mostUrgent flags bound (machineOf (now (w .entry))) 12) ⌝ }
 {
     if flags == 0 {
@@ -95,7 +94,7 @@ fn most_urgent(w: &[u32], flags: u32, bound: u32) -> u32
 
 // The smallest priority number in service; 16, above all, when nothing is.
 fn service_floor(w: &[u32]) -> u32
-    requires { ⌜ length (now w) ≡ WORDS ⌝ }
+    requires { ⌜ MachineWords (now w) ⌝ }
     ensures { λ r. ⌜ r ≡ serviceFloor (machineOf (now (w .entry))) ⌝ }
 {
     let n = most_urgent(w, machine::control(w, INT_SERV), 16);
@@ -104,7 +103,7 @@ fn service_floor(w: &[u32]) -> u32
 
 // The flags of the sources that are pending and have INT_MASK 1.
 fn waiting(w: &[u32]) -> u32
-    requires { ⌜ length (now w) ≡ WORDS ⌝ }
+    requires { ⌜ MachineWords (now w) ⌝ }
     ensures { λ r. ⌜ r ≡ waiting (machineOf (now (w .entry))) ⌝ }
 {
     word::and(machine::control(w, INT_PEND), machine::control(w, INT_MASK))
@@ -112,7 +111,7 @@ fn waiting(w: &[u32]) -> u32
 
 // The source to accept: pending, INT_MASK 1, a priority number below all in service; smallest number first, ties to the lower source.
 fn candidate(w: &[u32]) -> u32
-    requires { ⌜ (length (now w) ≡ WORDS) × (wellFormed (machineOf (now w)) ≡ true) ⌝ }
+    requires { ⌜ MachineWords (now w) × (wellFormed (machineOf (now w)) ≡ true) ⌝ }
     ensures { λ r. ⌜ r ≡ sourceNumber (candidate (machineOf (now (w .entry))) 12) ⌝ }
 {
     most_urgent(w, waiting(w), service_floor(w))
@@ -122,10 +121,10 @@ fn candidate(w: &[u32]) -> u32
 
 // The next word, with no 05h, 00h or stop 11 for it, is mulhi.
 fn next_is_mulhi(program: &[u8], w: &[u32]) -> bool
-    requires { ⌜ length (now w) ≡ WORDS ⌝ }
-    ensures { λ r. ⌜ ((cells : List ℕ) → r ≡ isMulhi (widthOf (psr (machineOf (now (w .entry))))) (viewOf (now (program .entry)) (now (w .entry)) cells .fetched)) ⌝ }
+    requires { ⌜ MachineWords (now w) ⌝ }
+    ensures { λ r. ⌜ ((memory : Memory) → r ≡ isMulhi (widthOf (psr (machineOf (now (w .entry))))) (viewOf (now (program .entry)) (now (w .entry)) memory .fetched)) ⌝ }
 {
-    let fetched = decide::fetch(program, w);
+    let fetched = view::fetch(program, w);
     match fetched {
         Fetched::Word(word) => isa::opcode(word, word::has_flag(machine::psr(w), IL)) == MULHI,
         Fetched::Fault(_) => false,
@@ -135,8 +134,8 @@ fn next_is_mulhi(program: &[u8], w: &[u32]) -> bool
 
 // IE is 1, no branch slot waits, and not (a product is held and the next word is mulhi).
 fn may_accept(program: &[u8], w: &[u32]) -> bool
-    requires { ⌜ length (now w) ≡ WORDS ⌝ }
-    ensures { λ r. ⌜ ((cells : List ℕ) → r ≡ mayAccept (viewOf (now (program .entry)) (now (w .entry)) cells)) ⌝ }
+    requires { ⌜ MachineWords (now w) ⌝ }
+    ensures { λ r. ⌜ ((memory : Memory) → r ≡ mayAccept (viewOf (now (program .entry)) (now (w .entry)) memory)) ⌝ }
 {
     if word::has_flag(machine::psr(w), IE) & (machine::slot(w) != 1) {
         if machine::held(w) == 1 {
@@ -151,8 +150,8 @@ fn may_accept(program: &[u8], w: &[u32]) -> bool
 
 // The source accepted in this step.
 fn accepted_source(program: &[u8], w: &[u32]) -> u32
-    requires { ⌜ (length (now w) ≡ WORDS) × (wellFormed (machineOf (now w)) ≡ true) ⌝ }
-    ensures { λ r. ⌜ ((cells : List ℕ) → r ≡ sourceNumber (acceptedSource (viewOf (now (program .entry)) (now (w .entry)) cells) (machineOf (now (w .entry))))) ⌝ }
+    requires { ⌜ MachineWords (now w) × (wellFormed (machineOf (now w)) ≡ true) ⌝ }
+    ensures { λ r. ⌜ ((memory : Memory) → r ≡ sourceNumber (acceptedSource (viewOf (now (program .entry)) (now (w .entry)) memory) (machineOf (now (w .entry))))) ⌝ }
 {
     if waiting(w) == 0 {
         SOURCES
@@ -167,7 +166,7 @@ fn accepted_source(program: &[u8], w: &[u32]) -> u32
 
 // PSR of a service routine: IE 0; IL and UM by the mode registers; both set bits 1 for super user, else 0.
 fn service_psr(w: &[u32], n: u32) -> u32
-    requires { ⌜ (length (now w) ≡ WORDS) × (n < 12) ⌝ }
+    requires { ⌜ MachineWords (now w) × (n < 12) ⌝ }
     ensures { λ r. ⌜ r ≡ servicePsr n (machineOf (now (w .entry))) ⌝ }
 {
     let wide = word::has_flag(machine::control(w, INT_MODE_IL), n) as u32;
@@ -180,7 +179,7 @@ fn service_psr(w: &[u32], n: u32) -> u32
 
 // PC, PSR and C0 as they go on the stack.
 fn entry_for(w: &[u32], n: u32) -> Entry
-    requires { ⌜ length (now w) ≡ WORDS ⌝ }
+    requires { ⌜ MachineWords (now w) ⌝ }
     ensures { λ r. ⌜ r ≡ entryFor n (machineOf (now (w .entry))) ⌝ }
 {
     Entry {
@@ -193,7 +192,7 @@ fn entry_for(w: &[u32], n: u32) -> Entry
 
 // Source n is accepted: its flag moves from pending to in service, PC, PSR and C0 go on the stack, PC takes the vector.
 fn accept(w: &mut [u32], n: u32)
-    requires { ⌜ (length (now w) ≡ WORDS) × (wellFormed (machineOf (now w)) ≡ true) ⌝ }
+    requires { ⌜ MachineWords (now w) × (wellFormed (machineOf (now w)) ≡ true) ⌝ }
     requires new { ⌜ (n < 12) × (isAmong n (sourcesOf (machineOf (now w) .stack)) ≡ false) ⌝ }
     ensures { λ _. ⌜ machineOf (now (w .exit)) ≡ accept n (machineOf (now (w .entry))) ⌝ }
 {
@@ -221,8 +220,8 @@ fn accept(w: &mut [u32], n: u32)
 
 // One step with its requests, which gives 0; or a stop, which gives its number and leaves everything as before it.
 pub fn step(program: &[u8], w: &mut [u32], cells: &mut [u32], requests: u32) -> u32
-    requires { ⌜ (length (now w) ≡ WORDS) × (length (now program) ≤ 65536) × (wellFormed (machineOf (now w)) ≡ true) ⌝ }
-    ensures { λ r. ⌜ toldBy r (now (w .exit)) (now (cells .exit)) ≡ told (step (now (program .entry)) (stateOf (now (w .entry)) (now (cells .entry))) requests) ⌝ }
+    requires { ⌜ MachineWords (now w) × (length (now program) ≤ 65536) × (wellFormed (machineOf (now w)) ≡ true) ⌝ }
+    ensures { λ r. ⌜ reportBy r (now (w .exit)) (memoryOf (now (cells .exit))) ≡ reported (step (now (program .entry)) (stateOf (now (w .entry)) (memoryOf (now (cells .entry)))) requests) ⌝ }
 {
     let pending = machine::control(w, INT_PEND);
     add_requests(w, requests);

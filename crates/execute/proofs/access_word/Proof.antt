@@ -3,7 +3,7 @@ use mathlib.Core.Path.{_≡_, refl, sym, _∙_}
 use native.Mathlib.Omega.{arith}
 use denote.Ref.{now}
 use borrow.Author.Needs.{needs}
-use Rattle.machine.specs.Machine.{widthOf}
+use Rattle.machine.specs.Machine.{widthOf, memoryOf}
 use Rattle.execute.proofs.Tests.{Decoded, decoded, low-skipped, low-performed}
 use Rattle.execute.proofs.access_word.Statement.{statement}
 use Rattle.execute.proofs.access_word.Tie as tie
@@ -31,19 +31,19 @@ returns : tie.Need-returns
 returns c p =
     let tested = c .before .before .before .before .before in
     let d = tested .before .before in
-    let cells = now (entry d .args .cells) in
-    c .before .before .next .ensures cells
-    ∙ sym (low-skipped p _ cells (given d) (omega arith) (sym (tested .condition-false .ensures p cells) ∙ c .before .before .before .before .if1 .taken))
+    let memory = memoryOf (now (entry d .args .cells)) in
+    c .before .before .next .ensures memory
+    ∙ sym (low-skipped p _ memory (given d) (omega arith) (sym (tested .condition-false .ensures p memory) ∙ c .before .before .before .before .if1 .taken))
 
 returns-2 : tie.Need-returns-2
 returns-2 c p =
     let read = c .before .before .before .before .before .before .before in
     let left = read .before .before in
     let d = left .before .before .before in
-    let cells = now (entry d .args .cells) in
+    let memory = memoryOf (now (entry d .args .cells)) in
     c .before .before .before .before .access .ensures p _
-    ∙ sym (low-performed p _ cells (given d) (omega arith) (sym (left .before .condition-false .ensures p cells) ∙ left .if1 .left)
-    _ _ (read .source .ensures p cells) refl)
+    ∙ sym (low-performed p _ memory (given d) (omega arith) (sym (left .before .condition-false .ensures p memory) ∙ left .if1 .left)
+    _ _ (read .source .ensures p memory) refl)
 
 pub access-word-spec : {M : Type 1} → statement M
 access-word-spec =

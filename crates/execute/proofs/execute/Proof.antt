@@ -3,14 +3,14 @@ use mathlib.Core.Path.{_≡_, sym, ap, _∙_}
 use native.Mathlib.Omega.{arith}
 use denote.Ref.{now}
 use borrow.Author.Needs.{needs}
-use Rattle.machine.specs.Machine.{psr, widthOf}
+use Rattle.machine.specs.Machine.{psr, widthOf, memoryOf}
 use Rattle.machine.specs.Words.{machineOf}
-use Rattle.decide.specs.View.{View, view, viewOf}
-use Rattle.apply.specs.Effect.{Effect}
+use Rattle.view.specs.View.{View, view, viewOf}
+use Rattle.effect.specs.Effect.{Effect}
 use Rattle.execute.specs.Decide.{fetchedThen, decide}
-use Rattle.decide.specs.declared.Fetched.{Fetched}
-use Rattle.decide.proofs.Bytes.{bytes-positive, fetched-inside}
-use Rattle.apply.specs.Apply.{apply, stopNumber, told, effectOn}
+use Rattle.view.specs.declared.Fetched.{Fetched}
+use Rattle.view.proofs.Bytes.{bytes-positive, fetched-inside}
+use Rattle.effect.specs.Apply.{apply, stopNumber, reported, reportOn}
 use Rattle.execute.proofs.execute.Statement.{statement}
 use Rattle.execute.proofs.execute.Tie as tie
 
@@ -20,13 +20,13 @@ entry c = c .before .before .before .before .before
 -- what was fetched decides
 given : (c : tie.After-fetch) (f : Fetched) → c .fetch .result ≡ f
     → let a = entry c .args in
-    let v = viewOf (now (a .program)) (now (a .w)) (now (a .cells)) in
-    effectOn (fetchedThen v f) (now (a .w)) (now (a .cells)) ≡ effectOn (decide v) (now (a .w)) (now (a .cells))
+    let v = viewOf (now (a .program)) (now (a .w)) (memoryOf (now (a .cells))) in
+    reportOn (fetchedThen v f) (now (a .w)) (memoryOf (now (a .cells))) ≡ reportOn (decide v) (now (a .w)) (memoryOf (now (a .cells)))
 unfolding decide
 given c f e =
     let a = entry c .args in
-    let cells = now (a .cells) in
-    ap (λ (f : Fetched). effectOn (fetchedThen (viewOf (now (a .program)) (now (a .w)) cells) f) (now (a .w)) cells) (sym e ∙ c .fetch .ensures cells)
+    let memory = memoryOf (now (a .cells)) in
+    ap (λ (f : Fetched). reportOn (fetchedThen (viewOf (now (a .program)) (now (a .w)) memory) f) (now (a .w)) memory) (sym e ∙ c .fetch .ensures memory)
 
 instruction-requires : tie.Need-instruction-requires
 unfolding view
@@ -34,7 +34,7 @@ instruction-requires c κs =
     let f = c .before .before .before .before .before in
     let a = entry f .args in
     let n = bytes-positive (widthOf (psr (machineOf (now (a .w))))) in
-    let l = fetched-inside (now (a .program)) _ _ _ _ _ _ n (sym (f .fetch .ensures (now (a .cells))) ∙ c .before .before .before .fetched .given .1) in
+    let l = fetched-inside (now (a .program)) _ _ _ _ _ _ n (sym (f .fetch .ensures (memoryOf (now (a .cells)))) ∙ c .before .before .before .fetched .given .1) in
     let p = entry f .pre .1 in
     (search needs, omega arith, entry f .pre .2)
 
@@ -47,11 +47,11 @@ returns-2 : tie.Need-returns-2
 unfolding fetchedThen
 returns-2 c =
     let match = c .before .before .before .before .before .before in
-    c .before .before .raise .ensures (now (entry (match .before) .args .cells)) ∙ given (match .before) _ (c .before .before .before .before .before .fetched2 .given .1)
+    c .before .before .raise .ensures (memoryOf (now (entry (match .before) .args .cells))) ∙ given (match .before) _ (c .before .before .before .before .before .fetched2 .given .1)
 
 returns-3 : tie.Need-returns-3
-unfolding fetchedThen effectOn told stopNumber apply
-returns-3 c = given (c .before .before) _ (c .enum-told .given .1)
+unfolding fetchedThen reportOn reported stopNumber apply
+returns-3 c = given (c .before .before) _ (c .enum-reported .given .1)
 
 pub execute-spec : {M : Type 1} → statement M
 execute-spec =

@@ -5,7 +5,7 @@ use denote.Ref.{now}
 use borrow.Author.Needs.{needs}
 use Rattle.isa.specs.Operation.{widthBy}
 use Rattle.isa.specs.Decode.{opcodeOf}
-use Rattle.machine.specs.Machine.{psr, widthOf}
+use Rattle.machine.specs.Machine.{psr, widthOf, memoryOf}
 use Rattle.machine.specs.Words.{machineOf}
 use Rattle.execute.proofs.instruction.Statement.{statement}
 use Rattle.execute.proofs.instruction.Tie as tie
@@ -24,7 +24,7 @@ upper-half-requires : tie.Need-upper-half-requires
 upper-half-requires c κs = let o = c .before .before in (search needs, entry o .pre .1, entry o .pre .2, number o, search needs)
 
 returns-2 : tie.Need-returns-2
-returns-2 c p = let o = c .before .before .before .before .before in c .before .before .upper-half .ensures p (now (entry o .args .cells))
+returns-2 c p = let o = c .before .before .before .before .before in c .before .before .upper-half .ensures p (memoryOf (now (entry o .args .cells)))
 
 pub instruction-spec : {M : Type 1} → statement M
 instruction-spec = tie.close (tie.spec (λ c κs. search needs) (λ c κs. search needs) lower-half-requires upper-half-requires (λ c. search needs) (λ c. search needs) (λ c. search needs) (λ c. search needs) returns-2)

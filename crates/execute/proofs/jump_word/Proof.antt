@@ -10,7 +10,7 @@ use Rattle.isa.specs.Operation.{operationOf, Properties, properties, unavailabl
 use Rattle.machine.specs.Machine.{Machine, psr, userMode, widthOf}
 use Rattle.machine.specs.Words.{machineOf}
 use Rattle.machine.specs.declared.Position.{Position}
-use Rattle.apply.specs.Apply.{apply, stopNumber, told, effectOn}
+use Rattle.effect.specs.Apply.{apply, stopNumber, reported, reportOn}
 use Rattle.execute.proofs.Groups.{usable-jump, transfers}
 use Rattle.execute.proofs.Tests.{Decoded, decoded, decoded-word, word-in-slot, word-skipped, word-performed}
 use Rattle.execute.proofs.jump_word.Statement.{statement}
@@ -32,10 +32,10 @@ usable : (c : tie.After-decode-jump) → let m = machineOf (now (entry c .args .
 usable c = usable-jump _ _ (entry c .args .op) (omega arith) (omega arith)
 
 returns : tie.Need-returns
-unfolding effectOn told stopNumber apply
-returns c p cells =
+unfolding reportOn reported stopNumber apply
+returns c p memory =
     let s = c .before .before .before .before in
-    sym (word-in-slot p _ cells (decoded-word (now (s .args .w)) _ _ (s .pre .2)) (usable-jump _ _ (s .args .op) (omega arith) (omega arith))
+    sym (word-in-slot p _ memory (decoded-word (now (s .args .w)) _ _ (s .pre .2)) (usable-jump _ _ (s .args .op) (omega arith) (omega arith))
     (rw (transfers (s .args .op) (omega arith) (omega arith), ← (c .before .slot .ensures), c .if1 .taken)))
 
 decode-jump-requires : tie.Need-decode-jump-requires
@@ -55,20 +55,20 @@ jumps-requires c κs =
     (search needs, search needs, d .range .creg, omega arith, omega arith)
 
 returns-2 : tie.Need-returns-2
-returns-2 c p cells =
+returns-2 c p memory =
     let tested = c .before .before .before .before .before in
     let d = tested .before .before in
-    c .before .before .next .ensures cells
-    ∙ sym (word-skipped p _ cells (given d) (usable d) (stays d) (sym (tested .condition-false .ensures p cells) ∙ c .before .before .before .before .if2 .taken))
+    c .before .before .next .ensures memory
+    ∙ sym (word-skipped p _ memory (given d) (usable d) (stays d) (sym (tested .condition-false .ensures p memory) ∙ c .before .before .before .before .if2 .taken))
 
 returns-3 : tie.Need-returns-3
-returns-3 c p cells =
+returns-3 c p memory =
     let read = c .before .before .before .before in
     let left = read .before .before in
     let d = left .before .before .before in
-    c .before .before .jumps .ensures p cells _
-    ∙ sym (word-performed p _ cells (given d) (usable d) (stays d) (sym (left .before .condition-false .ensures p cells) ∙ left .if2 .left)
-    _ _ (read .source .ensures p cells) refl)
+    c .before .before .jumps .ensures p memory _
+    ∙ sym (word-performed p _ memory (given d) (usable d) (stays d) (sym (left .before .condition-false .ensures p memory) ∙ left .if2 .left)
+    _ _ (read .source .ensures p memory) refl)
 
 pub jump-word-spec : {M : Type 1} → statement M
 jump-word-spec =

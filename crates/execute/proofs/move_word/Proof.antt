@@ -24,11 +24,11 @@ stays : (c : tie.After-decode-move) → properties (operationOf (entry c .args .
 stays c = rw (no-transfer (entry c .args .op) (omega arith))
 
 returns : tie.Need-returns
-returns c p cells =
-    let told = c .before .before .before .before .before in
-    let s = told .before .before .before in
-    c .before .before .raise .ensures cells
-    ∙ sym (word-barred p _ cells (decoded-word (now (s .args .w)) _ _ (s .pre .1)) _ (told .unavailability .ensures) (c .before .before .before .before .if1 .taken))
+returns c p memory =
+    let reported = c .before .before .before .before .before in
+    let s = reported .before .before .before in
+    c .before .before .raise .ensures memory
+    ∙ sym (word-barred p _ memory (decoded-word (now (s .args .w)) _ _ (s .pre .1)) _ (reported .unavailability .ensures) (c .before .before .before .before .if1 .taken))
 
 decode-move-requires : tie.Need-decode-move-requires
 unfolding widthOf
@@ -50,22 +50,22 @@ moves-requires c κs =
     (search needs, d .range .dreg, omega arith, omega arith)
 
 returns-2 : tie.Need-returns-2
-returns-2 c p cells =
+returns-2 c p memory =
     let tested = c .before .before .before .before .before in
     let d = tested .before .before in
     let free = d .before .before .before in
-    c .before .before .next .ensures cells
-    ∙ sym (word-skipped p _ cells (given d) (sym (free .before .unavailability .ensures) ∙ free .if1 .left) (stays d) (sym (tested .condition-false .ensures p cells) ∙ c .before .before .before .before .if2 .taken))
+    c .before .before .next .ensures memory
+    ∙ sym (word-skipped p _ memory (given d) (sym (free .before .unavailability .ensures) ∙ free .if1 .left) (stays d) (sym (tested .condition-false .ensures p memory) ∙ c .before .before .before .before .if2 .taken))
 
 returns-3 : tie.Need-returns-3
-returns-3 c p cells =
+returns-3 c p memory =
     let read = c .before .before .before .before in
     let left = read .before .before .before .before in
     let d = left .before .before .before in
     let free = d .before .before .before in
-    c .before .before .moves .ensures p cells
-    ∙ sym (word-performed p _ cells (given d) (sym (free .before .unavailability .ensures) ∙ free .if1 .left) (stays d) (sym (left .before .condition-false .ensures p cells) ∙ left .if2 .left)
-    _ _ (read .before .before .source .ensures p cells) (read .source2 .ensures p cells))
+    c .before .before .moves .ensures p memory
+    ∙ sym (word-performed p _ memory (given d) (sym (free .before .unavailability .ensures) ∙ free .if1 .left) (stays d) (sym (left .before .condition-false .ensures p memory) ∙ left .if2 .left)
+    _ _ (read .before .before .source .ensures p memory) (read .source2 .ensures p memory))
 
 pub move-word-spec : {M : Type 1} → statement M
 move-word-spec =

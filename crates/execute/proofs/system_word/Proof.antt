@@ -8,7 +8,7 @@ use Rattle.isa.specs.Operation.{operationOf, Properties, properties, unavailabl
 use Rattle.machine.specs.Machine.{Machine, psr, userMode, widthOf}
 use Rattle.machine.specs.Words.{machineOf}
 use Rattle.machine.specs.declared.Position.{Position}
-use Rattle.apply.specs.Apply.{apply, stopNumber, told, effectOn}
+use Rattle.effect.specs.Apply.{apply, stopNumber, reported, reportOn}
 use Rattle.execute.proofs.Tests.{Decoded, decoded, decoded-word, word-barred, word-in-slot, word-skipped, word-performed}
 use Rattle.execute.proofs.system_word.Statement.{statement}
 use Rattle.execute.proofs.system_word.Tie as tie
@@ -30,18 +30,18 @@ stays : (c : tie.After-decode-system) → properties (operationOf (entry c .args
 stays c = rw (← (asked c .before .before .before .is-transfer .ensures), ← (asked c .before .slot .ensures)) (asked c .if2 .left)
 
 returns : tie.Need-returns
-returns c p cells =
-    let told = c .before .before .before .before .before in
-    let s = told .before .before .before in
-    c .before .before .raise .ensures cells
-    ∙ sym (word-barred p _ cells (decoded-word (now (s .args .w)) _ _ (s .pre .2)) _ (told .unavailability .ensures) (c .before .before .before .before .if1 .taken))
+returns c p memory =
+    let reported = c .before .before .before .before .before in
+    let s = reported .before .before .before in
+    c .before .before .raise .ensures memory
+    ∙ sym (word-barred p _ memory (decoded-word (now (s .args .w)) _ _ (s .pre .2)) _ (reported .unavailability .ensures) (c .before .before .before .before .if1 .taken))
 
 returns-2 : tie.Need-returns-2
-unfolding effectOn told stopNumber apply
-returns-2 c p cells =
+unfolding reportOn reported stopNumber apply
+returns-2 c p memory =
     let free = c .before .before .before .before in
     let s = c .before .before .before .before .before .before .before .before in
-    sym (word-in-slot p _ cells (decoded-word (now (s .args .w)) _ _ (s .pre .2)) (sym (free .before .unavailability .ensures) ∙ free .if1 .left)
+    sym (word-in-slot p _ memory (decoded-word (now (s .args .w)) _ _ (s .pre .2)) (sym (free .before .unavailability .ensures) ∙ free .if1 .left)
     (rw (← (c .before .before .before .is-transfer .ensures), ← (c .before .slot .ensures)) (c .if2 .taken)))
 
 decode-system-requires : tie.Need-decode-system-requires
@@ -61,20 +61,20 @@ system-requires c κs =
     (search needs, s .pre .1, rw (given d .number) (s .pre .3), rw (given d .number) (s .pre .4))
 
 returns-3 : tie.Need-returns-3
-returns-3 c p cells =
+returns-3 c p memory =
     let tested = c .before .before .before .before .before in
     let d = tested .before .before in
-    c .before .before .next .ensures cells
-    ∙ sym (word-skipped p _ cells (given d) (usable d) (stays d) (sym (tested .condition-false .ensures p cells) ∙ c .before .before .before .before .if3 .taken))
+    c .before .before .next .ensures memory
+    ∙ sym (word-skipped p _ memory (given d) (usable d) (stays d) (sym (tested .condition-false .ensures p memory) ∙ c .before .before .before .before .if3 .taken))
 
 returns-4 : tie.Need-returns-4
-returns-4 c p cells =
+returns-4 c p memory =
     let read = c .before .before .before .before in
     let left = read .before .before in
     let d = left .before .before .before in
-    c .before .before .system .ensures p cells _
-    ∙ sym (word-performed p _ cells (given d) (usable d) (stays d) (sym (left .before .condition-false .ensures p cells) ∙ left .if3 .left)
-    _ _ (read .source .ensures p cells) refl)
+    c .before .before .system .ensures p memory _
+    ∙ sym (word-performed p _ memory (given d) (usable d) (stays d) (sym (left .before .condition-false .ensures p memory) ∙ left .if3 .left)
+    _ _ (read .source .ensures p memory) refl)
 
 pub system-word-spec : {M : Type 1} → statement M
 system-word-spec =

@@ -9,10 +9,10 @@ use Rattle.execute.proofs.upper_half.Statement.{statement}
 use Rattle.execute.proofs.upper_half.Tie as tie
 
 returns-4 : tie.Need-returns-4
-returns-4 c p cells =
+returns-4 c p memory =
     let s = c .before .before .before .before .before .before .before .before in
-    c .before .before .raise .ensures cells
-    ∙ sym (word-barred p _ cells (decoded-word (now (s .args .w)) _ _ (s .pre .3)) _ (sym (unknown-code _ _ (s .args .op) (omega arith))) (λ z. omega arith))
+    c .before .before .raise .ensures memory
+    ∙ sym (word-barred p _ memory (decoded-word (now (s .args .w)) _ _ (s .pre .3)) _ (sym (unknown-code _ _ (s .args .op) (omega arith))) (λ z. omega arith))
 
 pub upper-half-spec : {M : Type 1} → statement M
 upper-half-spec =

@@ -5,9 +5,9 @@ use mathlib.Core.List.{List}
 use Prim.Native.Nat.{ℕ}
 use lib.Dec.{eqb}
 use borrow.Author.Tests.{eq-eqb, ne-eqb}
-use Rattle.machine.specs.Machine.{psr, interruptsEnabled, widthOf}
+use Rattle.machine.specs.Machine.{psr, interruptsEnabled, widthOf, Memory}
 use Rattle.machine.specs.Words.{machineOf}
-use Rattle.decide.specs.View.{View, view, viewOf}
+use Rattle.view.specs.View.{View, view, viewOf}
 use Rattle.step.specs.Interrupt.{isMulhi, mayAccept}
 use borrow.Author.Needs.{needs}
 use Rattle.step.proofs.may_accept.Statement.{statement}
@@ -22,26 +22,26 @@ abbrev entry : tie.After-slot → tie.Start
 entry c = c .before .before .before .before .before
 
 abbrev seen : tie.After-slot → List ℕ → View
-seen c cells = viewOf (entry c .args .program .now) (entry c .args .w .now) cells
+seen c memory = viewOf (entry c .args .program .now) (entry c .args .w .now) memory
 
-first-two : (c : tie.After-slot) (cells : List ℕ) (t : Bool) → c .before .has-flag .result && not (eqb (c .slot .result) 1) ≡ t
-    → t && not (eqb (machineOf (entry c .args .w .now) .position .held) 1 && isMulhi (widthOf (seen c cells .status)) (seen c cells .fetched)) ≡ mayAccept (seen c cells)
+first-two : (c : tie.After-slot) (memory : Memory) (t : Bool) → c .before .has-flag .result && not (eqb (c .slot .result) 1) ≡ t
+    → t && not (eqb (machineOf (entry c .args .w .now) .position .held) 1 && isMulhi (widthOf (seen c memory .status)) (seen c memory .fetched)) ≡ mayAccept (seen c memory)
 unfolding mayAccept view interruptsEnabled
-first-two c cells t e = rw (← (c .before .before .psr .ensures), ← (c .before .has-flag .ensures), ← (c .slot .ensures)) (joined (c .before .has-flag .result) (not (eqb (c .slot .result) 1)) _ t e)
+first-two c memory t e = rw (← (c .before .before .psr .ensures), ← (c .before .has-flag .ensures), ← (c .slot .ensures)) (joined (c .before .has-flag .result) (not (eqb (c .slot .result) 1)) _ t e)
 
 returns : tie.Need-returns
 unfolding view
-returns c cells =
+returns c memory =
     let first = c .before .before .before in
-    rw (c .next-is-mulhi .ensures cells, ← (first-two (first .before) cells true (first .if1 .taken)), ← (c .before .before .held .ensures), eq-eqb _ 1 (c .before .if2 .taken))
+    rw (c .next-is-mulhi .ensures memory, ← (first-two (first .before) memory true (first .if1 .taken)), ← (c .before .before .held .ensures), eq-eqb _ 1 (c .before .if2 .taken))
 
 returns-2 : tie.Need-returns-2
-returns-2 c cells =
+returns-2 c memory =
     let first = c .before .before in
-    rw (← (first-two (first .before) cells true (first .if1 .taken)), ← (c .before .held .ensures), ne-eqb _ 1 (c .if2 .left))
+    rw (← (first-two (first .before) memory true (first .if1 .taken)), ← (c .before .held .ensures), ne-eqb _ 1 (c .if2 .left))
 
 returns-3 : tie.Need-returns-3
-returns-3 c cells = first-two (c .before) cells false (c .if1 .left)
+returns-3 c memory = first-two (c .before) memory false (c .if1 .left)
 
 pub may-accept-spec : {M : Type 1} → statement M
 may-accept-spec =

@@ -8,9 +8,9 @@ use Rattle.step.proofs.next_is_mulhi.Tie as tie
 
 returns : tie.Need-returns
 unfolding isMulhi properties widthOf wideWords
-returns c cells =
+returns c memory =
     rw (
-      ← (c .before .before .before .before .before .before .fetch .ensures cells),
+      ← (c .before .before .before .before .before .before .fetch .ensures memory),
       c .before .before .before .before .fetched .given .1,
       c .opcode .ensures,
       c .before .has-flag .ensures,
@@ -19,11 +19,11 @@ returns c cells =
 
 returns-2 : tie.Need-returns-2
 unfolding isMulhi
-returns-2 c cells = rw (← (c .before .before .fetch .ensures cells), c .enum-told .given .1)
+returns-2 c memory = rw (← (c .before .before .fetch .ensures memory), c .enum-reported .given .1)
 
 returns-3 : tie.Need-returns-3
 unfolding isMulhi
-returns-3 c cells = rw (← (c .before .before .fetch .ensures cells), c .enum-told2 .given .1)
+returns-3 c memory = rw (← (c .before .before .fetch .ensures memory), c .enum-told2 .given .1)
 
 pub next-is-mulhi-spec : {M : Type 1} → statement M
 next-is-mulhi-spec =

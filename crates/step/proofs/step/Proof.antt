@@ -3,11 +3,11 @@ use mathlib.Core.Path.{_≡_, ap}
 use mathlib.Core.Option.{Option, none, some}
 use Prim.Native.Nat.{ℕ}
 use Rattle.machine.specs.Machine.{Machine, State}
-use Rattle.machine.specs.Words.{machineOf}
+use Rattle.machine.specs.Words.{machineOf, stateOf}
 use Rattle.image.proofs.Formed.{stacked-distinct, WellFormed, formed-true, true-formed}
-use Rattle.decide.specs.View.{view}
-use Rattle.apply.specs.Apply.{stateOf, effectOn}
-use Rattle.apply.proofs.Service.{stack-shown}
+use Rattle.view.specs.View.{view}
+use Rattle.effect.specs.Apply.{reportOn}
+use Rattle.effect.proofs.Service.{stack-shown}
 use Rattle.step.specs.Interrupt.{withPending, withRequests, acceptedSource}
 use Rattle.step.proofs.Accepted.{source-accepted}
 use Rattle.step.proofs.Formed.{requests-formed}
@@ -78,7 +78,7 @@ execute-requires c κs =
     (search needs, search needs, stack-shown (f .served) (f .return-address) (f .return-status) (f .return-flags) (stacked-distinct (f .stack)))
 
 returns-2 : tie.Need-returns-2
-unfolding withPending effectOn
+unfolding withPending reportOn
 returns-2 c =
     let stopped = c .before .before .before .before in
     let e = stopped .before .before .before .before .before in
@@ -88,7 +88,7 @@ returns-2 c =
     (step-stops (s .args .program .now) (start s) (s .args .requests) (requested a) (added a) _ (refused (left e)) (e .execute .ensures) (stopped .if2 .taken))
 
 returns-3 : tie.Need-returns-3
-unfolding effectOn
+unfolding reportOn
 returns-3 c =
     let e = c .before .before .before .before .before in
     let a = asked (left e .before) in

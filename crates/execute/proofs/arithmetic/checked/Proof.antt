@@ -5,7 +5,7 @@ use Prim.Native.Nat.{ℕ}
 use borrow.Author.Needs.{needs}
 use Rattle.word.specs.Choice.{if_then_else_}
 use Rattle.word.specs.declared.Sum.{Sum}
-use Rattle.apply.specs.Effect.{Raised, ResultFlags}
+use Rattle.effect.specs.Effect.{Raised, ResultFlags}
 use Rattle.execute.specs.Execute.{checked}
 use Rattle.execute.proofs.arithmetic.checked.Statement.{statement}
 use Rattle.execute.proofs.arithmetic.checked.Tie as tie
@@ -19,14 +19,14 @@ unfolding checked if_then_else_
 within d s e = rw e
 
 returns : tie.Need-returns
-returns c cells =
+returns c memory =
     let a = c .before .before .before .before .before .before .args in
-    rw (over (a .d) (a .s) (c .before .before .before .before .if1 .taken)) (c .before .before .raise .ensures cells)
+    rw (over (a .d) (a .s) (c .before .before .before .before .if1 .taken)) (c .before .before .raise .ensures memory)
 
 returns-2 : tie.Need-returns-2
-returns-2 c cells =
+returns-2 c memory =
     let a = c .before .before .before .before .before .before .args in
-    rw (within (a .d) (a .s) (c .before .before .before .before .if1 .left)) (c .before .before .result-flags .ensures cells)
+    rw (within (a .d) (a .s) (c .before .before .before .before .if1 .left)) (c .before .before .result-flags .ensures memory)
 
 pub checked-spec : {M : Type 1} → statement M
 checked-spec = tie.close (tie.spec (λ c κs. search needs) (λ c κs. search needs) (λ c. search needs) returns (λ c. search needs) returns-2)

@@ -6,7 +6,7 @@ use Rattle.execute.proofs.arithmetic.product.Tie as tie
 
 returns : tie.Need-returns
 unfolding product
-returns c cells = c .before .before .result-product .ensures cells
+returns c memory = c .before .before .result-product .ensures memory
 
 pub product-spec : {M : Type 1} → statement M
 product-spec = tie.close (tie.spec (λ c κs. search needs) (λ c. search needs) returns)

@@ -6,7 +6,7 @@ use Rattle.execute.proofs.arithmetic.wrapped.Tie as tie
 
 returns : tie.Need-returns
 unfolding wrapped
-returns c cells = c .before .before .result-flags .ensures cells
+returns c memory = c .before .before .result-flags .ensures memory
 
 pub wrapped-spec : {M : Type 1} → statement M
 wrapped-spec = tie.close (tie.spec (λ c κs. search needs) (λ c. search needs) returns)

@@ -8,12 +8,12 @@ use borrow.Author.Needs.{needs}
 use Rattle.word.specs.Choice.{if_then_else_}
 use Rattle.word.specs.Word.{wordOf, isAddress}
 use Rattle.isa.specs.Operation.{widthBy}
-use Rattle.machine.specs.Machine.{userMode, wideWords, widthOf}
-use Rattle.decide.specs.View.{view, viewOf}
-use Rattle.apply.specs.Effect.{Effect, Raised}
+use Rattle.machine.specs.Machine.{userMode, wideWords, widthOf, Memory}
+use Rattle.view.specs.View.{view, viewOf}
+use Rattle.effect.specs.Effect.{Effect, Raised}
 use Rattle.execute.specs.Execute.{jumped}
 use Rattle.word.proofs.Handed.{handed}
-use Rattle.decide.proofs.Bytes.{bytes-positive, aligned-fits, aligned-at}
+use Rattle.view.proofs.Bytes.{bytes-positive, aligned-fits, aligned-at}
 use Rattle.execute.proofs.jump.jumped.Statement.{statement}
 use Rattle.execute.proofs.jump.jumped.Tie as tie
 
@@ -25,11 +25,11 @@ address-is : (c : tie.After-is-address) → c .is-address .result ≡ isAddress 
 address-is c = handed isAddress (c .before .before .before .before .before .before .before .fits .target) (c .is-address .ensures)
 
 -- past the first two tests only protection is asked
-aligned : (c : tie.After-closed) (p cells : List ℕ) (taken : ℕ → Effect)
+aligned : (c : tie.After-closed) (p : List ℕ) (memory : Memory) (taken : ℕ → Effect)
     → let s = c .before .before .before .before .before .before .before .before .before .before .before .before .before in
-    jumped (viewOf p (now (s .args .w)) cells) (s .args .target) taken ≡ if c .closed .result then Raised 0x09 else taken (c .before .before .before .before .before .before .before .low-word .result)
+    jumped (viewOf p (now (s .args .w)) memory) (s .args .target) taken ≡ if c .closed .result then Raised 0x09 else taken (c .before .before .before .before .before .before .before .low-word .result)
 unfolding userMode wideWords widthOf if_then_else_ view jumped
-aligned c p cells taken =
+aligned c p memory taken =
     rw (
       ← (address-is (c .before .before .before .before .before .before)),
       ← (word-is (c .before .before .before .before .before .before .before)),
@@ -53,11 +53,11 @@ closed-requires c κs =
 
 returns : tie.Need-returns
 unfolding if_then_else_ jumped
-returns c p cells = rw (← (address-is (c .before .before .before .before .before)), c .before .before .before .before .if1 .taken) (c .before .before .raise .ensures cells)
+returns c p memory = rw (← (address-is (c .before .before .before .before .before)), c .before .before .before .before .if1 .taken) (c .before .before .raise .ensures memory)
 
 returns-2 : tie.Need-returns-2
 unfolding wideWords widthOf if_then_else_ view jumped
-returns-2 c p cells =
+returns-2 c p memory =
     rw (
       ← (address-is (c .before .before .before .before .before .before .before)),
       ← (word-is (c .before .before .before .before .before .before .before .before)),
@@ -67,23 +67,23 @@ returns-2 c p cells =
       c .before .before .before .before .before .before .if1 .left,
       c .before .before .before .before .if2 .taken,
     )
-    (c .before .before .raise2 .ensures cells)
+    (c .before .before .raise2 .ensures memory)
 
 returns-3 : tie.Need-returns-3
 unfolding if_then_else_
-returns-3 c p cells = rw (aligned (c .before .before .before .before .before) p cells _, c .before .before .before .before .if3 .taken) (c .before .before .raise3 .ensures cells)
+returns-3 c p memory = rw (aligned (c .before .before .before .before .before) p memory _, c .before .before .before .before .if3 .taken) (c .before .before .raise3 .ensures memory)
 
 returns-4 : tie.Need-returns-4
 unfolding if_then_else_
-returns-4 c p cells =
-    rw (aligned (c .before .before .before .before .before .before) p cells _, c .before .before .before .before .before .if3 .left, c .before .before .before .before .if4 .taken)
-    (c .before .before .jump-link .ensures cells)
+returns-4 c p memory =
+    rw (aligned (c .before .before .before .before .before .before) p memory _, c .before .before .before .before .before .if3 .left, c .before .before .before .before .if4 .taken)
+    (c .before .before .jump-link .ensures memory)
 
 returns-5 : tie.Need-returns-5
 unfolding if_then_else_
-returns-5 c p cells =
-    rw (aligned (c .before .before .before .before .before .before) p cells _, c .before .before .before .before .before .if3 .left, c .before .before .before .before .if4 .left)
-    (c .before .before .jump .ensures cells)
+returns-5 c p memory =
+    rw (aligned (c .before .before .before .before .before .before) p memory _, c .before .before .before .before .before .if3 .left, c .before .before .before .before .if4 .left)
+    (c .before .before .jump .ensures memory)
 
 pub jumped-spec : {M : Type 1} → statement M
 jumped-spec = tie.close (tie.spec (λ c κs. search needs) (λ c κs. search needs) (λ c κs. search needs) (λ c κs. search needs) (λ c κs. search needs) (λ c κs. search needs) (λ c κs. search needs) (λ c κs. search needs) (λ c κs. search needs) closed-requires (λ c κs. search needs) (λ c κs. search needs) (λ c κs. search needs) (λ c. search needs) returns (λ c. search needs) returns-2 (λ c. search needs) returns-3 (λ c. search needs) returns-4 (λ c. search needs) returns-5)

@@ -12,27 +12,27 @@ use Rattle.execute.proofs.jump.jumps.Tie as tie
 
 returns : tie.Need-returns
 unfolding if_then_else_ links
-returns c p cells y =
+returns c p memory y =
     let a = c .before .before .before .before .before .before .before .before .before .before .args in
     let target = c .before .before .before .before .target in
     rw (
       jumps-are _ (a .i) (a .x) y (a .i .opcode) (omega arith) (omega arith),
-      ← (c .before .before .before .before .before .before .before .taken .ensures p cells),
+      ← (c .before .before .before .before .before .before .before .taken .ensures p memory),
       c .before .before .before .before .before .before .if1 .taken,
-      ← (back w64 (target .result) (target .ok) ∙ target .ensures p cells),
+      ← (back w64 (target .result) (target .ok) ∙ target .ensures p memory),
     )
-    (c .before .before .jumped .ensures p cells)
+    (c .before .before .jumped .ensures p memory)
 
 returns-2 : tie.Need-returns-2
 unfolding if_then_else_
-returns-2 c p cells y =
+returns-2 c p memory y =
     let a = c .before .before .before .before .before .before .before .before .args in
     rw (
       jumps-are _ (a .i) (a .x) y (a .i .opcode) (omega arith) (omega arith),
-      ← (c .before .before .before .before .before .taken .ensures p cells),
+      ← (c .before .before .before .before .before .taken .ensures p memory),
       c .before .before .before .before .if1 .left,
     )
-    (c .before .before .next .ensures cells)
+    (c .before .before .next .ensures memory)
 
 pub jumps-spec : {M : Type 1} → statement M
 jumps-spec = tie.close (tie.spec (λ c κs. search needs) (λ c κs. search needs) (λ c κs. search needs) (λ c κs. search needs) (λ c. search needs) returns (λ c. search needs) returns-2)

@@ -8,8 +8,8 @@ use Rattle.word.proofs.Integers.{back}
 use Rattle.isa.specs.Operation.{widthBy}
 use Rattle.machine.specs.Machine.{wideWords, widthOf}
 use Rattle.execute.specs.Execute.{afterThis, targetBy}
-use Rattle.decide.specs.View.{view}
-use Rattle.decide.proofs.Bytes.{bytes-most}
+use Rattle.view.specs.View.{view}
+use Rattle.view.proofs.Bytes.{bytes-most}
 use Rattle.execute.specs.Jumps.{targetOf}
 use Rattle.execute.proofs.jump.target.Statement.{statement}
 use Rattle.execute.proofs.jump.target.Tie as tie
@@ -19,11 +19,11 @@ add-jump-target c = omega (arith, c .pc .ensures, c .before .word-bytes .ensures
 
 returns : tie.Need-returns
 unfolding if_then_else_ targetOf
-returns c p cells = rw (c .if1 .taken) (toZ-pos w64 (omega arith))
+returns c p memory = rw (c .if1 .taken) (toZ-pos w64 (omega arith))
 
 returns-2 : tie.Need-returns-2
 unfolding if_then_else_ wideWords widthOf view afterThis targetBy targetOf
-returns-2 c p cells =
+returns-2 c p memory =
     rw (
       c .before .before .before .before .before .before .if1 .left,
       back w64 (c .jump-target .result) (c .jump-target .ok),

@@ -10,10 +10,10 @@ use denote.Ref.{now}
 use borrow.Author.Needs.{needs}
 use Rattle.word.proofs.Integers.{back}
 use Rattle.isa.specs.Operation.{operations, operationOf}
-use Rattle.machine.specs.Machine.{userMode}
+use Rattle.machine.specs.Machine.{userMode, memoryOf}
 use Rattle.execute.specs.Execute.{loaded, stored, execute}
-use Rattle.decide.specs.View.{View, heldAt, view, viewOf}
-use Rattle.apply.specs.Apply.{apply, stopNumber, told, effectOn}
+use Rattle.view.specs.View.{View, heldAt, view, viewOf}
+use Rattle.effect.specs.Apply.{apply, stopNumber, reported, reportOn}
 use Rattle.execute.proofs.Groups.{access-refused, access-missing}
 use Rattle.execute.proofs.memory.access.Statement.{statement}
 use Rattle.execute.proofs.memory.access.Tie as tie
@@ -31,7 +31,7 @@ address c =
 -- the place that it names
 named : (c : tie.After-place) (p : List ℕ)
     → let a = c .before .before .before .before .before .before .before .before .before .args in
-    viewOf p (now (a .w)) (now (a .cells)) .place (pos (a .x) +ℤ a .i .immediate) ≡ c .place .result
+    viewOf p (now (a .w)) (memoryOf (now (a .cells))) .place (pos (a .x) +ℤ a .i .immediate) ≡ c .place .result
 unfolding userMode view
 named c p =
     let d = c .before .before in
@@ -62,7 +62,7 @@ returns-2 c p y =
     rw (
       store (s .pre .2) (s .pre .3) (t .if1 .left),
       named (e .before .before) p ∙ e .place2 .given .1,
-      ← (d .source .ensures p (now (s .args .cells))),
+      ← (d .source .ensures p (memoryOf (now (s .args .cells)))),
     )
     (b .store-control .ensures _)
 
@@ -86,7 +86,7 @@ returns-4 c p y =
     rw (
       store (s .pre .2) (s .pre .3) (t .if2 .left),
       named (e .before .before) p ∙ e .place3 .given .1,
-      ← (d .source2 .ensures p (now (s .args .cells))),
+      ← (d .source2 .ensures p (memoryOf (now (s .args .cells)))),
     )
     (b .store-cell .ensures)
 
@@ -97,16 +97,16 @@ returns-5 c p y =
     let s = e .before .before .before .before .before .before .before .before .before .before .before in
     let a = s .args in
     let here = named (e .before .before) p ∙ e .place4 .given .1 in
-    rw (access-refused (viewOf p (now (a .w)) (now (a .cells))) (a .i) (a .x) y (a .i .opcode) _ here (s .pre .2) (s .pre .3))
+    rw (access-refused (viewOf p (now (a .w)) (memoryOf (now (a .cells)))) (a .i) (a .x) y (a .i .opcode) _ here (s .pre .2) (s .pre .3))
     (b .raise .ensures _)
 
 returns-6 : tie.Need-returns-6
-unfolding apply stopNumber told effectOn
+unfolding apply stopNumber reported reportOn
 returns-6 c p y =
     let s = c .before .before .before .before .before .before .before .before .before .before .before in
     let a = s .args in
-    let here = named (c .before .before) p ∙ c .enum-told .given .1 in
-    rw (access-missing (viewOf p (now (a .w)) (now (a .cells))) (a .i) (a .x) y (a .i .opcode) here (s .pre .2) (s .pre .3))
+    let here = named (c .before .before) p ∙ c .enum-reported .given .1 in
+    rw (access-missing (viewOf p (now (a .w)) (memoryOf (now (a .cells)))) (a .i) (a .x) y (a .i .opcode) here (s .pre .2) (s .pre .3))
 
 pub access-spec : {M : Type 1} → statement M
 access-spec =

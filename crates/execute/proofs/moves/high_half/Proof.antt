@@ -3,24 +3,24 @@ use mathlib.Core.Path.{sym, _∙_}
 use borrow.Author.Needs.{needs}
 use borrow.Author.Tests.{eq-eqb, ne-eqb}
 use Rattle.word.specs.Choice.{if_then_else_}
-use Rattle.decide.specs.View.{view}
+use Rattle.view.specs.View.{view}
 use Rattle.execute.specs.Execute.{execute}
-use Rattle.apply.specs.Apply.{apply, stopNumber, told, effectOn}
+use Rattle.effect.specs.Apply.{apply, stopNumber, reported, reportOn}
 use Rattle.execute.proofs.moves.high_half.Statement.{statement}
 use Rattle.execute.proofs.moves.high_half.Tie as tie
 
 returns : tie.Need-returns
 unfolding if_then_else_ view execute
-returns c p cells x y =
+returns c p memory x y =
     rw (
       eq-eqb _ 1 (sym (c .before .before .before .before .before .before .before .held .ensures) ∙ c .before .before .before .before .before .before .if1 .taken),
       ← (c .before .before .before .before .high .ensures),
     )
-    (c .before .before .result .ensures cells)
+    (c .before .before .result .ensures memory)
 
 returns-2 : tie.Need-returns-2
-unfolding if_then_else_ view execute apply stopNumber told effectOn
-returns-2 c p cells x y = rw (ne-eqb _ 1 (λ e. c .if1 .left (c .before .held .ensures ∙ e)))
+unfolding if_then_else_ view execute apply stopNumber reported reportOn
+returns-2 c p memory x y = rw (ne-eqb _ 1 (λ e. c .if1 .left (c .before .held .ensures ∙ e)))
 
 pub high-half-spec : {M : Type 1} → statement M
 high-half-spec = tie.close (tie.spec (λ c κs. search needs) (λ c κs. search needs) (λ c κs. search needs) (λ c. search needs) returns (λ c. search needs) returns-2)

@@ -5,7 +5,7 @@ use Rattle.execute.proofs.moves.high_immediate.Statement.{statement}
 use Rattle.execute.proofs.moves.high_immediate.Tie as tie
 
 returns : tie.Need-returns
-returns c p cells = rw (c .before .immediate-value .ensures, word-low 16 16 (c .before .before .before .args .i .immediate), c .target .ensures p cells)
+returns c p memory = rw (c .before .immediate-value .ensures, word-low 16 16 (c .before .before .before .args .i .immediate), c .target .ensures p memory)
 
 pub high-immediate-spec : {M : Type 1} → statement M
 high-immediate-spec = tie.close (tie.spec (λ c κs. search needs) (λ c. search needs) (λ c κs. search needs) (λ c. search needs) returns)

@@ -3,22 +3,22 @@ use mathlib.Core.Path.{sym, _∙_}
 use borrow.Author.Needs.{needs}
 use Rattle.word.specs.Choice.{if_then_else_}
 use Rattle.execute.specs.Execute.{execute}
-use Rattle.decide.specs.View.{view}
+use Rattle.view.specs.View.{view}
 use Rattle.execute.proofs.Values.{nested-none, nested-some}
-use Rattle.apply.specs.Apply.{apply, stopNumber, told, effectOn}
+use Rattle.effect.specs.Apply.{apply, stopNumber, reported, reportOn}
 use Rattle.execute.proofs.system.interrupt_return.Statement.{statement}
 use Rattle.execute.proofs.system.interrupt_return.Tie as tie
 
 returns : tie.Need-returns
-unfolding if_then_else_ view execute apply stopNumber told effectOn
-returns c q cells x y = rw (nested-none _ (sym (c .before .depth .ensures) ∙ c .if1 .taken))
+unfolding if_then_else_ view execute apply stopNumber reported reportOn
+returns c q memory x y = rw (nested-none _ (sym (c .before .depth .ensures) ∙ c .if1 .taken))
 
 returns-2 : tie.Need-returns-2
 unfolding if_then_else_ view execute
-returns-2 c q cells x y =
+returns-2 c q memory x y =
     let b = c .before .before in
     let d = b .before .before in
-    rw (nested-some _ (λ e. d .if1 .left (d .before .depth .ensures ∙ e))) (b .interrupt-return .ensures cells)
+    rw (nested-some _ (λ e. d .if1 .left (d .before .depth .ensures ∙ e))) (b .interrupt-return .ensures memory)
 
 pub interrupt-return-spec : {M : Type 1} → statement M
 interrupt-return-spec =

@@ -1,0 +1,52 @@
+-- A register written: in the set that RSWR names, and never PSR. Assumes nothing.
+use mathlib.Core.Path.{_≡_, refl, sym, ap, _∙_}
+use mathlib.Core.Bool.{Bool, true, false}
+use Prim.Native.Nat.{ℕ, _%_, _^_}
+use lib.ListN.{set}
+use lib.Seq.{getD-set-other}
+use lib.Dec.{eqb}
+use borrow.Author.Tests.{eqb-false}
+use Rattle.word.specs.Choice.{if_then_else_}
+use Rattle.machine.specs.Machine.{Machine, PSR, psr, writesSet2, withSet1, withSet2, withRegister, written}
+use Rattle.effect.specs.Apply.{writeRegister}
+
+module _ (m : Machine) (n x : ℕ) where
+  -- both sets by one test
+  written-by : (second : Bool)
+      → if_then_else_ second (if_then_else_ (eqb n PSR) m (withSet2 (set (m .set2) n x) m)) (withSet1 (set (m .set1) n x) m) ≡ written second n x m
+  unfolding written withRegister if_then_else_
+  written-by true = refl
+  written-by false = refl
+
+  -- PSR stays
+  psr-kept : (second : Bool) → psr (written second n x m) ≡ psr m
+  unfolding written withRegister if_then_else_ psr withSet1 withSet2
+  psr-kept false = refl
+  psr-kept true = go (eqb n PSR) refl
+    where
+      go : (status : Bool) → eqb n PSR ≡ status → psr (if_then_else_ status m (withRegister true n x m)) ≡ psr m
+      go true e = refl
+      go false e = getD-set-other (m .set2) n PSR x 0 (λ q. eqb-false n PSR e (sym q))
+
+  -- and so does the position
+  position-kept : (second : Bool) → written second n x m .position ≡ m .position
+  unfolding written withRegister if_then_else_ withSet1 withSet2
+  position-kept false = refl
+  position-kept true = go (eqb n PSR)
+    where
+      go : (status : Bool) → if_then_else_ status m (withRegister true n x m) .position ≡ m .position
+      go true = refl
+      go false = refl
+
+module _ (m : Machine) (d x : ℕ) where
+  -- a write by RSWR
+  pub write-by : writeRegister d x m ≡ written (writesSet2 (psr m)) (d % 32) (x % 2 ^ 32) m
+  unfolding writeRegister
+  write-by = written-by m (d % 32) (x % 2 ^ 32) (writesSet2 (psr m))
+
+  -- it leaves PSR and the position
+  pub write-psr : psr (writeRegister d x m) ≡ psr m
+  write-psr = ap psr write-by ∙ psr-kept m (d % 32) (x % 2 ^ 32) (writesSet2 (psr m))
+
+  pub write-position : writeRegister d x m .position ≡ m .position
+  write-position = ap (λ (k : Machine). k .position) write-by ∙ position-kept m (d % 32) (x % 2 ^ 32) (writesSet2 (psr m))

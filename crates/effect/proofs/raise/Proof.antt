@@ -1,0 +1,36 @@
+-- `effect::raise` meets its contract: store by store. Assumes nothing.
+use Rattle.machine.specs.Machine.{withControl}
+use Rattle.effect.specs.Apply.{raise}
+use Rattle.effect.proofs.Report.{reports}
+use borrow.Author.Needs.{needs}
+use Rattle.effect.proofs.raise.Statement.{statement}
+use Rattle.effect.proofs.raise.Tie as tie
+
+returns : tie.Need-returns
+unfolding raise withControl reports
+returns c memory =
+    let c1 = c .before .before in
+    let c2 = c1 .before .before .before .before in
+    let c3 = c2 .before .before .before .before in
+    let c4 = c3 .before .before .before .before in
+    let c5 = c4 .before .before .before .before in
+    let c6 = c5 .before .before in
+    let c7 = c6 .before .before in
+    let c8 = c7 .before .before in
+    rw (
+      c1 .go-to .ensures,
+      c2 .set-psr .ensures,
+      c3 .set-control3 .ensures,
+      c4 .set-control2 .ensures,
+      c5 .set-control .ensures,
+      c6 .control .ensures,
+      c7 .psr .ensures,
+      c8 .pc .ensures,
+    )
+
+pub raise-spec : {M : Type 1} → statement M
+raise-spec =
+    tie.close
+    (tie.spec
+    (λ c κs. search needs) (λ c κs. search needs) (λ c κs. search needs) (λ c κs. search needs) (λ c κs. search needs) (λ c κs. search needs) (λ c κs. search needs) (λ c κs. search needs) (λ c. search needs)
+    returns)

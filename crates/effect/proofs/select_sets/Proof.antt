@@ -1,0 +1,21 @@
+-- `effect::select_sets` meets its contract. Assumes nothing.
+use Rattle.effect.specs.Apply.{selectSets}
+use Rattle.effect.proofs.Report.{reports}
+use borrow.Author.Needs.{needs}
+use Rattle.effect.proofs.select_sets.Statement.{statement}
+use Rattle.effect.proofs.select_sets.Tie as tie
+
+returns : tie.Need-returns
+unfolding selectSets reports
+returns c memory =
+    let c1 = c .before .before in
+    let c2 = c1 .before .before .before .before in
+    let c3 = c2 .before .before in
+    rw (c1 .set-psr .ensures, c2 .advance .ensures, c3 .psr .ensures)
+
+pub select-sets-spec : {M : Type 1} → statement M
+select-sets-spec =
+    tie.close
+    (tie.spec
+    (λ c κs. search needs) (λ c κs. search needs) (λ c. search needs) (λ c. search needs) (λ c. search needs) (λ c. search needs) (λ c κs. search needs) (λ c. search needs)
+    returns)

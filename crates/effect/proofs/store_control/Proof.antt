@@ -1,0 +1,16 @@
+-- `effect::store_control` meets its contract. Assumes nothing.
+use Rattle.effect.proofs.Report.{reports}
+use borrow.Author.Needs.{needs}
+use Rattle.effect.proofs.store_control.Statement.{statement}
+use Rattle.effect.proofs.store_control.Tie as tie
+
+returns : tie.Need-returns
+unfolding reports
+returns c memory =
+    let c1 = c .before .before in
+    let c2 = c1 .before .before .before .before in
+    rw (c1 .advance .ensures, c2 .store-control .ensures)
+
+pub store-control-spec : {M : Type 1} → statement M
+store-control-spec =
+    tie.close (tie.spec (λ c κs. search needs) (λ c κs. search needs) (λ c. search needs) returns)

@@ -1,0 +1,19 @@
+-- What functions that carry out an instruction promise, as abbreviations for their contracts. Assumes nothing.
+use mathlib.Core.Path.{_≡_}
+use mathlib.Core.List.{List}
+use Prim.Native.Nat.{ℕ}
+use Rattle.machine.specs.Machine.{Memory, memoryOf}
+use Rattle.view.specs.View.{View, viewOf}
+use Rattle.effect.specs.Effect.{Effect}
+use Rattle.effect.specs.Apply.{reportBy, reportOn}
+
+-- words become those after the effect that their view gives, whatever the program and the memory hold; the memory stays
+abbrev pub PerformsSeen : (View → Effect) → (stop : ℕ) (before after : List ℕ) → Type 0
+PerformsSeen e n before after =
+    (program : List ℕ) (memory : Memory) → reportBy n after memory ≡ reportOn (e (viewOf program before memory)) before memory
+
+-- words and cells become those after the effect that their view gives, whatever the program holds
+abbrev pub PerformsStoring : (View → Effect) → (stop : ℕ) (before cells after stored : List ℕ) → Type 0
+PerformsStoring e n before cells after stored =
+    (program : List ℕ)
+    → reportBy n after (memoryOf stored) ≡ reportOn (e (viewOf program before (memoryOf cells))) before (memoryOf cells)

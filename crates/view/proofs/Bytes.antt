@@ -1,0 +1,191 @@
+-- The bytes of an instruction word: which are protected, which are there. Assumes nothing.
+use mathlib.Core.Path.{_≡_, refl, sym, ap, _∙_}
+use mathlib.Core.Bool.{Bool, true, false, not, _&&_, _||_, and-false, true≢false}
+use mathlib.Core.List.{List, [], _∷_}
+use mathlib.Core.Option.{none, some}
+use Prim.Native.Nat.{ℕ, zero, suc, _+_, _-_, _*_, _/_, _%_, _^_, _≤_, _<_}
+use native.Mathlib.Nat.{zero-mul, zero-add}
+use native.Mathlib.Numerals.{towards-suc}
+use native.Mathlib.Omega.{arith}
+use lib.Dec.{leb, ltb, eqb}
+use lib.ListN.{length, getD, getElem?}
+use borrow.Author.Tests.{leb-true, leb-false, le-leb, lt-leb, ltb-true, ltb-false, eqb-true, eqb-false, eq-eqb, ne-eqb}
+use Rattle.word.specs.Choice.{if_then_else_}
+use Rattle.codec.specs.Number.{numberAt}
+use Rattle.isa.specs.Operation.{Width, w16, w32, widthBy}
+use Rattle.isa.specs.Decode.{wordBytes}
+use Rattle.machine.specs.Control.{within}
+use Rattle.view.specs.View.{anyWithin, byteThen, bytesAt, fetchAt}
+use Rattle.view.specs.declared.Fetched.{Fetched}
+use Rattle.view.specs.declared.Fetched.the-variants.{Word, Fault, Absent}
+
+-- ---- protection
+
+-- the addresses from a to a + n meet the bounds
+some-within : (low high a n : ℕ) → low ≤ high → low ≤ a + n → a ≤ high → anyWithin low high a (suc n) ≡ true
+unfolding anyWithin within
+some-within low high a zero h l k = let e : low ≤ a = omega arith in simp (le-leb low a e, le-leb a high k)
+some-within low high a (suc n) h l k = go (leb low a) refl (some-within low high (suc a) n h)
+  where
+    go : (b : Bool) → leb low a ≡ b → (low ≤ suc a + n → suc a ≤ high → anyWithin low high (suc a) (suc n) ≡ true) → anyWithin low high a (suc (suc n)) ≡ true
+    go true e later = simp (e, le-leb a high k)
+    go false e later = let f : a < low = leb-false low a e in rw e (later (omega arith) (omega arith))
+
+-- none of them is within the bounds
+none-within : (low high a n : ℕ) → ((x : ℕ) → a ≤ x → x < a + n → within low high x ≡ false) → anyWithin low high a n ≡ false
+unfolding anyWithin
+none-within low high a zero f = refl
+none-within low high a (suc n) f =
+    rw (f a (omega arith) (omega arith)) (none-within low high (suc a) n (λ x l h. f x (omega arith) (omega arith)))
+
+below-bounds : (low high x : ℕ) → x < low → within low high x ≡ false
+unfolding within
+below-bounds low high x h = rw (lt-leb low x h)
+
+above-bounds : (low high x : ℕ) → high < x → within low high x ≡ false
+unfolding within
+above-bounds low high x h = rw (lt-leb x high h) (either (leb low x))
+  where
+    either : (b : Bool) → b && false ≡ false
+    either true = refl
+    either false = refl
+
+-- one of n addresses is within bounds exactly where the two ranges overlap
+overlap : (low high a n : ℕ) → 0 < n → (leb low high && leb low (a + (n - 1))) && leb a high ≡ anyWithin low high a n
+overlap low high a zero p = absurd (omega arith)
+overlap low high a (suc n) p = go (leb low high) refl (leb low (a + (suc n - 1))) refl (leb a high) refl
+  where
+    go : (b : Bool) → leb low high ≡ b → (c : Bool) → leb low (a + (suc n - 1)) ≡ c → (d : Bool) → leb a high ≡ d
+        → (b && c) && d ≡ anyWithin low high a (suc n)
+    go true e true f true g =
+        let h = leb-true low high e in
+        let l = leb-true low (a + (suc n - 1)) f in
+        sym (some-within low high a n h (omega arith) (leb-true a high g))
+    go true e true f false g =
+        let h = leb-false a high g in
+        sym (none-within low high a (suc n) (λ x l k. above-bounds low high x (omega arith)))
+    go true e false f d g =
+        let h = leb-false low (a + (suc n - 1)) f in
+        sym (none-within low high a (suc n) (λ x l k. below-bounds low high x (omega arith)))
+    go false e c f d g =
+        let h = leb-false low high e in
+        sym (none-within low high a (suc n) (λ x l k. apart x (ltb x low) refl))
+      where
+        apart : (x : ℕ) (b : Bool) → ltb x low ≡ b → within low high x ≡ false
+        apart x true t = below-bounds low high x (ltb-true x low t)
+        apart x false t = let k = ltb-false x low t in let h = leb-false low high e in above-bounds low high x (omega arith)
+
+-- past the upper bound none is within; below it the code's test says whether the ranges overlap
+pub overlap-past : (user : Bool) (low high a n : ℕ) → 0 < n → high < a → false ≡ user && anyWithin low high a n
+overlap-past user low high a n p h = rw (← (overlap low high a n p), lt-leb a high h, and-false (leb low high && leb low (a + (n - 1)))) (sym (and-false user))
+
+pub overlap-test : (user : Bool) (low high a n : ℕ) → 0 < n → a ≤ high → (user && leb low (a + (n - 1))) && leb low high ≡ user && anyWithin low high a n
+overlap-test user low high a n p h = rw (← (overlap low high a n p), le-leb a high h) (go user (leb low high) (leb low (a + (n - 1))))
+  where
+    go : (u b c : Bool) → (u && c) && b ≡ u && ((b && c) && true)
+    go true true true = refl
+    go true true false = refl
+    go true false true = refl
+    go true false false = refl
+    go false b c = refl
+
+-- ---- alignment
+
+-- by the lowest two bits
+pub alignment : (wide : Bool) (a : ℕ) → eqb (a % 2) 1 || (eqb (a / 2 % 2) 1 && wide) ≡ not (eqb (a % wordBytes (widthBy wide)) 0)
+unfolding wordBytes widthBy
+alignment wide a = go wide (eqb (a % 2) 1) refl (eqb (a / 2 % 2) 1) refl
+  where
+    go : (wide : Bool) (b : Bool) → eqb (a % 2) 1 ≡ b → (c : Bool) → eqb (a / 2 % 2) 1 ≡ c → b || (c && wide) ≡ not (eqb (a % wordBytes (widthBy wide)) 0)
+    go true true e c f = let k = eqb-true (a % 2) 1 e in rw (ne-eqb (a % 4) 0 (λ z. omega arith))
+    go true false e true f = let k = eqb-true (a / 2 % 2) 1 f in rw (ne-eqb (a % 4) 0 (λ z. omega arith))
+    go true false e false f = let k = eqb-false (a % 2) 1 e in let l = eqb-false (a / 2 % 2) 1 f in rw (eq-eqb (a % 4) 0 (omega arith))
+    go false true e c f = let k = eqb-true (a % 2) 1 e in rw (ne-eqb (a % 2) 0 (λ z. omega arith))
+    go false false e c f = let k = eqb-false (a % 2) 1 e in rw (eq-eqb (a % 2) 0 (omega arith), and-false c)
+
+-- what is not misaligned is aligned
+pub aligned-at : (n a : ℕ) (r : Bool) → r ≡ not (eqb (a % n) 0) → r ≡ false → a % n ≡ 0
+aligned-at n a r e f = go (eqb (a % n) 0) refl
+  where
+    go : (b : Bool) → eqb (a % n) 0 ≡ b → a % n ≡ 0
+    go true t = eqb-true (a % n) 0 t
+    go false t = absurd (true≢false (sym (e ∙ ap not t) ∙ f))
+
+-- ---- presence
+
+element-there : (l : List ℕ) (i : ℕ) → i < length l → getElem? l i ≡ some (getD l i 0)
+element-there [] i h = absurd (omega arith)
+element-there (x ∷ l) zero h = refl
+element-there (x ∷ l) (suc i) h = element-there l i (omega arith)
+
+element-absent : (l : List ℕ) (i : ℕ) → length l ≤ i → getElem? l i ≡ none
+element-absent [] i h = refl
+element-absent (x ∷ l) zero h = absurd (omega arith)
+element-absent (x ∷ l) (suc i) h = element-absent l i (omega arith)
+
+-- the number of n bytes from a on, below those of w
+unfoldable pub bytesFrom : (program : List ℕ) (n a w : ℕ) → ℕ
+bytesFrom program zero a w = w
+bytesFrom program (suc n) a w = bytesFrom program n (suc a) (w * 256 + getD program a 0)
+
+-- all bytes are there
+pub bytes-there : (program : List ℕ) (n a w : ℕ) → a + n ≤ length program → bytesAt program n a w ≡ Word (bytesFrom program n a w)
+unfolding bytesAt byteThen bytesFrom
+bytes-there program zero a w h = refl
+bytes-there program (suc n) a w h =
+    rw (element-there program a (omega arith)) (bytes-there program n (suc a) (w * 256 + getD program a 0) (omega arith))
+
+-- one is absent
+pub bytes-absent : (program : List ℕ) (n a w : ℕ) → 0 < n → length program < a + n → bytesAt program n a w ≡ Absent
+unfolding bytesAt byteThen
+bytes-absent program zero a w p h = absurd (omega arith)
+bytes-absent program (suc n) a w p h = go (ltb a (length program)) refl (bytes-absent program n (suc a) (w * 256 + getD program a 0))
+  where
+    go : (b : Bool) → ltb a (length program) ≡ b
+        → (0 < n → length program < suc a + n → bytesAt program n (suc a) (w * 256 + getD program a 0) ≡ Absent)
+        → bytesAt program (suc n) a w ≡ Absent
+    go true t later = let l = ltb-true a (length program) t in rw (element-there program a l) (later (omega arith) (omega arith))
+    go false t later = rw (element-absent program a (ltb-false a (length program) t))
+
+-- a word is fetched only where all bytes are there
+not-fetched : (b c : Bool) (f : Fetched) (w : ℕ) → f ≡ Absent → (if b then Fault 0x05 else if c then Fault 0x00 else f) ≡ Word w → ⊥
+unfolding if_then_else_
+not-fetched true c f w a e = let z : _≡_ {A = ℕ} 0 1 = cc in omega arith
+not-fetched false true f w a e = let z : _≡_ {A = ℕ} 0 1 = cc in omega arith
+not-fetched false false f w a e = let z : _≡_ {A = ℕ} 0 1 = cc in omega arith
+
+pub fetched-inside : (program : List ℕ) (low high : ℕ) (user : Bool) (n pc w : ℕ) → 0 < n
+    → fetchAt program low high user n pc ≡ Word w → pc + n ≤ length program
+unfolding fetchAt
+fetched-inside program low high user n pc w p e = go (leb (pc + n) (length program)) refl
+  where
+    go : (b : Bool) → leb (pc + n) (length program) ≡ b → pc + n ≤ length program
+    go true t = leb-true (pc + n) (length program) t
+    go false t = absurd (not-fetched _ _ _ w (bytes-absent program n pc 0 p (leb-false (pc + n) (length program) t)) e)
+
+-- words of 32 and of 16 bits
+pub four-bytes : (program : List ℕ) (a : ℕ) → a + 4 ≤ length program → bytesAt program 4 a 0 ≡ Word (numberAt program a)
+unfolding bytesFrom
+four-bytes program a h = rw (bytes-there program 4 a 0 h) (simp (zero-mul, zero-add, towards-suc))
+
+pub two-bytes : (program : List ℕ) (a : ℕ) → a + 2 ≤ length program → bytesAt program 2 a 0 ≡ Word (getD program a 0 * 256 + getD program (a + 1) 0)
+unfolding bytesFrom
+two-bytes program a h = rw (bytes-there program 2 a 0 h) (simp (zero-mul, zero-add, towards-suc))
+
+-- ---- lengths
+
+pub bytes-positive : (width : Width) → 0 < wordBytes width
+unfolding wordBytes
+bytes-positive w16 = omega arith
+bytes-positive w32 = omega arith
+
+pub bytes-most : (width : Width) → wordBytes width ≤ 4
+unfolding wordBytes
+bytes-most w16 = omega arith
+bytes-most w32 = omega arith
+
+-- a word at an aligned address lies below 2 ^ 32
+pub aligned-fits : (width : Width) (n a : ℕ) → n ≡ wordBytes width → a < 2 ^ 32 → a % n ≡ 0 → a + n ≤ 2 ^ 32
+unfolding wordBytes
+aligned-fits w16 n a e h z = rw e (let t : a % 2 ≡ 0 = rw e at z in omega arith)
+aligned-fits w32 n a e h z = rw e (let t : a % 4 ≡ 0 = rw e at z in omega arith)

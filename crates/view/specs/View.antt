@@ -1,0 +1,124 @@
+-- What the next instruction's decision may use of the machine and the memories. Assumes nothing.
+use mathlib.Core.Path.{_≡_}
+use mathlib.Core.Bool.{Bool, true, false, not, _&&_, _||_}
+use mathlib.Core.List.{List, [], _∷_}
+use mathlib.Core.Option.{Option, none, some}
+use Prim.Native.Nat.{ℕ, zero, suc, _+_, _-_, _*_, _%_}
+use lib.ListN.{length, getD, getElem?}
+use lib.Dec.{leb, ltb, eqb}
+use lib.IntN.{ℤ}
+use Rattle.word.specs.Choice.{if_then_else_}
+use Rattle.word.specs.Word.{wordOf, isAddress}
+use Rattle.isa.specs.Operation.{Width}
+use Rattle.isa.specs.Condition.{conditionOf, holds}
+use Rattle.isa.specs.declared.Instruction.{Instruction}
+use Rattle.isa.specs.Decode.{wordBytes}
+use Rattle.machine.specs.Machine.{Machine, Memory, State, psr, userMode, readsSet2, writesSet2, widthOf, setBy}
+use Rattle.machine.specs.Control.{controlAt, within, CCB-BASE, DMEM-BOUND-LO, DMEM-BOUND-HI, IMEM-BOUND-LO, IMEM-BOUND-HI}
+use Rattle.machine.specs.Words.{stateOf}
+use Rattle.machine.specs.declared.Position.{Position}
+use Rattle.view.specs.declared.Fetched.{Fetched}
+use Rattle.view.specs.declared.Fetched.the-variants.{Word, Fault, Absent}
+use Rattle.view.specs.declared.Place.{Place}
+use Rattle.view.specs.declared.Place.the-variants.{Block, Cell, Denied, Missing}
+
+-- ---- program memory
+
+-- one of the n addresses from a on is within the bounds: "any byte of the word protected"
+unfoldable pub anyWithin : (low high a n : ℕ) → Bool
+anyWithin low high a zero = false
+anyWithin low high a (suc n) = within low high a || anyWithin low high (suc a) n
+
+-- a byte of the program goes on; one that is not there makes the word absent
+unfoldable pub byteThen : Option ℕ → (ℕ → Fetched) → Fetched
+byteThen none f = Absent
+byteThen (some b) f = f b
+
+-- the word of n bytes from a on, high byte first, below those of w
+unfoldable pub bytesAt : (program : List ℕ) (n a w : ℕ) → Fetched
+bytesAt program zero a w = Word w
+bytesAt program (suc n) a w = byteThen (getElem? program a) (λ b. bytesAt program n (suc a) (w * 256 + b))
+
+-- the word at pc: misaligned (05h); any byte of the word protected in user mode (00h); byte absent (01 "Instruction order").
+-- Protection is by address, present or not
+unfoldable pub fetchAt : (program : List ℕ) (low high : ℕ) (user : Bool) (n pc : ℕ) → Fetched
+fetchAt program low high user n pc =
+    if not (eqb (pc % n) 0) then Fault 0x05
+    else if user && anyWithin low high pc n then Fault 0x00
+    else bytesAt program n pc 0
+
+-- ---- data memory
+
+-- one of the control block's 256 addresses from CCB_BASE
+unfoldable pub inBlock : (base a : ℕ) → Bool
+inBlock base a = leb base a && leb a (base + 255)
+
+-- what a data address names: outside 32 bits (08h); user and protected (07h), the block's addresses like the cells'; the block first,
+-- then the cells; or neither (01 "Data tests", "Data address order")
+unfoldable pub placeAt : (user : Bool) (low high base count : ℕ) (address : ℤ) → Place
+placeAt user low high base count address =
+    let a = wordOf 32 address in
+    if not (isAddress address) then Denied 0x08
+    else if user && within low high a then Denied 0x07
+    else if inBlock base a then Block (a - base)
+    else if ltb a count then Cell a
+    else Missing
+
+-- what a load of a place gives; a refused or missing one gives nothing, here 0
+unfoldable pub heldAt : State → Place → ℕ
+heldAt s (Block n) = controlAt (s .machine) n
+heldAt s (Cell a) = getD (s .memory .cells) a 0
+heldAt s (Denied c) = 0
+heldAt s Missing = 0
+
+-- ---- the view (definitions only; the code reads the memories themselves)
+
+-- all that the next instruction's effect may depend on
+pub record View : Type 0 where
+  pub status : ℕ  -- PSR
+  pub position : Position
+  pub conditions : List ℕ
+  pub nested : Bool  -- the hardware stack is not empty
+  pub fetched : Fetched
+  pub source : ℕ → ℕ  -- a register of the set that RSRD names
+  pub target : ℕ → ℕ  -- a register of the set that RSWR names
+  pub place : ℤ → Place  -- what a data address names
+  pub load : ℤ → ℕ  -- what is there
+  pub closed : ℕ → Bool  -- a byte of the instruction word at an address is protected from the mode
+
+-- a stack has an entry
+unfoldable pub nestedBy : {A : Type 0} → List A → Bool
+nestedBy [] = false
+nestedBy (e ∷ es) = true
+
+-- what an instruction sees of a state: the bounds and CCB_BASE by the control block, protection by the mode
+unfoldable pub view : (program : List ℕ) → State → View
+view program s =
+    let m = s .machine in
+    let q = psr m in
+    let n = wordBytes (widthOf q) in
+    let place = placeAt (userMode q) (controlAt m DMEM-BOUND-LO) (controlAt m DMEM-BOUND-HI) (controlAt m CCB-BASE) (length (s .memory .cells)) in
+    record {
+      status = q;
+      position = m .position;
+      conditions = m .conditions;
+      nested = nestedBy (m .stack);
+      fetched = fetchAt program (controlAt m IMEM-BOUND-LO) (controlAt m IMEM-BOUND-HI) (userMode q) n (m .position .pc);
+      source = λ r. getD (setBy (readsSet2 q) m) r 0;
+      target = λ r. getD (setBy (writesSet2 q) m) r 0;
+      place = place;
+      load = λ a. heldAt s (place a);
+      closed = λ a. userMode q && anyWithin (controlAt m IMEM-BOUND-LO) (controlAt m IMEM-BOUND-HI) a n;
+    }
+
+-- the view of the state that words and a memory hold
+abbrev pub viewOf : (program words : List ℕ) → Memory → View
+viewOf program words memory = view program (stateOf words memory)
+
+-- r is what every view of these words gives, whatever the program and the memory hold
+abbrev pub Shows : {A : Type 0} → (View → A) → A → (words : List ℕ) → Type 0
+Shows f r words = (program : List ℕ) (memory : Memory) → r ≡ f (viewOf program words memory)
+
+-- a conditional instruction whose condition is false of its condition register
+unfoldable pub conditionFalse : View → Instruction → Bool
+conditionFalse v i = i .conditional && not (holds (conditionOf (i .condition)) (getD (v .conditions) (i .creg) 0))

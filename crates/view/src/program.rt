@@ -1,0 +1,84 @@
+// Program memory: its protection, and the fetch of an instruction word.
+ghost use mathlib.Core.Path.{_≡_};
+ghost use mathlib.Core.Bool.{not, _&&_};
+ghost use Prim.Native.Nat.{_+_, _%_, _^_, _≤_, _<_};
+ghost use lib.ListN.{length};
+ghost use lib.Dec.{eqb};
+ghost use Rattle.isa.specs.Operation.{widthBy};
+ghost use Rattle.isa.specs.Decode.{wordBytes};
+ghost use Rattle.machine.specs.Control.{controlAt, IMEM-BOUND-LO, IMEM-BOUND-HI};
+ghost use Rattle.machine.specs.Words.{MachineWords, machineOf};
+ghost use Rattle.view.specs.View.{View, anyWithin, bytesAt, viewOf};
+ghost use Rattle.machine.specs.Machine.{Memory};
+use crate::Fetched;
+use crate::IL;
+use crate::UM;
+
+// Offsets of the bounds in the control block.
+const IMEM_BOUND_LO: u32 = 0x1C;
+
+const IMEM_BOUND_HI: u32 = 0x1D;
+
+// The length in bytes of an instruction word.
+pub fn word_bytes(wide: bool) -> u32
+    ensures { λ r. ⌜ r ≡ wordBytes (widthBy wide) ⌝ }
+{
+    if wide { 4 } else { 2 }
+}
+
+// Whether one of the n program bytes from a on is protected from the mode: the two ranges overlap.
+pub fn closed(w: &[u32], user: bool, a: u32, n: u32) -> bool
+    requires { ⌜ MachineWords (now w) × (0 < n) × (a + n ≤ 2 ^ 32) ⌝ }
+    ensures { λ r. ⌜ r ≡ user && anyWithin (controlAt (machineOf (now (w .entry))) IMEM-BOUND-LO) (controlAt (machineOf (now (w .entry))) IMEM-BOUND-HI) a n ⌝ }
+{
+    let low = machine::control(w, IMEM_BOUND_LO);
+    let high = machine::control(w, IMEM_BOUND_HI);
+    if a <= high {
+        user & (low <= a + (n - 1)) & (low <= high)
+    } else {
+        false
+    }
+}
+
+// Whether a is not the address of an instruction word.
+pub fn misaligned(wide: bool, a: u32) -> bool
+    ensures { λ r. ⌜ r ≡ not (eqb (a % wordBytes (widthBy wide)) 0) ⌝ }
+{
+    (a % 2 == 1) | (a / 2 % 2 == 1) & wide
+}
+
+// The bytes of the instruction word at an address, if all are there.
+fn word_at(program: &[u8], wide: bool, a: u32) -> Fetched
+    ensures { λ r. ⌜ r ≡ bytesAt (now (program .entry)) (wordBytes (widthBy wide)) a 0 ⌝ }
+{
+    let at = a as usize;
+    if wide {
+        if at + 4 <= program.len() {
+            Fetched::Word(codec::number_at(program, at))
+        } else {
+            Fetched::Absent
+        }
+    } else if at + 2 <= program.len() {
+        Fetched::Word(program[at] as u32 * 256 + program[at + 1] as u32)
+    } else {
+        Fetched::Absent
+    }
+}
+
+// The next instruction word: misaligned, protected, absent, or there.
+pub fn fetch(program: &[u8], w: &[u32]) -> Fetched
+    requires { ⌜ MachineWords (now w) ⌝ }
+    ensures { λ r. ⌜ ((memory : Memory) → r ≡ viewOf (now (program .entry)) (now (w .entry)) memory .fetched) ⌝ }
+{
+    let psr = machine::psr(w);
+    let pc = machine::pc(w);
+    let wide = word::has_flag(psr, IL);
+    let n = word_bytes(wide);
+    if misaligned(wide, pc) {
+        Fetched::Fault(0x05)
+    } else if closed(w, word::has_flag(psr, UM), pc, n) {
+        Fetched::Fault(0x00)
+    } else {
+        word_at(program, wide, pc)
+    }
+}
