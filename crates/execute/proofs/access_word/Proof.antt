@@ -41,7 +41,7 @@ returns-2 c p =
     let left = read .before .before in
     let d = left .before .before .before in
     let memory = memoryOf (now (entry d .args .cells)) in
-    c .before .before .before .before .access .ensures p _
+    c .before .before .before .before .access .ensures _ p
     ∙ sym (low-performed p _ memory (given d) (omega arith) (sym (left .before .condition-false .ensures p memory) ∙ left .if1 .left)
     _ _ (read .source .ensures p memory) refl)
 

@@ -66,7 +66,7 @@ returns-3 c p memory =
     let read = c .before .before .before .before in
     let left = read .before .before in
     let d = left .before .before .before in
-    c .before .before .jumps .ensures p memory _
+    c .before .before .jumps .ensures _ p memory
     ∙ sym (word-performed p _ memory (given d) (usable d) (stays d) (sym (left .before .condition-false .ensures p memory) ∙ left .if2 .left)
     _ _ (read .source .ensures p memory) refl)
 

@@ -72,7 +72,7 @@ returns-4 c p memory =
     let read = c .before .before .before .before in
     let left = read .before .before in
     let d = left .before .before .before in
-    c .before .before .system .ensures p memory _
+    c .before .before .system .ensures _ p memory
     ∙ sym (word-performed p _ memory (given d) (usable d) (stays d) (sym (left .before .condition-false .ensures p memory) ∙ left .if3 .left)
     _ _ (read .source .ensures p memory) refl)
 

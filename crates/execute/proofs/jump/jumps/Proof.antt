@@ -12,7 +12,7 @@ use Rattle.execute.proofs.jump.jumps.Tie as tie
 
 returns : tie.Need-returns
 unfolding if_then_else_ links
-returns c p memory y =
+returns c y p memory =
     let a = c .before .before .before .before .before .before .before .before .before .before .args in
     let target = c .before .before .before .before .target in
     rw (
@@ -25,7 +25,7 @@ returns c p memory y =
 
 returns-2 : tie.Need-returns-2
 unfolding if_then_else_
-returns-2 c p memory y =
+returns-2 c y p memory =
     let a = c .before .before .before .before .before .before .before .before .args in
     rw (
       jumps-are _ (a .i) (a .x) y (a .i .opcode) (omega arith) (omega arith),

@@ -43,7 +43,7 @@ store l h n = omega arith
 
 returns : tie.Need-returns
 unfolding operations operationOf heldAt view loaded execute
-returns c p y =
+returns c y p =
     let b = c .before .before in
     let d = b .before .before in
     let t = d .before .before in
@@ -53,7 +53,7 @@ returns c p y =
 
 returns-2 : tie.Need-returns-2
 unfolding operations operationOf stored execute
-returns-2 c p y =
+returns-2 c y p =
     let b = c .before .before in
     let d = b .before .before in
     let t = d .before .before in
@@ -68,7 +68,7 @@ returns-2 c p y =
 
 returns-3 : tie.Need-returns-3
 unfolding operations operationOf heldAt view loaded execute
-returns-3 c p y =
+returns-3 c y p =
     let b = c .before .before in
     let t = b .before .before .before .before in
     let e = t .before .before in
@@ -77,7 +77,7 @@ returns-3 c p y =
 
 returns-4 : tie.Need-returns-4
 unfolding operations operationOf stored execute
-returns-4 c p y =
+returns-4 c y p =
     let b = c .before .before .before .before in
     let d = b .before .before .before in
     let t = d .before .before in
@@ -91,7 +91,7 @@ returns-4 c p y =
     (b .store-cell .ensures)
 
 returns-5 : tie.Need-returns-5
-returns-5 c p y =
+returns-5 c y p =
     let b = c .before .before in
     let e = b .before .before .before in
     let s = e .before .before .before .before .before .before .before .before .before .before .before in
@@ -102,10 +102,10 @@ returns-5 c p y =
 
 returns-6 : tie.Need-returns-6
 unfolding apply stopNumber reported reportOn
-returns-6 c p y =
+returns-6 c y p =
     let s = c .before .before .before .before .before .before .before .before .before .before .before in
     let a = s .args in
-    let here = named (c .before .before) p ∙ c .enum-reported .given .1 in
+    let here = named (c .before .before) p ∙ c .enum-told .given .1 in
     rw (access-missing (viewOf p (now (a .w)) (memoryOf (now (a .cells)))) (a .i) (a .x) y (a .i .opcode) here (s .pre .2) (s .pre .3))
 
 pub access-spec : {M : Type 1} → statement M

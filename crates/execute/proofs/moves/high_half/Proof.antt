@@ -11,7 +11,7 @@ use Rattle.execute.proofs.moves.high_half.Tie as tie
 
 returns : tie.Need-returns
 unfolding if_then_else_ view execute
-returns c p memory x y =
+returns c x y p memory =
     rw (
       eq-eqb _ 1 (sym (c .before .before .before .before .before .before .before .held .ensures) ∙ c .before .before .before .before .before .before .if1 .taken),
       ← (c .before .before .before .before .high .ensures),
@@ -20,7 +20,7 @@ returns c p memory x y =
 
 returns-2 : tie.Need-returns-2
 unfolding if_then_else_ view execute apply stopNumber reported reportOn
-returns-2 c p memory x y = rw (ne-eqb _ 1 (λ e. c .if1 .left (c .before .held .ensures ∙ e)))
+returns-2 c x y p memory = rw (ne-eqb _ 1 (λ e. c .if1 .left (c .before .held .ensures ∙ e)))
 
 pub high-half-spec : {M : Type 1} → statement M
 high-half-spec = tie.close (tie.spec (λ c κs. search needs) (λ c κs. search needs) (λ c κs. search needs) (λ c. search needs) returns (λ c. search needs) returns-2)

@@ -23,7 +23,7 @@ returns-3 : tie.Need-returns-3
 unfolding operations operationOf execute
 returns-3 c p memory =
     rw (c .before .before .before .before .match .keys3)
-    (c .before .before .high-half .ensures p memory (c .before .before .before .before .before .before .before .args .x) (c .before .before .before .before .before .before .before .args .y))
+    (c .before .before .high-half .ensures (c .before .before .before .before .before .before .before .args .x) (c .before .before .before .before .before .before .before .args .y) p memory)
 
 returns-4 : tie.Need-returns-4
 unfolding operations operationOf execute

@@ -11,11 +11,11 @@ use Rattle.execute.proofs.system.interrupt_return.Tie as tie
 
 returns : tie.Need-returns
 unfolding if_then_else_ view execute apply stopNumber reported reportOn
-returns c q memory x y = rw (nested-none _ (sym (c .before .depth .ensures) ∙ c .if1 .taken))
+returns c x y q memory = rw (nested-none _ (sym (c .before .depth .ensures) ∙ c .if1 .taken))
 
 returns-2 : tie.Need-returns-2
 unfolding if_then_else_ view execute
-returns-2 c q memory x y =
+returns-2 c x y q memory =
     let b = c .before .before in
     let d = b .before .before in
     rw (nested-some _ (λ e. d .if1 .left (d .before .depth .ensures ∙ e))) (b .interrupt-return .ensures memory)
