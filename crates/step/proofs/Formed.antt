@@ -247,7 +247,7 @@ accepted-room a f = stacked-depth (accepted-stacked a f)
 -- what holds of the state before it, of what an accepted interrupt leaves and of what the decided effect leaves, holds of the state after it
 module _ (P : State → Type 0) (program : List ℕ) (s : State) (requests : ℕ) where
   pub step-holds : let r = withRequests requests s in
-      P s → ((n : ℕ) → Accepted (r .machine) n → P (record { machine = accept n (r .machine); cells = r .cells }))
+      P s → ((n : ℕ) → Accepted (r .machine) n → P (record { machine = accept n (r .machine); memory = r .memory }))
       → P (apply (decide (view program r)) r .after) → P (step program s requests .after)
   unfolding step interruptOr machineOnly
   step-holds before accepted decided = if-holds P _ (λ _. before) (λ _. taken (acceptedSource v (r .machine)) refl)
@@ -273,7 +273,7 @@ step-formed p s q f =
 
 -- what holds of it and goes on holding when a cell takes a word holds after an effect, and after a step
 module _ (P : List ℕ → Type 0) (more : (l : List ℕ) (a x : ℕ) → P l → P (set l a (x % 2 ^ 32))) where
-  pub apply-cells : (e : Effect) (s : State) → P (s .memory .cells) → P (apply e s .after .cells)
+  pub apply-cells : (e : Effect) (s : State) → P (s .memory .cells) → P (apply e s .after .memory .cells)
   unfolding apply machineOnly storeCell
   apply-cells (Stopped n) s h = h
   apply-cells (Raised c) s h = h
@@ -294,16 +294,16 @@ module _ (P : List ℕ → Type 0) (more : (l : List ℕ) (a x : ℕ) → P l �
   apply-cells UserReturn s h = h
   apply-cells (SelectSets n) s h = h
 
-  pub step-cells : (program : List ℕ) (s : State) (requests : ℕ) → P (s .memory .cells) → P (step program s requests .after .cells)
+  pub step-cells : (program : List ℕ) (s : State) (requests : ℕ) → P (s .memory .cells) → P (step program s requests .after .memory .cells)
   unfolding withRequests
   step-cells p s q h =
       let r = withRequests q s in
-      step-holds (λ (t : State). P (t .cells)) p s q h (λ n a. h) (apply-cells (decide (view p r)) r h)
+      step-holds (λ (t : State). P (t .memory .cells)) p s q h (λ n a. h) (apply-cells (decide (view p r)) r h)
 
 -- as many cells as before
-pub step-count : (program : List ℕ) (s : State) (requests : ℕ) → length (step program s requests .after .cells) ≡ length (s .memory .cells)
+pub step-count : (program : List ℕ) (s : State) (requests : ℕ) → length (step program s requests .after .memory .cells) ≡ length (s .memory .cells)
 step-count p s q = step-cells (λ (l : List ℕ). length l ≡ length (s .memory .cells)) (λ l a x h. length-set l a (x % 2 ^ 32) ∙ h) p s q refl
 
 -- and each of them a word
-pub step-words : (program : List ℕ) (s : State) (requests : ℕ) → Below (2 ^ 32) (s .memory .cells) → Below (2 ^ 32) (step program s requests .after .cells)
+pub step-words : (program : List ℕ) (s : State) (requests : ℕ) → Below (2 ^ 32) (s .memory .cells) → Below (2 ^ 32) (step program s requests .after .memory .cells)
 step-words p s q h = step-cells (Below (2 ^ 32)) (λ l a x b. each-set (λ j y. y < 2 ^ 32) l a (x % 2 ^ 32) b (mod-lt x (lit< tt))) p s q h

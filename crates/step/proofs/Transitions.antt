@@ -40,14 +40,14 @@ stopped-same UserReturn s h = absurd (true≢false (sym h))
 stopped-same (SelectSets n) s h = absurd (true≢false (sym h))
 
 requests-back : (requests : ℕ) (s : State)
-    → record { machine = withPending (controlAt (s .machine) INT-PEND) (withRequests requests s .machine); cells = withRequests requests s .cells } ≡ s
+    → record { machine = withPending (controlAt (s .machine) INT-PEND) (withRequests requests s .machine); memory = withRequests requests s .memory } ≡ s
 unfolding withRequests
 requests-back requests s = rw (pending-back (s .machine) (orOf (controlAt (s .machine) INT-PEND) requests % 2 ^ 12))
 
 -- r is the state with the requests added
 module _ (program : List ℕ) (s : State) (requests : ℕ) (r : State) (added : r ≡ withRequests requests s) where
   pub step-accepts : (n : ℕ) → acceptedSource (view program r) (r .machine) ≡ some n
-      → record { stop = 0; after = record { machine = accept n (r .machine); cells = r .cells } } ≡ reported (step program s requests)
+      → record { stop = 0; after = record { machine = accept n (r .machine); memory = r .memory } } ≡ reported (step program s requests)
   unfolding step interruptOr machineOnly isStop if_then_else_ reported stopNumber
   step-accepts n o = rw (← added, o)
 
@@ -68,11 +68,11 @@ module _ (program : List ℕ) (s : State) (requests : ℕ) (r : State) (added : 
 
     -- INT_PEND is put back
     pub step-stops : (t .stop ≡ 0 → ⊥)
-        → record { stop = t .stop; after = record { machine = withPending (controlAt (s .machine) INT-PEND) (t .after .machine); cells = t .after .cells } }
+        → record { stop = t .stop; after = record { machine = withPending (controlAt (s .machine) INT-PEND) (t .after .machine); memory = t .after .memory } }
         ≡ reported (step program s requests)
     unfolding step interruptOr if_then_else_ reported
     step-stops z =
         let g = numbered-stop (instruction .kind) (λ e. z (number ∙ e)) in
         let same : t .after ≡ withRequests requests s = ap (λ (u : Report). u .after) done ∙ stopped-same (decide (view program r)) r g ∙ added in
-        let back = ap (λ (u : State). record { machine = withPending (controlAt (s .machine) INT-PEND) (u .machine); cells = u .cells }) same ∙ requests-back requests s in
+        let back = ap (λ (u : State). record { machine = withPending (controlAt (s .machine) INT-PEND) (u .machine); memory = u .memory }) same ∙ requests-back requests s in
         rw (back, number, ← added, o, g)

@@ -2,7 +2,7 @@
 use mathlib.Core.Path.{_≡_, ap}
 use mathlib.Core.Option.{Option, none, some}
 use Prim.Native.Nat.{ℕ}
-use Rattle.machine.specs.Machine.{Machine, State}
+use Rattle.machine.specs.Machine.{Machine, memoryOf, State}
 use Rattle.machine.specs.Words.{machineOf, stateOf}
 use Rattle.image.proofs.Formed.{stacked-distinct, WellFormed, formed-true, true-formed}
 use Rattle.view.specs.View.{view}
@@ -30,14 +30,14 @@ left c = c .before .before .before
 
 -- the state before the step, and the state with its requests
 abbrev start : tie.Start → State
-start s = stateOf (s .args .w .now) (s .args .cells .now)
+start s = stateOf (s .args .w .now) (memoryOf (s .args .cells .now))
 
 abbrev requested : tie.After-add-requests → State
-requested c = stateOf (c .add-requests .last .0) (entry c .args .cells .now)
+requested c = stateOf (c .add-requests .last .0) (memoryOf (entry c .args .cells .now))
 
 added : (c : tie.After-add-requests) → requested c ≡ withRequests (entry c .args .requests) (start (entry c))
 unfolding withRequests
-added c = ap (λ (m : Machine). record { machine = m; cells = entry c .args .cells .now }) (c .add-requests .ensures)
+added c = ap (λ (m : Machine). record { machine = m; memory = memoryOf (entry c .args .cells .now) }) (c .add-requests .ensures)
 
 formed : (c : tie.After-add-requests) → WellFormed (requested c .machine)
 unfolding withRequests
@@ -50,11 +50,11 @@ abbrev source : tie.After-add-requests → Option ℕ
 source c = acceptedSource (view (entry c .args .program .now) (requested c)) (requested c .machine)
 
 accepted : (c : tie.Then1) → source (asked (c .before)) ≡ some (c .before .accepted-source .result)
-accepted c = number-some _ (c .before .accepted-source .ensures (entry (asked (c .before)) .args .cells .now)) (c .if1 .taken)
+accepted c = number-some _ (c .before .accepted-source .ensures (memoryOf (entry (asked (c .before)) .args .cells .now))) (c .if1 .taken)
 
 refused : (c : tie.Else1) → source (asked (c .before)) ≡ none
 refused c =
-    number-none _ (λ k e. source-accepted _ _ k e .below) (c .before .accepted-source .ensures (entry (asked (c .before)) .args .cells .now)) (c .if1 .left)
+    number-none _ (λ k e. source-accepted _ _ k e .below) (c .before .accepted-source .ensures (memoryOf (entry (asked (c .before)) .args .cells .now))) (c .if1 .left)
 
 accepted-source-requires : tie.Need-accepted-source-requires
 accepted-source-requires c κs = (search needs, formed-true (formed (c .before .before .before)))
