@@ -2,7 +2,7 @@
 ghost use mathlib.Core.Path.{_≡_};
 ghost use Rattle.emulator.specs.Run.{runCall};
 ghost use Rattle.emulator.specs.Reset.{resetOutcome, resetCall};
-ghost use Rattle.coffee.specs.Numbers.{numbersOf, shown, inNumbers};
+ghost use Rattle.coffee.specs.Numbers.{answerNumbers, shown, inNumbers};
 ghost use Rattle.machine.specs.Machine.{memoryOf};
 use emulator::Answer;
 
@@ -18,7 +18,7 @@ pub struct CoffeeAnswer {
 
 // An answer in numbers.
 fn numbers(a: Answer) -> CoffeeAnswer
-    ensures { λ r. ⌜ r ≡ numbersOf a ⌝ }
+    ensures { λ r. ⌜ r ≡ answerNumbers a ⌝ }
 {
     match a {
         Answer::Refusal(n) => CoffeeAnswer {

@@ -8,12 +8,12 @@ use lib.Dec.{lit≤}
 use lib.ListN.{length, getD, drop, getElem?, length-append, length-drop}
 use lib.Seq.{drop-nil}
 use Rattle.codec.specs.Number.{over}
-use Rattle.machine.specs.Machine.{Machine, State}
+use Rattle.machine.specs.Machine.{Machine, State, Memory}
 use Rattle.image.specs.Image.{Read, Refused, Accepted, askMachine, readImage, writeImage}
 use Rattle.image.proofs.Image.{accepted-formed, writeImage-longest, writeImage-readImage}
 use Rattle.word.proofs.Tests.{if-holds}
 use Rattle.effect.specs.Apply.{Transition}
-use Rattle.emulator.specs.Run.{Call, run, RunResult, resultOf, resultFrom, Asked, No, Start, askCall, ask, stateOf, outcome, calledBy, called, runCall}
+use Rattle.emulator.specs.Run.{Call, run, RunResult, resultOf, resultFrom, Asked, No, Start, askCall, ask, outcome, calledBy, called, runCall, stateWith, asked}
 use Rattle.emulator.specs.Closure.{Unchanged, Refusals, Written, Ended, limitReached, stopped, RanAs, Completed, NoStep, LimitZero}
 use Rattle.emulator.specs.declared.Answer.the-variants.{Refusal, Ran}
 use Rattle.emulator.proofs.Loop.{Runs, limit-reached, went-on, runs-by}
@@ -40,26 +40,26 @@ read-numbered image =
     if-holds NumberedRead _ (λ _. if-holds NumberedRead _ (λ _. (lit≤ tt, lit≤ tt)) (λ _.
     if-holds NumberedRead _ (λ _. (lit≤ tt, lit≤ tt)) (λ _. if-holds NumberedRead _ (λ _. (lit≤ tt, lit≤ tt)) (λ _. tt)))) (λ _. (lit≤ tt, lit≤ tt))
 
-call-numbered : (c : Call) (r : Read) → NumberedRead r → Numbered (askCall c r)
+call-numbered : (requests : List ℕ) (limit room : ℕ) (r : Read) → NumberedRead r → Numbered (askCall requests limit room r)
 unfolding askCall
-call-numbered c (Refused n) h = h
-call-numbered c (Accepted m) h =
+call-numbered requests limit room (Refused n) h = h
+call-numbered requests limit room (Accepted m) h =
     if-holds Numbered _ (λ _. (lit≤ tt, lit≤ tt)) (λ _. if-holds Numbered _ (λ _. (lit≤ tt, lit≤ tt)) (λ _. if-holds Numbered _ (λ _. (lit≤ tt, lit≤ tt)) (λ _. tt)))
 
-ask-numbered : (p image cells : List ℕ) (c : Call) → Numbered (ask p image cells c)
+ask-numbered : (p image : List ℕ) (memory : Memory) (c : Call) → Numbered (asked p image memory c)
 unfolding ask
-ask-numbered p image cells c = if-holds Numbered _ (λ _. (lit≤ tt, lit≤ tt)) (λ _. call-numbered c (readImage image) (read-numbered image))
+ask-numbered p image memory c = if-holds Numbered _ (λ _. (lit≤ tt, lit≤ tt)) (λ _. call-numbered _ _ _ (readImage image) (read-numbered image))
 
-refused-by : (p image cells : List ℕ) (c : Call) (n : ℕ) → InRange n → Unchanged image cells c n (calledBy p image cells c (No n))
+refused-by : (p image : List ℕ) (memory : Memory) (c : Call) (n : ℕ) → InRange n → Unchanged image memory c n (calledBy p image memory c (No n))
 unfolding calledBy
-refused-by p image cells c n h =
-    record { least = h .0; most = h .1; answer = refl; sameBuffer = refl; sameCells = refl; sameImage = refl; noSteps = refl }
+refused-by p image memory c n h =
+    record { least = h .0; most = h .1; answer = refl; sameBuffer = refl; sameMemory = refl; sameImage = refl; noSteps = refl }
 
 pub refusals : Refusals
 unfolding Refusals called
-refusals p image cells c n e =
-    let h : InRange n = rw e at (ask-numbered p image cells c) in
-    rw e (refused-by p image cells c n h)
+refusals p image memory c n e =
+    let h : InRange n = rw e at (ask-numbered p image memory c) in
+    rw e (refused-by p image memory c n h)
 
 -- ---- the buffer
 
@@ -96,11 +96,11 @@ module _ (p requests : List ℕ) where
 
 -- ---- a call that is not refused
 
-completed-by : (p image cells : List ℕ) (c : Call) (m : Machine) → ask p image cells c ≡ Start m → RanAs c (calledBy p image cells c (Start m))
+completed-by : (p image : List ℕ) (memory : Memory) (c : Call) (m : Machine) → asked p image memory c ≡ Start m → RanAs c (calledBy p image memory c (Start m))
 unfolding calledBy
-completed-by p image cells c m e =
-    let y = asked-yes p image cells c m e in
-    let s = stateOf m cells in
+completed-by p image memory c m e =
+    let y = asked-yes p image memory c m e in
+    let s = stateWith m memory in
     let f = result-formed p (c .requests) (c .limit) s (accepted-formed image m (y .read)) in
     let x = resultFrom p (c .requests) (c .limit) 0 s in
     record {
@@ -113,26 +113,26 @@ completed-by p image cells c m e =
 
 pub completed : Completed
 unfolding Completed called
-completed p image cells c m e = rw e (completed-by p image cells c m e)
+completed p image memory c m e = rw e (completed-by p image memory c m e)
 
-no-step-by : (p image cells : List ℕ) (c : Call) (m : Machine) → ((i : ℕ) → getD image i 0 < 256) → readImage image ≡ Accepted m → c .limit ≡ 0
-    → NoStep image cells (calledBy p image cells c (Start m))
+no-step-by : (p image : List ℕ) (memory : Memory) (c : Call) (m : Machine) → ((i : ℕ) → getD image i 0 < 256) → readImage image ≡ Accepted m → c .limit ≡ 0
+    → NoStep image memory (calledBy p image memory c (Start m))
 unfolding calledBy run resultFrom resultOf
-no-step-by p image cells c m b e z =
-    rw z (record { noSteps = refl; sameImage = writeImage-readImage image m b e; sameCells = refl })
+no-step-by p image memory c m b e z =
+    rw z (record { noSteps = refl; sameImage = writeImage-readImage image m b e; sameMemory = refl })
 
 pub limit-zero : LimitZero
 unfolding LimitZero called
-limit-zero p image cells c m b e z = rw e (no-step-by p image cells c m b (asked-yes p image cells c m e .read) z)
+limit-zero p image memory c m b e z = rw e (no-step-by p image memory c m b (asked-yes p image memory c m e .read) z)
 
 -- ---- the call, by what the questions say
 
-pub call-refused : (p image cells : List ℕ) (c : Call) (n : ℕ) → ask p image cells c ≡ No n → runCall p image cells c ≡ outcome (Refusal n) (c .buffer) cells
+pub call-refused : (p image : List ℕ) (memory : Memory) (c : Call) (n : ℕ) → asked p image memory c ≡ No n → runCall p image memory c ≡ outcome (Refusal n) (c .buffer) memory
 unfolding runCall called calledBy
-call-refused p image cells c n e = ap (λ (a : Asked). calledBy p image cells c a .outcome) e
+call-refused p image memory c n e = ap (λ (a : Asked). calledBy p image memory c a .outcome) e
 
-pub call-started : (p image cells : List ℕ) (c : Call) (m : Machine) → ask p image cells c ≡ Start m
-    → let e = resultFrom p (c .requests) (c .limit) 0 (stateOf m cells) in
-    runCall p image cells c ≡ outcome (Ran (e .steps) (e .ending)) (over (writeImage (e .after .machine)) (c .buffer)) (e .after .cells)
+pub call-started : (p image : List ℕ) (memory : Memory) (c : Call) (m : Machine) → asked p image memory c ≡ Start m
+    → let e = resultFrom p (c .requests) (c .limit) 0 (stateWith m memory) in
+    runCall p image memory c ≡ outcome (Ran (e .steps) (e .ending)) (over (writeImage (e .after .machine)) (c .buffer)) (e .after .memory)
 unfolding runCall called calledBy
-call-started p image cells c m e = ap (λ (a : Asked). calledBy p image cells c a .outcome) e
+call-started p image memory c m e = ap (λ (a : Asked). calledBy p image memory c a .outcome) e

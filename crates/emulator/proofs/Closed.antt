@@ -10,14 +10,14 @@ use borrow.Author.Tests.{leb-true, le-leb}
 use lib.ListN.{length, getD}
 use Rattle.word.specs.Choice.{if_then_else_}
 use Rattle.word.proofs.Tests.{and-parts}
-use Rattle.machine.specs.Machine.{Machine, State}
+use Rattle.machine.specs.Machine.{Machine, State, Memory}
 use Rattle.image.specs.Image.{Read, Refused, Accepted, readImage}
 use Rattle.image.proofs.Tests.{below-true, true-below}
 use Rattle.image.proofs.Formed.{WellFormed}
 use Rattle.image.proofs.Image.{readImage-writeImage, accepted-formed}
 use Rattle.effect.specs.Apply.{Transition}
 use Rattle.step.proofs.Formed.{step-formed}
-use Rattle.emulator.specs.Run.{Call, run, RunResult, resultFrom, Asked, No, Start, askCall, ask, stateOf, calledBy, called, transitions}
+use Rattle.emulator.specs.Run.{Call, run, RunResult, resultFrom, Asked, No, Start, askCall, ask, calledBy, called, transitions, stateWith, asked}
 use Rattle.emulator.specs.Closure.{final, Steps, Closure, Continuity, AllYes, Questions}
 use Rattle.emulator.proofs.Loop.{Runs, limit-reached, stopped, went-on, runs-by}
 
@@ -29,11 +29,11 @@ not-refused true n x m e = (refl, e)
 not-refused false n x m e = absurd (let z : _≡_ {A = ℕ} 0 1 = cc in omega arith)
 
 -- 6 to 8, of an image that is accepted
-call-yes : (p image cells : List ℕ) (c : Call) (m : Machine) → length p ≤ 65536 → length cells ≤ 65536
-    → (r : Read) → readImage image ≡ r → askCall c r ≡ Start m → AllYes p image cells c m
+call-yes : (p image : List ℕ) (memory : Memory) (c : Call) (m : Machine) → length p ≤ 65536 → length (memory .cells) ≤ 65536
+    → (r : Read) → readImage image ≡ r → askCall (c .requests) (c .limit) (length (c .buffer)) r ≡ Start m → AllYes p image memory c m
 unfolding askCall
-call-yes p image cells c m a b (Refused n) r e = absurd (let z : _≡_ {A = ℕ} 0 1 = cc in omega arith)
-call-yes p image cells c m a b (Accepted x) r e =
+call-yes p image memory c m a b (Refused n) r e = absurd (let z : _≡_ {A = ℕ} 0 1 = cc in omega arith)
+call-yes p image memory c m a b (Accepted x) r e =
     let q₆ = not-refused _ 6 _ m e in
     let q₇ = not-refused _ 7 _ m (q₆ .1) in
     let q₈ = not-refused _ 8 _ m (q₇ .1) in
@@ -48,19 +48,19 @@ call-yes p image cells c m a b (Accepted x) r e =
       room = leb-true 708 (length (c .buffer)) (q₈ .0);
     }
 
-pub asked-yes : (p image cells : List ℕ) (c : Call) (m : Machine) → ask p image cells c ≡ Start m → AllYes p image cells c m
+pub asked-yes : (p image : List ℕ) (memory : Memory) (c : Call) (m : Machine) → asked p image memory c ≡ Start m → AllYes p image memory c m
 unfolding ask
-asked-yes p image cells c m e =
-    let q₁ = not-refused (leb (length p) 65536 && leb (length cells) 65536) 1 _ m e in
-    let h = and-parts (leb (length p) 65536) (leb (length cells) 65536) (q₁ .0) in
-    call-yes p image cells c m (leb-true (length p) 65536 (h .0)) (leb-true (length cells) 65536 (h .1)) (readImage image) refl (q₁ .1)
+asked-yes p image memory c m e =
+    let q₁ = not-refused (leb (length p) 65536 && leb (length (memory .cells)) 65536) 1 _ m e in
+    let h = and-parts (leb (length p) 65536) (leb (length (memory .cells)) 65536) (q₁ .0) in
+    call-yes p image memory c m (leb-true (length p) 65536 (h .0)) (leb-true (length (memory .cells)) 65536 (h .1)) (readImage image) refl (q₁ .1)
 
-yes-asked : (p image cells : List ℕ) (c : Call) (m : Machine) → AllYes p image cells c m → ask p image cells c ≡ Start m
+yes-asked : (p image : List ℕ) (memory : Memory) (c : Call) (m : Machine) → AllYes p image memory c m → asked p image memory c ≡ Start m
 unfolding ask askCall if_then_else_
-yes-asked p image cells c m y =
+yes-asked p image memory c m y =
     rw (
       le-leb (length p) 65536 (y .programSize),
-      le-leb (length cells) 65536 (y .dataSize),
+      le-leb (length (memory .cells)) 65536 (y .dataSize),
       y .read,
       below-true 0x1000 (c .requests) (λ i. suc-le-suc (y .requests i)),
       le-leb (c .limit) 1000000 (y .limit),
@@ -69,7 +69,7 @@ yes-asked p image cells c m y =
 
 pub questions : Questions
 unfolding Questions
-questions p image cells c m = (asked-yes p image cells c m, yes-asked p image cells c m)
+questions p image memory c m = (asked-yes p image memory c m, yes-asked p image memory c m)
 
 -- ---- transitions that are steps
 
@@ -106,35 +106,35 @@ result-formed p requests n s f =
 
 -- ---- closure and continuity
 
-left-by : (p image cells : List ℕ) (c : Call) (m : Machine) → readImage image ≡ Accepted m → (a : Asked) → ask p image cells c ≡ a
-    → (readImage (calledBy p image cells c a .image) ≡ Accepted (final (stateOf m cells) (calledBy p image cells c a .transitions) .machine))
-    × (calledBy p image cells c a .outcome .cells ≡ final (stateOf m cells) (calledBy p image cells c a .transitions) .cells)
-    × Steps p (stateOf m cells) (calledBy p image cells c a .transitions)
+left-by : (p image : List ℕ) (memory : Memory) (c : Call) (m : Machine) → readImage image ≡ Accepted m → (a : Asked) → asked p image memory c ≡ a
+    → (readImage (calledBy p image memory c a .image) ≡ Accepted (final (stateWith m memory) (calledBy p image memory c a .transitions) .machine))
+    × (calledBy p image memory c a .outcome .memory ≡ final (stateWith m memory) (calledBy p image memory c a .transitions) .memory)
+    × Steps p (stateWith m memory) (calledBy p image memory c a .transitions)
 unfolding calledBy final Steps
-left-by p image cells c m e (No n) q = (e, refl, tt)
-left-by p image cells c m e (Start x) q =
-    let g : m ≡ x = cc (asked-yes p image cells c x q .read, e) in
-    let s = stateOf x cells in
+left-by p image memory c m e (No n) q = (e, refl, tt)
+left-by p image memory c m e (Start x) q =
+    let g : m ≡ x = cc (asked-yes p image memory c x q .read, e) in
+    let s = stateWith x memory in
     let r = runs-by p (c .requests) (c .limit) 0 s in
     let h = runs-final p (c .requests) r in
     rw g (
-      readImage-writeImage (result-formed p (c .requests) (c .limit) s (accepted-formed image x (asked-yes p image cells c x q .read))) ∙ ap (λ (t : State). Accepted (t .machine)) h,
-      ap (λ (t : State). t .cells) h,
+      readImage-writeImage (result-formed p (c .requests) (c .limit) s (accepted-formed image x (asked-yes p image memory c x q .read))) ∙ ap (λ (t : State). Accepted (t .machine)) h,
+      ap (λ (t : State). t .memory) h,
       runs-steps p (c .requests) r,
     )
 
 pub closure : Closure
 unfolding Closure called
-closure p image cells c m e =
-    let x = left-by p image cells c m e (ask p image cells c) refl in
+closure p image memory c m e =
+    let x = left-by p image memory c m e (asked p image memory c) refl in
     record { machine = x .0; memory = x .1 }
 
 pub continuity : Continuity
 unfolding Continuity transitions called Steps
-continuity p image cells [] m e = tt
-continuity p image cells (c ∷ cs) m e =
-    let x = left-by p image cells c m e (ask p image cells c) refl in
-    let d = called p image cells c in
-    let s = final (stateOf m cells) (d .transitions) in
-    let rest : Steps p s (transitions p (d .image) (d .outcome .cells) cs) = rw (x .1) (continuity p (d .image) (s .cells) cs (s .machine) (x .0)) in
-    steps-append p (stateOf m cells) (d .transitions) (transitions p (d .image) (d .outcome .cells) cs) (x .2) rest
+continuity p image memory [] m e = tt
+continuity p image memory (c ∷ cs) m e =
+    let x = left-by p image memory c m e (asked p image memory c) refl in
+    let d = called p image memory c in
+    let s = final (stateWith m memory) (d .transitions) in
+    let rest : Steps p s (transitions p (d .image) (d .outcome .memory) cs) = rw (x .1) (continuity p (d .image) (s .memory) cs (s .machine) (x .0)) in
+    steps-append p (stateWith m memory) (d .transitions) (transitions p (d .image) (d .outcome .memory) cs) (x .2) rest

@@ -12,7 +12,7 @@ use lib.ListN.{length, getD, set, getElem?, replicate, length-set, length-map, L
 use lib.Dec.{lit≤}
 use Rattle.isa.specs.Operation.{add, ld, st, Properties, properties}
 use Rattle.codec.specs.Number.{bytesOf}
-use Rattle.machine.specs.Machine.{Machine, PSR, positionAt}
+use Rattle.machine.specs.Machine.{Machine, PSR, positionAt, memoryOf}
 use Rattle.machine.specs.Control.{reset, within, CCB-BASE, INT-VECTORS, INT-PEND, DMEM-BOUND-LO, DMEM-BOUND-HI, IMEM-BOUND-LO, IMEM-BOUND-HI}
 use Rattle.machine.specs.Stack.{showStack}
 use Rattle.machine.specs.declared.Entry.{Entry}
@@ -70,7 +70,7 @@ left =
       program = program;
       image = writeImage m;
       machine = m;
-      cells = cells;
+      memory = memoryOf cells;
       calls = call [] 1 708 ∷ call [] 1000001 708 ∷ call [] 0 708 ∷ call [] 3 707 ∷ call [] 3 708 ∷ [];
     }
 
@@ -81,7 +81,7 @@ right =
       program = set program 16 0xFF;
       image = writeImage m;
       machine = m;
-      cells = set cells 0x100 7;
+      memory = memoryOf (set cells 0x100 7);
       calls = call (7 ∷ 0 ∷ []) 3 800 ∷ call (4096 ∷ []) 1 708 ∷ call (0xFFF ∷ []) 1 708 ∷ [];
     }
 

@@ -118,7 +118,7 @@ start-mode a s =
 
 session-steps : (a : Session) → UserStart a → Steps (a .program) (startOf a) (transitionsOf a)
 unfolding Continuity
-session-steps a s = continuity (a .program) (a .image) (a .cells) (a .calls) (a .machine) (s .read)
+session-steps a s = continuity (a .program) (a .image) (a .memory) (a .calls) (a .machine) (s .read)
 
 first-half : (a : Session) → UserStart a → Integrity a
 unfolding Integrity transition

@@ -6,7 +6,7 @@ use Prim.Native.Nat.{ℕ, zero, suc, _+_, _-_, _≤_, _<_}
 use native.Mathlib.Omega.{arith}
 use lib.ListN.{length, getD}
 use Rattle.codec.specs.Number.{over}
-use Rattle.machine.specs.Machine.{Machine}
+use Rattle.machine.specs.Machine.{Machine, Memory}
 use Rattle.machine.specs.Words.{machineOf, stateOf}
 use Rattle.image.specs.Questions.{wellFormed}
 use Rattle.image.specs.Image.{writeImage}
@@ -16,7 +16,7 @@ use Rattle.effect.specs.Apply.{Transition, stopNumber, Report, reported, report
 use Rattle.step.specs.Step.{step}
 use Rattle.step.proofs.Formed.{step-formed}
 use Rattle.step.proofs.Stops.{numbered-stop, numbered-step, stop-number}
-use Rattle.emulator.specs.Run.{Call, RunResult, resultFrom, resultBy, No, Start, ask, askedBy, outcome, runCall}
+use Rattle.emulator.specs.Run.{Call, RunResult, resultFrom, resultBy, No, Start, ask, askedBy, outcome, runCall, asked}
 use Rattle.emulator.specs.Closure.{AllYes}
 use Rattle.emulator.specs.declared.Ended.{Ended}
 use Rattle.emulator.specs.declared.Answer.the-variants.{Refusal, Ran}
@@ -27,15 +27,15 @@ use Rattle.emulator.proofs.Answers.{call-refused, call-started}
 -- ---- one step of the loop
 
 -- the words after a transition say a well-formed machine
-pub step-kept : (p : List ℕ) (q n : ℕ) (w d w₁ d₁ : List ℕ) → reportBy n w₁ d₁ ≡ reported (step p (stateOf w d) q)
+pub step-kept : (p : List ℕ) (q n : ℕ) (w : List ℕ) (d : Memory) (w₁ : List ℕ) (d₁ : Memory) → reportBy n w₁ d₁ ≡ reported (step p (stateOf w d) q)
     → wellFormed (machineOf w) ≡ true → wellFormed (machineOf w₁) ≡ true
 unfolding reported
 step-kept p q n w d w₁ d₁ e f =
     let same : machineOf w₁ ≡ step p (stateOf w d) q .after .machine = ap (λ (t : Report). t .after .machine) e in
     formed-true (rw same (step-formed p (stateOf w d) q (true-formed (machineOf w) f)))
 
--- n and the words and cells are what a transition with requests q tells
-module _ (p requests : List ℕ) (limit done q n : ℕ) (w d w₁ d₁ : List ℕ) (r : q ≡ getD requests done 0)
+-- n and the words and memory are what a transition with requests q reports
+module _ (p requests : List ℕ) (limit done q n : ℕ) (w : List ℕ) (d : Memory) (w₁ : List ℕ) (d₁ : Memory) (r : q ≡ getD requests done 0)
     (e : reportBy n w₁ d₁ ≡ reported (step p (stateOf w d) q)) where
   abbrev next : Transition
   next = step p (stateOf w d) (getD requests done 0)
@@ -72,31 +72,31 @@ unfolding askedBy
 asked-no zero m z = absurd (z refl)
 asked-no (suc n) m z = refl
 
-module _ (p image cells : List ℕ) (c : Call) (n : ℕ) (w : List ℕ) (a : askedBy n (machineOf w) ≡ ask p image cells c) where
+module _ (p image : List ℕ) (memory : Memory) (c : Call) (n : ℕ) (w : List ℕ) (a : askedBy n (machineOf w) ≡ asked p image memory c) where
   -- refused: nothing is written
-  pub run-refused : (n ≡ 0 → ⊥) → outcome (Refusal n) (c .buffer) cells ≡ runCall p image cells c
-  run-refused z = sym (call-refused p image cells c n (sym a ∙ asked-no n (machineOf w) z))
+  pub run-refused : (n ≡ 0 → ⊥) → outcome (Refusal n) (c .buffer) memory ≡ runCall p image memory c
+  run-refused z = sym (call-refused p image memory c n (sym a ∙ asked-no n (machineOf w) z))
 
   module _ (z : n ≡ 0) where
-    started : ask p image cells c ≡ Start (machineOf w)
+    started : asked p image memory c ≡ Start (machineOf w)
     unfolding askedBy
     started = sym (rw z at a)
 
     -- not refused: the words say the machine that the steps start with
-    pub run-yes : AllYes p image cells c (machineOf w)
-    run-yes = asked-yes p image cells c (machineOf w) started
+    pub run-yes : AllYes p image memory c (machineOf w)
+    run-yes = asked-yes p image memory c (machineOf w) started
 
     pub run-formed : wellFormed (machineOf w) ≡ true
     run-formed = formed-true (accepted-formed image (machineOf w) (run-yes .read))
 
-    module _ (e : Ended) (w₁ d₁ : List ℕ) (s : resultBy e w₁ d₁ ≡ resultFrom p (c .requests) (c .limit) 0 (stateOf w cells)) where
+    module _ (e : Ended) (w₁ : List ℕ) (d₁ : Memory) (s : resultBy e w₁ d₁ ≡ resultFrom p (c .requests) (c .limit) 0 (stateOf w memory)) where
       -- after the steps: the stack fits an image, and that image is the one that the call leaves
       pub run-deep : length (machineOf w₁ .stack) ≤ 12
       run-deep =
-          let f = result-formed p (c .requests) (c .limit) (stateOf w cells) (accepted-formed image (machineOf w) (run-yes .read)) in
+          let f = result-formed p (c .requests) (c .limit) (stateOf w memory) (accepted-formed image (machineOf w) (run-yes .read)) in
           stacked-depth ((rw (← s) at f) .stack)
 
-      pub run-ran : outcome (Ran (e .steps) (e .ending)) (over (writeImage (machineOf w₁)) (c .buffer)) d₁ ≡ runCall p image cells c
+      pub run-ran : outcome (Ran (e .steps) (e .ending)) (over (writeImage (machineOf w₁)) (c .buffer)) d₁ ≡ runCall p image memory c
       run-ran =
-          ap (λ (x : RunResult). outcome (Ran (x .steps) (x .ending)) (over (writeImage (x .after .machine)) (c .buffer)) (x .after .cells)) s
-          ∙ sym (call-started p image cells c (machineOf w) started)
+          ap (λ (x : RunResult). outcome (Ran (x .steps) (x .ending)) (over (writeImage (x .after .machine)) (c .buffer)) (x .after .memory)) s
+          ∙ sym (call-started p image memory c (machineOf w) started)

@@ -43,7 +43,7 @@ kept-trans k l =
 
 -- by an update in user mode
 pub guarded-kept : {s t : State} → Guarded (s .machine) (t .machine) → User (t .machine)
-    → ((a : ℕ) → protectedCell (s .machine) a ≡ true → getElem? (t .cells) a ≡ getElem? (s .cells) a) → Kept s t
+    → ((a : ℕ) → protectedCell (s .machine) a ≡ true → getElem? (t .memory .cells) a ≡ getElem? (s .memory .cells) a) → Kept s t
 guarded-kept {s} {t} g u c =
     record {
       set2 = g .set2;
@@ -70,14 +70,14 @@ pub record Low (s t : State) : Type 0 where
   pub dmemHigh : controlAt (s .machine) DMEM-BOUND-HI ≡ controlAt (t .machine) DMEM-BOUND-HI
   pub imemLow : controlAt (s .machine) IMEM-BOUND-LO ≡ controlAt (t .machine) IMEM-BOUND-LO
   pub imemHigh : controlAt (s .machine) IMEM-BOUND-HI ≡ controlAt (t .machine) IMEM-BOUND-HI
-  pub dataSize : length (s .cells) ≡ length (t .cells)
+  pub dataSize : length (s .memory .cells) ≡ length (t .memory .cells)
 
 pub low-alike : {s t : State} → Low s t → Alike (s .machine) (t .machine)
 low-alike l = record { set1 = l .shown .set1; conditions = l .shown .conditions; status = l .shown .status; position = l .shown .position }
 
 -- two later states, each with what is protected kept
 pub low-later : {s t s′ t′ : State} → Low s t → Kept s s′ → Kept t t′ → Alike (s′ .machine) (t′ .machine)
-    → ((a : ℕ) → protectedCell (s .machine) a ≡ false → getElem? (s′ .cells) a ≡ getElem? (t′ .cells) a) → length (s′ .cells) ≡ length (t′ .cells)
+    → ((a : ℕ) → protectedCell (s .machine) a ≡ false → getElem? (s′ .memory .cells) a ≡ getElem? (t′ .memory .cells) a) → length (s′ .memory .cells) ≡ length (t′ .memory .cells)
     → Low s′ t′
 low-later {s} {t} {s′} {t′} l k h a c z =
     record {

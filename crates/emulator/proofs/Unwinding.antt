@@ -81,7 +81,7 @@ unfolding storeCell
 stored-kept a x s i o =
     let u = advance-confined .user (s .machine) (i .user) in
     let k = guarded-kept (advance-confined .guarded (s .machine) (i .user)) u (λ b h.
-    at-set-other (s .cells) a b (x % 2 ^ 32) (λ e. true≢false (sym h ∙ ap (protectedCell (s .machine)) e ∙ o))) in
+    at-set-other (s .memory .cells) a b (x % 2 ^ 32) (λ e. true≢false (sym h ∙ ap (protectedCell (s .machine)) e ∙ o))) in
     (k, mode-later i k u)
 
 course-kept : (s : State) → Mode s → (e : Effect) → Course (controlAt (s .machine) DMEM-BOUND-LO) (controlAt (s .machine) DMEM-BOUND-HI) e
@@ -109,8 +109,8 @@ stored-agree a x s t i j l o =
     let o′ : protectedCell (t .machine) a ≡ false = rw (l .dmemLow, l .dmemHigh) at o in
     goOn refl refl
     (low-later l (stored-kept a x s i o .0) (stored-kept a x t j o′ .0) (advance-confined .alike (s .machine) (t .machine) (i .user) (j .user) (low-alike l))
-    (λ b h. at-set-same (s .cells) (t .cells) a b (x % 2 ^ 32) (l .shown .cells b h))
-    (length-set (s .cells) a (x % 2 ^ 32) ∙ l .dataSize ∙ sym (length-set (t .cells) a (x % 2 ^ 32))))
+    (λ b h. at-set-same (s .memory .cells) (t .memory .cells) a b (x % 2 ^ 32) (l .shown .cells b h))
+    (length-set (s .memory .cells) a (x % 2 ^ 32) ∙ l .dataSize ∙ sym (length-set (t .memory .cells) a (x % 2 ^ 32))))
 
 course-agree : (s t : State) → Mode s → Mode t → Low s t → (e : Effect)
     → Course (controlAt (s .machine) DMEM-BOUND-LO) (controlAt (s .machine) DMEM-BOUND-HI) e → Agree (apply e s) (apply e t)

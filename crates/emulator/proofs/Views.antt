@@ -75,7 +75,7 @@ held-same s t i l count z (Block n) e =
     absurd (no-block _ _ _ n (i .blockLow) (i .blockHigh) (b .offset) (b .unprotected refl))
 held-same s t i l count z (Cell a) e =
     let c = place-cell true _ _ _ count z a e in
-    same-getD (s .cells) (t .cells) a 0 (l .shown .cells a (c .unprotected refl))
+    same-getD (s .memory .cells) (t .memory .cells) a 0 (l .shown .cells a (c .unprotected refl))
 held-same s t i l count z (Denied c) e = refl
 held-same s t i l count z Missing e = refl
 
@@ -104,9 +104,9 @@ view-same p q s t i j l h =
     let low : controlAt m DMEM-BOUND-LO ≤ controlAt n CCB-BASE = rw (l .dmemLow) (j .blockLow) in
     let high : controlAt n CCB-BASE + 255 ≤ controlAt m DMEM-BOUND-HI = rw (l .dmemHigh) (j .blockHigh) in
     let place : (z : ℤ) → view p s .place z ≡ view q t .place z = λ z.
-    cc (place-same _ _ (controlAt m CCB-BASE) (controlAt n CCB-BASE) (length (s .cells)) (i .blockLow) (i .blockHigh) low high z, um, un, l .dmemLow, l .dmemHigh, l .dataSize) in
+    cc (place-same _ _ (controlAt m CCB-BASE) (controlAt n CCB-BASE) (length (s .memory .cells)) (i .blockLow) (i .blockHigh) low high z, um, un, l .dmemLow, l .dmemHigh, l .dataSize) in
     let load : (z : ℤ) → view p s .load z ≡ view q t .load z = λ z.
-    cc (held-same s t i l (length (s .cells)) z _ refl, place z, um) in
+    cc (held-same s t i l (length (s .memory .cells)) z _ refl, place z, um) in
     let closed : (x : ℕ) → view p s .closed x ≡ view q t .closed x = λ x. cc (l .shown .status, l .imemLow, l .imemHigh) in
     λ d. record {
       status = l .shown .status d;

@@ -4,11 +4,11 @@ use mathlib.Core.Logic.{_↔_}
 use mathlib.Core.List.{List, [], _∷_}
 use Prim.Native.Nat.{ℕ, suc, _≤_, _<_}
 use lib.ListN.{length, getD, getElem?}
-use Rattle.machine.specs.Machine.{Machine, State}
+use Rattle.machine.specs.Machine.{Machine, Memory, State}
 use Rattle.image.specs.Image.{Accepted, readImage}
 use Rattle.effect.specs.Apply.{Transition}
 use Rattle.step.specs.Step.{step}
-use Rattle.emulator.specs.Run.{Call, No, Start, ask, stateOf, Called, called, transitions}
+use Rattle.emulator.specs.Run.{Call, No, Start, asked, stateWith, Called, called, transitions}
 use Rattle.emulator.specs.declared.Answer.the-variants.{Refusal, Ran}
 
 -- the state after all of these
@@ -23,26 +23,26 @@ Steps program s (t ∷ ts) = (requests : ℕ) × (t ≡ step program s requests)
 
 -- the machine after a transition is demand 2's, and where its call ends there, it is what that call left: the image is one for which 2 to 5
 -- are all yes, and says the machine after the call's last transition; the data memory is the one after it
-pub record Left (program image cells : List ℕ) (c : Call) (m : Machine) : Type 0 where
-  pub machine : readImage (called program image cells c .image) ≡ Accepted (final (stateOf m cells) (called program image cells c .transitions) .machine)
-  pub memory : called program image cells c .outcome .cells ≡ final (stateOf m cells) (called program image cells c .transitions) .cells
+pub record Left (program image : List ℕ) (lent : Memory) (c : Call) (m : Machine) : Type 0 where
+  pub machine : readImage (called program image lent c .image) ≡ Accepted (final (stateWith m lent) (called program image lent c .transitions) .machine)
+  pub memory : called program image lent c .outcome .memory ≡ final (stateWith m lent) (called program image lent c .transitions) .memory
 
 -- of every call, refused or not, on an image for which 2 to 5 are all yes
 unfoldable pub Closure : Type 0
-Closure = (program image cells : List ℕ) (c : Call) (m : Machine) → readImage image ≡ Accepted m → Left program image cells c m
+Closure = (program image : List ℕ) (memory : Memory) (c : Call) (m : Machine) → readImage image ≡ Accepted m → Left program image memory c m
 
 -- the transitions of a list of calls, refused ones anywhere in it, are steps and stops of one machine
 unfoldable pub Continuity : Type 0
 Continuity =
-    (program image cells : List ℕ) (calls : List Call) (m : Machine) → readImage image ≡ Accepted m
-    → Steps program (stateOf m cells) (transitions program image cells calls)
+    (program image : List ℕ) (memory : Memory) (calls : List Call) (m : Machine) → readImage image ≡ Accepted m
+    → Steps program (stateWith m memory) (transitions program image memory calls)
 
 -- ---- the answer and the lent memory
 
 -- the eight questions are all answered yes
-pub record AllYes (program image cells : List ℕ) (c : Call) (m : Machine) : Type 0 where
+pub record AllYes (program image : List ℕ) (memory : Memory) (c : Call) (m : Machine) : Type 0 where
   pub programSize : length program ≤ 65536
-  pub dataSize : length cells ≤ 65536
+  pub dataSize : length (memory .cells) ≤ 65536
   pub read : readImage image ≡ Accepted m  -- 2 to 5
   pub requests : (i : ℕ) → getD (c .requests) i 0 ≤ 0xFFF
   pub limit : c .limit ≤ 1000000
@@ -50,22 +50,22 @@ pub record AllYes (program image cells : List ℕ) (c : Call) (m : Machine) : Ty
 
 -- just such a call is not refused
 unfoldable pub Questions : Type 0
-Questions = (program image cells : List ℕ) (c : Call) (m : Machine) → (ask program image cells c ≡ Start m) ↔ AllYes program image cells c m
+Questions = (program image : List ℕ) (memory : Memory) (c : Call) (m : Machine) → (asked program image memory c ≡ Start m) ↔ AllYes program image memory c m
 
 -- "a no gives the number and does no step"; "Every refusal .. changes no lent memory"
-pub record Unchanged (image cells : List ℕ) (c : Call) (n : ℕ) (d : Called) : Type 0 where
+pub record Unchanged (image : List ℕ) (memory : Memory) (c : Call) (n : ℕ) (d : Called) : Type 0 where
   pub least : 1 ≤ n
   pub most : n ≤ 8
   pub answer : d .outcome .answer ≡ Refusal n
   pub sameBuffer : d .outcome .buffer ≡ c .buffer
-  pub sameCells : d .outcome .cells ≡ cells
+  pub sameMemory : d .outcome .memory ≡ memory
   pub sameImage : d .image ≡ image
   pub noSteps : d .transitions ≡ []
 
 unfoldable pub Refusals : Type 0
 Refusals =
-    (program image cells : List ℕ) (c : Call) (n : ℕ) → ask program image cells c ≡ No n
-    → Unchanged image cells c n (called program image cells c)
+    (program image : List ℕ) (memory : Memory) (c : Call) (n : ℕ) → asked program image memory c ≡ No n
+    → Unchanged image memory c n (called program image memory c)
 
 -- "the image at the buffer's front; its further bytes keep their values"
 pub record Written (image before after : List ℕ) : Type 0 where
@@ -88,16 +88,16 @@ pub record RanAs (c : Call) (d : Called) : Type 0 where
 -- of every call that is not refused
 unfoldable pub Completed : Type 0
 Completed =
-    (program image cells : List ℕ) (c : Call) (m : Machine) → ask program image cells c ≡ Start m
-    → RanAs c (called program image cells c)
+    (program image : List ℕ) (memory : Memory) (c : Call) (m : Machine) → asked program image memory c ≡ Start m
+    → RanAs c (called program image memory c)
 
 -- "limit 0: no step, same image"
-pub record NoStep (image cells : List ℕ) (d : Called) : Type 0 where
+pub record NoStep (image : List ℕ) (memory : Memory) (d : Called) : Type 0 where
   pub noSteps : d .transitions ≡ []
   pub sameImage : d .image ≡ image
-  pub sameCells : d .outcome .cells ≡ cells
+  pub sameMemory : d .outcome .memory ≡ memory
 
 unfoldable pub LimitZero : Type 0
 LimitZero =
-    (program image cells : List ℕ) (c : Call) (m : Machine) → ((i : ℕ) → getD image i 0 < 256) → ask program image cells c ≡ Start m
-    → c .limit ≡ 0 → NoStep image cells (called program image cells c)
+    (program image : List ℕ) (memory : Memory) (c : Call) (m : Machine) → ((i : ℕ) → getD image i 0 < 256) → asked program image memory c ≡ Start m
+    → c .limit ≡ 0 → NoStep image memory (called program image memory c)

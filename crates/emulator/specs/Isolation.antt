@@ -7,12 +7,12 @@ use mathlib.Core.Option.{Option, none, some}
 use Prim.Native.Nat.{ℕ, zero, suc, _+_, _≤_}
 use lib.ListN.{length, getElem?}
 use Rattle.word.specs.Choice.{if_then_else_}
-use Rattle.machine.specs.Machine.{Machine, State, PSR, psr, userMode}
+use Rattle.machine.specs.Machine.{Machine, Memory, State, PSR, psr, userMode}
 use Rattle.machine.specs.Control.{controlAt, protectedCell, protectedByte, CCB-BASE, INT-PEND, DMEM-BOUND-LO, DMEM-BOUND-HI, IMEM-BOUND-LO, IMEM-BOUND-HI}
 use Rattle.image.specs.Image.{Accepted, readImage}
 use Rattle.view.specs.View.{nestedBy}
 use Rattle.effect.specs.Apply.{Transition}
-use Rattle.emulator.specs.Run.{Call, stateOf, transitions}
+use Rattle.emulator.specs.Run.{Call, stateWith, transitions}
 use Rattle.effect.specs.Kind.{Kind, Ordinary, Interrupt, SystemCall, InterruptReturn, Exception, Stop}
 
 -- ---- which transitions are compared (01: a transition is a turn)
@@ -61,15 +61,15 @@ pub record Session : Type 0 where
   pub program : List ℕ
   pub image : List ℕ
   pub machine : Machine  -- what the image says
-  pub cells : List ℕ
+  pub memory : Memory
   pub calls : List Call
 
 -- before the first call
 abbrev pub startOf : Session → State
-startOf a = stateOf (a .machine) (a .cells)
+startOf a = stateWith (a .machine) (a .memory)
 
 abbrev pub transitionsOf : Session → List Transition
-transitionsOf a = transitions (a .program) (a .image) (a .cells) (a .calls)
+transitionsOf a = transitions (a .program) (a .image) (a .memory) (a .calls)
 
 -- "The first call gets an image for which 2 to 5 are all yes"; "UM is 1 in the first image's PSR"; "DMEM_BOUND_LO ≤ CCB_BASE and
 -- CCB_BASE + 255 ≤ DMEM_BOUND_HI"
@@ -86,7 +86,7 @@ pub record Kept (before after : State) : Type 0 where
   pub set2 : (n : ℕ) → n ≢ PSR → getElem? (after .machine .set2) n ≡ getElem? (before .machine .set2) n
   pub control : (n : ℕ) → n ≢ INT-PEND → getElem? (after .machine .control) n ≡ getElem? (before .machine .control) n
   pub stack : after .machine .stack ≡ before .machine .stack
-  pub cells : (a : ℕ) → protectedCell (before .machine) a ≡ true → getElem? (after .cells) a ≡ getElem? (before .cells) a
+  pub cells : (a : ℕ) → protectedCell (before .machine) a ≡ true → getElem? (after .memory .cells) a ≡ getElem? (before .memory .cells) a
   pub user : userMode (psr (after .machine)) ≡ true
 
 unfoldable pub Integrity : Session → Type 0
@@ -101,7 +101,7 @@ pub record SameShown (s t : State) : Type 0 where
   pub conditions : s .machine .conditions ≡ t .machine .conditions
   pub status : psr (s .machine) ≡ psr (t .machine)
   pub position : s .machine .position ≡ t .machine .position
-  pub cells : (a : ℕ) → protectedCell (s .machine) a ≡ false → getElem? (s .cells) a ≡ getElem? (t .cells) a
+  pub cells : (a : ℕ) → protectedCell (s .machine) a ≡ false → getElem? (s .memory .cells) a ≡ getElem? (t .memory .cells) a
 
 -- two starts that differ in nothing but set 2 (the status apart), control registers (the bounds apart), the entries of the hardware
 -- stack, protected cells and protected program bytes; of the stack, whether it is empty is equal, for reti asks it (stop 15)
@@ -112,7 +112,7 @@ pub record SameStart (a b : Session) : Type 0 where
   pub dmemHigh : controlAt (a .machine) DMEM-BOUND-HI ≡ controlAt (b .machine) DMEM-BOUND-HI
   pub imemLow : controlAt (a .machine) IMEM-BOUND-LO ≡ controlAt (b .machine) IMEM-BOUND-LO
   pub imemHigh : controlAt (a .machine) IMEM-BOUND-HI ≡ controlAt (b .machine) IMEM-BOUND-HI
-  pub dataSize : length (a .cells) ≡ length (b .cells)
+  pub dataSize : length (a .memory .cells) ≡ length (b .memory .cells)
   pub programSize : length (a .program) ≡ length (b .program)
   pub bytes : (n : ℕ) → protectedByte (a .machine) n ≡ false → getElem? (a .program) n ≡ getElem? (b .program) n
 

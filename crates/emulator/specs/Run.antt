@@ -6,8 +6,8 @@ use lib.ListN.{length, getD}
 use lib.Dec.{leb}
 use Rattle.word.specs.Choice.{if_then_else_}
 use Rattle.codec.specs.Number.{over}
-use Rattle.machine.specs.Machine.{Machine, State}
-use Rattle.machine.specs.Words.{machineOf}
+use Rattle.machine.specs.Machine.{Machine, Memory, State}
+use Rattle.machine.specs.Words.{stateOf}
 use Rattle.image.specs.Questions.{allBelow}
 use Rattle.image.specs.Image.{Read, Refused, Accepted, readImage, writeImage}
 use Rattle.effect.specs.Apply.{Transition, stopNumber}
@@ -49,9 +49,9 @@ resultOf done s (t ∷ ts) =
 unfoldable pub resultFrom : (program requests : List ℕ) (left done : ℕ) → State → RunResult
 resultFrom program requests left done s = resultOf done s (run program requests left done s)
 
--- what the code's count of steps and ending say, with the machine's words and the data memory after them
-abbrev pub resultBy : Ended → (words cells : List ℕ) → RunResult
-resultBy e words cells = record { steps = e .steps; ending = e .ending; after = record { machine = machineOf words; cells = cells } }
+-- what the code's count of steps and ending say, with the machine's words and the memory after them
+abbrev pub resultBy : Ended → (words : List ℕ) → Memory → RunResult
+resultBy e words memory = record { steps = e .steps; ending = e .ending; after = stateOf words memory }
 
 -- ---- the questions: "Asked in order; a no gives the number and does no step"
 
@@ -60,20 +60,24 @@ pub data Asked : Type 0 where
   No : ℕ → Asked
   Start : Machine → Asked
 
--- 6 to 8
-unfoldable pub askCall : Call → Read → Asked
-askCall c (Refused n) = No n
-askCall c (Accepted m) =
-    if not (allBelow 0x1000 (c .requests)) then No 6
-    else if not (leb (c .limit) 1000000) then No 7
-    else if not (leb 708 (length (c .buffer))) then No 8
+-- 6 to 8; room is the bytes of the image buffer
+unfoldable pub askCall : (requests : List ℕ) (limit room : ℕ) → Read → Asked
+askCall requests limit room (Refused n) = No n
+askCall requests limit room (Accepted m) =
+    if not (allBelow 0x1000 requests) then No 6
+    else if not (leb limit 1000000) then No 7
+    else if not (leb 708 room) then No 8
     else Start m
 
 -- 1 to 8
-unfoldable pub ask : (program image cells : List ℕ) → Call → Asked
-ask program image cells c =
-    if not (leb (length program) 65536 && leb (length cells) 65536) then No 1
-    else askCall c (readImage image)
+unfoldable pub ask : (program image : List ℕ) → Memory → (requests : List ℕ) (limit room : ℕ) → Asked
+ask program image memory requests limit room =
+    if not (leb (length program) 65536 && leb (length (memory .cells)) 65536) then No 1
+    else askCall requests limit room (readImage image)
+
+-- the same of a call
+abbrev pub asked : (program image : List ℕ) → Memory → Call → Asked
+asked program image memory c = ask program image memory (c .requests) (c .limit) (length (c .buffer))
 
 -- what the questions say by an answer and the machine read: 0 starts with it
 unfoldable pub askedBy : (answer : ℕ) → Machine → Asked
@@ -82,14 +86,14 @@ askedBy (suc n) m = No (suc n)
 
 -- ---- the call
 
--- its answer, and the lent buffer and data memory after it
+-- its answer, and the lent buffer and memory after it
 pub record Outcome : Type 0 where
   pub answer : Answer
   pub buffer : List ℕ
-  pub cells : List ℕ
+  pub memory : Memory
 
-abbrev pub outcome : Answer → (buffer cells : List ℕ) → Outcome
-outcome answer buffer cells = record { answer = answer; buffer = buffer; cells = cells }
+abbrev pub outcome : Answer → (buffer : List ℕ) → Memory → Outcome
+outcome answer buffer memory = record { answer = answer; buffer = buffer; memory = memory }
 
 -- the same with what a list of calls goes on with
 pub record Called : Type 0 where
@@ -97,35 +101,35 @@ pub record Called : Type 0 where
   pub image : List ℕ  -- "the image that the last one left (after a refusal, the image that one got)"
   pub transitions : List Transition
 
-abbrev pub stateOf : Machine → (cells : List ℕ) → State
-stateOf m cells = record { machine = m; cells = cells }
+abbrev pub stateWith : Machine → Memory → State
+stateWith m memory = record { machine = m; memory = memory }
 
 -- "Every refusal .. changes no lent memory"; otherwise "the image at the buffer's front; its further bytes keep their values"
-unfoldable pub calledBy : (program image cells : List ℕ) → Call → Asked → Called
-calledBy program image cells c (No n) = record { outcome = outcome (Refusal n) (c .buffer) cells; image = image; transitions = [] }
-calledBy program image cells c (Start m) =
-    let s = stateOf m cells in
+unfoldable pub calledBy : (program image : List ℕ) → Memory → Call → Asked → Called
+calledBy program image memory c (No n) = record { outcome = outcome (Refusal n) (c .buffer) memory; image = image; transitions = [] }
+calledBy program image memory c (Start m) =
+    let s = stateWith m memory in
     let e = resultFrom program (c .requests) (c .limit) 0 s in
     let left = writeImage (e .after .machine) in
     record {
-      outcome = outcome (Ran (e .steps) (e .ending)) (over left (c .buffer)) (e .after .cells);
+      outcome = outcome (Ran (e .steps) (e .ending)) (over left (c .buffer)) (e .after .memory);
       image = left;
       transitions = run program (c .requests) (c .limit) 0 s;
     }
 
-unfoldable pub called : (program image cells : List ℕ) → Call → Called
-called program image cells c = calledBy program image cells c (ask program image cells c)
+unfoldable pub called : (program image : List ℕ) → Memory → Call → Called
+called program image memory c = calledBy program image memory c (asked program image memory c)
 
 -- what the run call gives
-unfoldable pub runCall : (program image cells : List ℕ) → Call → Outcome
-runCall program image cells c = called program image cells c .outcome
+unfoldable pub runCall : (program image : List ℕ) → Memory → Call → Outcome
+runCall program image memory c = called program image memory c .outcome
 
 -- ---- lists of calls
 
 -- the steps and stops of the calls of a list, in order (01: turns); each later call gets "the same program, a copy of the image that the
 -- last one left .. and the memories as it left them"
-unfoldable pub transitions : (program image cells : List ℕ) → List Call → List Transition
-transitions program image cells [] = []
-transitions program image cells (c ∷ cs) =
-    let d = called program image cells c in
-    d .transitions ++ transitions program (d .image) (d .outcome .cells) cs
+unfoldable pub transitions : (program image : List ℕ) → Memory → List Call → List Transition
+transitions program image memory [] = []
+transitions program image memory (c ∷ cs) =
+    let d = called program image memory c in
+    d .transitions ++ transitions program (d .image) (d .outcome .memory) cs

@@ -38,18 +38,18 @@ const IMAGE_ROOM: usize = 708;
 
 // ---- the questions
 
-// Questions 1 to 8 in order: the number of the first no, or 0, and then w holds the machine that the image says.
+// Questions 1 to 8 in order: the number of the first no, or 0, and then w holds the machine that the image says. room is the bytes of the image buffer.
 fn refusal(
     program: &[u8],
     cells: &[u32],
     image: &[u8],
     requests: &[u32],
     limit: u32,
-    buffer: &[u8],
+    room: usize,
     w: &mut [u32],
 ) -> u32
     requires { ⌜ MachineWords (now w) ⌝ }
-    ensures { λ r. ⌜ askedBy r (machineOf (now (w .exit))) ≡ ask (now (program .entry)) (now (image .entry)) (memoryOf (now (cells .entry))) (record { requests = now (requests .entry); limit = limit; buffer = now (buffer .entry) }) ⌝ }
+    ensures { λ r. ⌜ askedBy r (machineOf (now (w .exit))) ≡ ask (now (program .entry)) (now (image .entry)) (memoryOf (now (cells .entry))) (now (requests .entry)) limit room ⌝ }
 {
     if MOST_MEMORY < program.len() {
         return 1;
@@ -67,7 +67,7 @@ fn refusal(
     if MOST_STEPS < limit {
         return 7;
     }
-    if buffer.len() < IMAGE_ROOM {
+    if room < IMAGE_ROOM {
         return 8;
     }
     0
@@ -125,7 +125,15 @@ pub fn run(
     ensures { λ r. ⌜ outcome r (now (buffer .exit)) (memoryOf (now (cells .exit))) ≡ runCall (now (program .entry)) (now (image .entry)) (memoryOf (now (cells .entry))) (record { requests = now (requests .entry); limit = limit; buffer = now (buffer .entry) }) ⌝ }
 {
     let mut words = [0u32; WORDS];
-    let no = refusal(program, cells, image, requests, limit, buffer, &mut words);
+    let no = refusal(
+        program,
+        cells,
+        image,
+        requests,
+        limit,
+        buffer.len(),
+        &mut words,
+    );
     if no != 0 {
         return Answer::Refusal(no);
     }

@@ -12,12 +12,13 @@ use Rattle.emulator.proofs.Loop.{at-end}
 use Rattle.emulator.proofs.Running.{step-kept, step-more, step-stop}
 use Rattle.emulator.proofs.run_steps.Statement.{statement}
 use Rattle.emulator.proofs.run_steps.Tie as tie
+use Rattle.machine.specs.Machine.{memoryOf}
 
 abbrev Inv-loop : tie.InvT-loop
 Inv-loop program w₀ cells₀ requests limit done₀ w cells done =
     ((done ≤ limit) × ((length w ≡ length w₀) × (length cells ≡ length cells₀)))
     × ((wellFormed (machineOf w) ≡ true)
-    × (resultFrom program requests (limit - done) done (stateOf w cells) ≡ resultFrom program requests limit 0 (stateOf w₀ cells₀)))
+    × (resultFrom program requests (limit - done) done (stateOf w (memoryOf cells)) ≡ resultFrom program requests limit 0 (stateOf w₀ (memoryOf cells₀))))
 
 abbrev μ-loop : tie.MeasureT-loop
 μ-loop program w₀ cells₀ requests limit done₀ w cells done = limit - done

@@ -21,7 +21,7 @@ joined false b c t e = rw (← e)
 abbrev entry : tie.After-slot → tie.Start
 entry c = c .before .before .before .before .before
 
-abbrev seen : tie.After-slot → List ℕ → View
+abbrev seen : tie.After-slot → Memory → View
 seen c memory = viewOf (entry c .args .program .now) (entry c .args .w .now) memory
 
 first-two : (c : tie.After-slot) (memory : Memory) (t : Bool) → c .before .has-flag .result && not (eqb (c .slot .result) 1) ≡ t
