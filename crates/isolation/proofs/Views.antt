@@ -18,8 +18,8 @@ use Rattle.view.specs.View.{anyWithin, byteThen, bytesAt, fetchAt, inBlock, pla
 use Rattle.view.specs.declared.Place.{Place}
 use Rattle.view.specs.declared.Place.the-variants.{Block, Cell, Denied, Missing}
 use Rattle.view.proofs.Addresses.{place-cell, place-block}
-use Rattle.emulator.proofs.User.{read-bit, write-bit}
-use Rattle.emulator.proofs.States.{Mode, Low, mode-user}
+use Rattle.isolation.proofs.User.{read-bit, write-bit}
+use Rattle.isolation.proofs.States.{Mode, Low, mode-user}
 
 -- ---- program memory
 

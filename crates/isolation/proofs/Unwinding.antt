@@ -21,10 +21,10 @@ use Rattle.effect.specs.Kind.{Kind}
 use Rattle.effect.specs.Kind as kind
 use Rattle.step.specs.Interrupt.{withRequests, acceptedSource}
 use Rattle.step.specs.Step.{isStop, interruptOr, step}
-use Rattle.emulator.specs.Isolation.{Kept, isExit, isPreemption}
-use Rattle.emulator.proofs.User.{Confined, confined-then, confined-conditions, register-confined, result-confined, flags-confined, words-public, advance-confined, holding-confined, jump-confined, enable-confined, switch-confined}
-use Rattle.emulator.proofs.States.{Mode, Low, mode-user, kept-control, kept-trans, guarded-kept, mode-later, low-alike, low-later, requests-kept, requests-mode, requests-low}
-use Rattle.emulator.proofs.Views.{SameBytes, no-block, view-same}
+use Rattle.isolation.specs.Isolation.{Kept, isExit, isPreemption}
+use Rattle.isolation.proofs.User.{Confined, confined-then, confined-conditions, register-confined, result-confined, flags-confined, words-public, advance-confined, holding-confined, jump-confined, enable-confined, switch-confined}
+use Rattle.isolation.proofs.States.{Mode, Low, mode-user, kept-control, kept-trans, guarded-kept, mode-later, low-alike, low-later, requests-kept, requests-mode, requests-low}
+use Rattle.isolation.proofs.Views.{SameBytes, no-block, view-same}
 
 -- ---- what an effect is in user mode
 
