@@ -2,5 +2,4 @@
 pub mod Groups
 pub mod Tests
 pub mod Order
-pub mod Values
 pub mod Safe

@@ -18,7 +18,7 @@ use Rattle.machine.specs.Machine.{userMode, widthOf}
 use Rattle.view.specs.View.{View}
 use Rattle.view.proofs.Addresses.{Reached}
 use Rattle.word.proofs.Tests.{if-holds}
-use Rattle.execute.specs.Execute.{checked, wrapped, product, loaded, stored, targetBy, jumped, branch, execute}
+use Rattle.operation.specs.Execute.{checked, wrapped, product, loaded, stored, targetBy, jumped, branch, execute}
 use Rattle.execute.specs.Decide.{perform, ifAvailable, instruction, fetchedThen, decide}
 use Rattle.view.specs.declared.Fetched.{Fetched}
 use Rattle.view.specs.declared.Fetched.the-variants.{Word, Fault, Absent}

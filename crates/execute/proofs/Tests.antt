@@ -15,7 +15,7 @@ use Rattle.machine.specs.declared.Position.{Position}
 use Rattle.machine.specs.Words.{machineOf}
 use Rattle.view.specs.View.{View, view, viewOf}
 use Rattle.effect.specs.Effect.{Effect, Stopped, Raised, Next}
-use Rattle.execute.specs.Execute.{execute}
+use Rattle.operation.specs.Execute.{execute}
 use Rattle.execute.specs.Decide.{perform, fetchedThen}
 use Rattle.view.specs.View.{conditionFalse}
 use Rattle.view.specs.declared.Fetched.the-variants.{Word}

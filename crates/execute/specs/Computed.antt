@@ -1,9 +1,7 @@
--- To unfold `decisions` is to unfold all definitions of this crate, of `decide` and of `apply`.
-use Rattle.view.specs.Computed.{views}
-use Rattle.effect.specs.Computed.{effects}
-use Rattle.execute.specs.Execute.{checked, wrapped, product, loaded, stored, afterThis, targetBy, jumped, branch, packed, execute}
+-- To unfold `decisions` is to unfold all definitions of this crate and of `operation`.
+use Rattle.operation.specs.Computed.{operating}
 use Rattle.execute.specs.Decide.{perform, ifAvailable, instruction, fetchedThen, decide}
 
 unfoldable pub decisions : Unit {0}
-unfolding views effects checked wrapped product loaded stored afterThis targetBy jumped branch packed execute perform ifAvailable instruction fetchedThen decide
+unfolding operating perform ifAvailable instruction fetchedThen decide
 decisions = tt

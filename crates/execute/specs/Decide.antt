@@ -12,7 +12,7 @@ use Rattle.isa.specs.declared.Instruction.{Instruction}
 use Rattle.machine.specs.Machine.{userMode, widthOf}
 use Rattle.machine.specs.declared.Position.{Position}
 use Rattle.view.specs.View.{View, conditionFalse}
-use Rattle.execute.specs.Execute.{execute}
+use Rattle.operation.specs.Execute.{execute}
 use Rattle.view.specs.declared.Fetched.{Fetched}
 use Rattle.view.specs.declared.Fetched.the-variants.{Word, Fault, Absent}
 use Rattle.effect.specs.Effect.{Effect, Stopped, Raised, Next}

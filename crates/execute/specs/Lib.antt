@@ -1,6 +1,3 @@
--- How the code takes the operations together.
-pub mod Jumps
-pub mod Execute
+-- What the next instruction does: the order of its tests.
 pub mod Decide
-pub mod Promises
 pub mod Computed

@@ -3,7 +3,6 @@
 ghost use mathlib.Core.Path.{_≡_};
 ghost use Prim.Native.Nat.{_≤_, _<_};
 ghost use lib.ListN.{length};
-ghost use Rattle.word.specs.Word.{wordOf};
 ghost use Rattle.isa.specs.Operation.{operationOf, Properties, properties, unavailable, codeOf};
 ghost use Rattle.isa.specs.Decode.{opcodeOf};
 ghost use Rattle.machine.specs.Machine.{psr, userMode, widthOf, memoryOf};
@@ -13,33 +12,18 @@ ghost use Rattle.view.specs.declared.Fetched.the-variants.{Word};
 ghost use Rattle.execute.specs.Decide.{fetchedThen, decide};
 ghost use Rattle.effect.specs.Apply.{reportBy, reportOn};
 ghost use Rattle.machine.specs.Stack.{StackShown};
-ghost use Rattle.execute.specs.Promises.{PerformsSeen, PerformsStoring};
-
-mod arithmetic;
-mod jump;
-mod memory;
-mod moves;
-mod system;
-
-use arithmetic::immediates;
-use arithmetic::registers;
+ghost use Rattle.operation.specs.Promises.{PerformsSeen, PerformsStoring};
 use effect::next;
-use isa::Instruction;
-use jump::jumps;
 use machine::wide_words;
-use memory::access;
-use moves::moves;
-use system::system;
+use operation::access;
+use operation::immediates;
+use operation::jumps;
+use operation::moves;
+use operation::registers;
+use operation::system;
 use view::Fetched;
 use view::condition_false;
 use view::source;
-
-// An instruction's immediate as a word.
-fn immediate_value(i: Instruction) -> u32
-    ensures { λ r. ⌜ r ≡ wordOf 32 (i .immediate) ⌝ }
-{
-    word::word(i.immediate)
-}
 
 // The code of the exception where an operation may not be used, by the width and the mode; 0 where it may.
 fn unavailability(w: &[u32], op: u32) -> u32

@@ -1,0 +1,3 @@
+-- Laws of operations: values, and clauses that are alike but for a number.
+pub mod Values
+pub mod Alike

@@ -1,0 +1,66 @@
+-- Values that operations move: low bits of an immediate, condition registers in a word, a stack that is empty or not. Assumes nothing.
+use mathlib.Core.Path.{_≡_, refl, ap}
+use mathlib.Core.Bool.{true, false}
+use mathlib.Core.List.{List, [], _∷_}
+use Prim.Native.Nat.{ℕ, zero, suc, _+_, _-_, _*_, _/_, _%_, _^_, _≤_, _<_}
+use native.Mathlib.Nat.{mod-lt}
+use native.Mathlib.Omega.{arith}
+use lib.IntN.{ℤ, pos, negsuc}
+use lib.ListN.{length, getD, drop}
+use lib.Pow.{pow-pos, pow-add, mod-pow-add, mod-mod-pow, low}
+use lib.Seq.{drop-cons}
+use Rattle.word.specs.Word.{modZ, wordOf}
+use Rattle.machine.specs.Machine.{Machine}
+use Rattle.machine.specs.Words.{WORDS, CONDITIONS, machineOf}
+use Rattle.machine.proofs.Flat.{section-length}
+use Rattle.view.specs.View.{nestedBy}
+use Rattle.operation.specs.Execute.{packed}
+
+-- ---- low bits
+
+-- a product less a number below it, in parts
+split-less : (m n h b d : ℕ) → m ≡ d + suc h → b < n → m * n - suc (h * n + b) ≡ d * n + (n - suc b)
+split-less m n h b d e l = let f : m * n ≡ (d + suc h) * n = ap (λ (k : ℕ). k * n) e in omega arith
+
+-- the low bits of the word that holds z are the shorter word that does
+pub word-low : (j k : ℕ) (z : ℤ) → wordOf (j + k) z % 2 ^ k ≡ wordOf k z
+unfolding modZ
+word-low j k (pos n) = mod-mod-pow n j k
+word-low j k (negsuc n) =
+    let h = n / 2 ^ k % 2 ^ j in
+    let p : h < 2 ^ j = mod-lt (n / 2 ^ k) (pow-pos j) in
+    let q : n % 2 ^ k < 2 ^ k = mod-lt n (pow-pos k) in
+    rw (mod-pow-add n j k, pow-add 2 j k, split-less (2 ^ j) (2 ^ k) h (n % 2 ^ k) (2 ^ j - suc h) (omega arith) q)
+    (low (2 ^ j - suc h) k (omega arith))
+
+-- ---- condition registers
+
+pub conditions-length : (w : List ℕ) → length w ≡ WORDS → length (machineOf w .conditions) ≡ 8
+unfolding machineOf
+conditions-length w h = section-length w CONDITIONS 8 (omega arith)
+
+-- three bits each
+pub packed-below : (k : ℕ) (l : List ℕ) → length l ≤ k → packed l < 8 ^ k
+unfolding packed
+packed-below zero [] h = omega arith
+packed-below (suc k) [] h = let p = packed-below k [] (omega arith) in omega arith
+packed-below zero (c ∷ cs) h = absurd (omega arith)
+packed-below (suc k) (c ∷ cs) h = let p = packed-below k cs (omega arith) in omega arith
+
+-- one more, below the others
+pub packed-from : (l : List ℕ) (n : ℕ) → n < length l → packed (drop n l) ≡ getD l n 0 % 8 + 8 * packed (drop (suc n) l)
+unfolding packed
+packed-from l n h = rw (drop-cons l n 0 h)
+
+-- ---- the stack
+
+module _ {A : Type 0} where
+  pub nested-none : (es : List A) → length es ≡ 0 → nestedBy es ≡ false
+  unfolding nestedBy
+  nested-none [] h = refl
+  nested-none (e ∷ es) h = absurd (omega arith)
+
+  pub nested-some : (es : List A) → (length es ≡ 0 → ⊥) → nestedBy es ≡ true
+  unfolding nestedBy
+  nested-some [] h = absurd (h refl)
+  nested-some (e ∷ es) h = refl
