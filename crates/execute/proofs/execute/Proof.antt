@@ -51,7 +51,7 @@ returns-2 c =
 
 returns-3 : tie.Need-returns-3
 unfolding fetchedThen reportOn reported stopNumber apply
-returns-3 c = given (c .before .before) _ (c .enum-reported .given .1)
+returns-3 c = given (c .before .before) _ (c .enum-told .given .1)
 
 pub execute-spec : {M : Type 1} → statement M
 execute-spec =

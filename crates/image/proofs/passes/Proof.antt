@@ -6,7 +6,7 @@ use Rattle.image.proofs.passes.Tie as tie
 
 returns : tie.Need-returns
 unfolding passes
-returns c = rw (c .before .before .enum-reported .given .1)
+returns c = rw (c .before .before .enum-told .given .1)
 
 returns-2 : tie.Need-returns-2
 unfolding passes

@@ -19,7 +19,7 @@ returns c memory =
 
 returns-2 : tie.Need-returns-2
 unfolding isMulhi
-returns-2 c memory = rw (← (c .before .before .fetch .ensures memory), c .enum-reported .given .1)
+returns-2 c memory = rw (← (c .before .before .fetch .ensures memory), c .enum-told .given .1)
 
 returns-3 : tie.Need-returns-3
 unfolding isMulhi

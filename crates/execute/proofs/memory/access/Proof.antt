@@ -105,7 +105,7 @@ unfolding apply stopNumber reported reportOn
 returns-6 c p y =
     let s = c .before .before .before .before .before .before .before .before .before .before .before in
     let a = s .args in
-    let here = named (c .before .before) p ∙ c .enum-reported .given .1 in
+    let here = named (c .before .before) p ∙ c .enum-told .given .1 in
     rw (access-missing (viewOf p (now (a .w)) (memoryOf (now (a .cells)))) (a .i) (a .x) y (a .i .opcode) here (s .pre .2) (s .pre .3))
 
 pub access-spec : {M : Type 1} → statement M
