@@ -3,6 +3,5 @@ pub mod Fields
 pub mod Table
 pub mod Rules
 pub mod Rows
-pub mod Parts
 pub mod Decoded
 pub mod Worked

@@ -8,8 +8,9 @@ use native.Mathlib.Omega.{arith}
 use lib.Dec.{ltb}
 use lib.ListN.{getD, List·getD-eq-default}
 use borrow.Author.Tests.{ltb-true, ltb-false}
-use Rattle.isa.specs.Operation.{Operation, unknown, operations, operationOf, Width, Form, Properties, properties}
+use Rattle.isa.specs.Operation.{Operation, unknown, operations, operationOf, widthBy, Form, Properties, properties}
 use Rattle.isa.specs.Decode.{operandsOf}
+use Rattle.isa.specs.declared.Operands.{Operands}
 
 module _ {A : Type 0} where
   -- the values of f at `first` and the numbers after it, `count` of them
@@ -67,10 +68,10 @@ unknown-from n l = go (ltb n 64) refl
     go true t = agree operationOf (λ n. unknown) 58 6 refl n l (ltb-true n 64 t)
     go false t = beyond n (ltb-false n 64 t)
 
--- the operands of a word whose operation has the form of its neighbours
-pub grouped : (width : Width) (form : Form) (first count : ℕ)
+-- the operands of a word whose operation has the form of its neighbours; w is the value that wide is known to have
+pub grouped : {wide w : Bool} {o : Operands} (form : Form) (first count : ℕ)
     → values (λ n. properties (operationOf n) .form) first count ≡ values (λ n. form) first count
-    → (op word : ℕ) → first ≤ op → op < first + count
-    → operandsOf width form word ≡ operandsOf width (properties (operationOf op) .form) word
-grouped width form first count e op word l h =
-    ap (λ (f : Form). operandsOf width f word) (sym (agree (λ n. properties (operationOf n) .form) (λ n. form) first count e op l h))
+    → (op word : ℕ) → wide ≡ w → first ≤ op → op < first + count → o ≡ operandsOf (widthBy w) form word
+    → o ≡ operandsOf (widthBy wide) (properties (operationOf op) .form) word
+grouped form first count e op word known l h operands =
+    rw (operands, known, agree (λ n. properties (operationOf n) .form) (λ n. form) first count e op l h)

@@ -107,7 +107,7 @@ fn signed(dreg: u32, sreg1: u32, n: u32, k: u32) -> Operands
 // ---- the operands of a word, by width, a function for each group of operations
 
 // add to sext; in 16-bit words the second source is the target.
-fn three_registers(w: u32, wide: bool, op: u32) -> Operands
+fn register_operands(w: u32, wide: bool, op: u32) -> Operands
     requires { ⌜ (1 ≤ op) × (op ≤ 17) ⌝ }
     ensures { λ r. ⌜ r ≡ operandsOf (widthBy wide) (properties (operationOf op) .form) w ⌝ }
 {
@@ -120,7 +120,7 @@ fn three_registers(w: u32, wide: bool, op: u32) -> Operands
 }
 
 // addi to sexti.
-fn with_immediate(w: u32, wide: bool, op: u32) -> Operands
+fn immediate_operands(w: u32, wide: bool, op: u32) -> Operands
     requires { ⌜ (18 ≤ op) × (op ≤ 26) ⌝ }
     ensures { λ r. ⌜ r ≡ operandsOf (widthBy wide) (properties (operationOf op) .form) w ⌝ }
 {
@@ -147,7 +147,7 @@ fn with_immediate(w: u32, wide: bool, op: u32) -> Operands
 }
 
 // ld and st.
-fn with_offset(w: u32, wide: bool, op: u32) -> Operands
+fn access_operands(w: u32, wide: bool, op: u32) -> Operands
     requires { ⌜ (27 ≤ op) × (op ≤ 28) ⌝ }
     ensures { λ r. ⌜ r ≡ operandsOf (widthBy wide) (properties (operationOf op) .form) w ⌝ }
 {
@@ -159,7 +159,7 @@ fn with_offset(w: u32, wide: bool, op: u32) -> Operands
 }
 
 // mov, not, mulhi, cmp, cmpi, lli, lui; the last two have no operands in 16-bit words.
-fn of_move(w: u32, wide: bool, op: u32) -> Operands
+fn move_operands(w: u32, wide: bool, op: u32) -> Operands
     requires { ⌜ (29 ≤ op) × (op ≤ 35) ⌝ }
     ensures { λ r. ⌜ r ≡ operandsOf (widthBy wide) (properties (operationOf op) .form) w ⌝ }
 {
@@ -187,7 +187,7 @@ fn of_move(w: u32, wide: bool, op: u32) -> Operands
 }
 
 // jmp, jal, jmpr, jalr and the branches.
-fn of_jump(w: u32, wide: bool, op: u32) -> Operands
+fn jump_operands(w: u32, wide: bool, op: u32) -> Operands
     requires { ⌜ (36 ≤ op) × (op ≤ 47) ⌝ }
     ensures { λ r. ⌜ r ≡ operandsOf (widthBy wide) (properties (operationOf op) .form) w ⌝ }
 {
@@ -207,7 +207,7 @@ fn of_jump(w: u32, wide: bool, op: u32) -> Operands
 }
 
 // scall to rcon.
-fn of_system(w: u32, wide: bool, op: u32) -> Operands
+fn system_operands(w: u32, wide: bool, op: u32) -> Operands
     requires { ⌜ (48 ≤ op) × (op ≤ 57) ⌝ }
     ensures { λ r. ⌜ r ≡ operandsOf (widthBy wide) (properties (operationOf op) .form) w ⌝ }
 {
@@ -271,7 +271,7 @@ pub fn decode_registers(word: u32, wide: bool, op: u32) -> Instruction
     requires { ⌜ (op ≡ opcodeOf (widthBy wide) word) × (1 ≤ op) × (op ≤ 17) ⌝ }
     ensures { λ r. ⌜ r ≡ decode (widthBy wide) word ⌝ }
 {
-    assembled(word, wide, op, three_registers(word, wide, op))
+    assembled(word, wide, op, register_operands(word, wide, op))
 }
 
 // Operations 18 to 26: addi to sexti.
@@ -279,7 +279,7 @@ pub fn decode_immediate(word: u32, wide: bool, op: u32) -> Instruction
     requires { ⌜ (op ≡ opcodeOf (widthBy wide) word) × (18 ≤ op) × (op ≤ 26) ⌝ }
     ensures { λ r. ⌜ r ≡ decode (widthBy wide) word ⌝ }
 {
-    assembled(word, wide, op, with_immediate(word, wide, op))
+    assembled(word, wide, op, immediate_operands(word, wide, op))
 }
 
 // Operations 27 and 28: ld and st.
@@ -287,7 +287,7 @@ pub fn decode_access(word: u32, wide: bool, op: u32) -> Instruction
     requires { ⌜ (op ≡ opcodeOf (widthBy wide) word) × (27 ≤ op) × (op ≤ 28) ⌝ }
     ensures { λ r. ⌜ r ≡ decode (widthBy wide) word ⌝ }
 {
-    assembled(word, wide, op, with_offset(word, wide, op))
+    assembled(word, wide, op, access_operands(word, wide, op))
 }
 
 // Operations 29 to 35: mov to lui.
@@ -295,7 +295,7 @@ pub fn decode_move(word: u32, wide: bool, op: u32) -> Instruction
     requires { ⌜ (op ≡ opcodeOf (widthBy wide) word) × (29 ≤ op) × (op ≤ 35) ⌝ }
     ensures { λ r. ⌜ r ≡ decode (widthBy wide) word ⌝ }
 {
-    assembled(word, wide, op, of_move(word, wide, op))
+    assembled(word, wide, op, move_operands(word, wide, op))
 }
 
 // Operations 36 to 47: jmp, jal, jmpr, jalr and the branches.
@@ -303,7 +303,7 @@ pub fn decode_jump(word: u32, wide: bool, op: u32) -> Instruction
     requires { ⌜ (op ≡ opcodeOf (widthBy wide) word) × (36 ≤ op) × (op ≤ 47) ⌝ }
     ensures { λ r. ⌜ r ≡ decode (widthBy wide) word ⌝ }
 {
-    assembled(word, wide, op, of_jump(word, wide, op))
+    assembled(word, wide, op, jump_operands(word, wide, op))
 }
 
 // Operations 48 to 57: scall to rcon.
@@ -311,7 +311,7 @@ pub fn decode_system(word: u32, wide: bool, op: u32) -> Instruction
     requires { ⌜ (op ≡ opcodeOf (widthBy wide) word) × (48 ≤ op) × (op ≤ 57) ⌝ }
     ensures { λ r. ⌜ r ≡ decode (widthBy wide) word ⌝ }
 {
-    assembled(word, wide, op, of_system(word, wide, op))
+    assembled(word, wide, op, system_operands(word, wide, op))
 }
 
 // Whether condition n holds of a condition register.
