@@ -1,5 +1,5 @@
 -- Signed numbers: their words, and what i32 and i64 hold. omega does not read ℤ: each law here takes a statement on ℤ to one on ℕ.
--- Assumes nothing.
+-- word-signed and signed-word are for an encoder of immediates, address-word and natural-address for reachability. Assumes nothing.
 use mathlib.Core.Path.{_≡_, refl, sym, ap, _∙_}
 use mathlib.Core.Bool.{Bool, true, false}
 use Prim.Native.Nat.{ℕ, zero, suc, _+_, _-_, _*_, _%_, _^_, _≤_, _<_}
@@ -14,7 +14,8 @@ use mir.Syntax.{Width, w32, w64}
 use mir.Val.{hbits, SFits, toZ, ofZ}
 use mir.Facts.{toZ-ofZ, sfits-widen}
 use Rattle.word.specs.Choice.{if_then_else_}
-use Rattle.word.specs.Word.{signedOf, modZ, wordOf, extendOf, isAddress}
+use Rattle.word.specs.Word.{signedOf, modZ, wordOf, isAddress}
+use Rattle.word.proofs.Tests.{either}
 
 -- ---- differences of naturals
 
@@ -26,11 +27,7 @@ sub-above a b h = rw (le-ltb a b h)
 
 -- by which of the two is the larger
 pub sub-either : (P : ℤ → Type 0) (a b : ℕ) → (a < b → P (negsuc (b - suc a))) → (b ≤ a → P (pos (a - b))) → P (subℕ a b)
-sub-either P a b f g = go (ltb a b) refl
-  where
-    go : (t : Bool) → ltb a b ≡ t → P (subℕ a b)
-    go true e = rw e (f (ltb-true a b e))
-    go false e = rw e (g (ltb-false a b e))
+sub-either P a b f g = either (ltb a b) (λ e. rw e (f (ltb-true a b e))) (λ e. rw e (g (ltb-false a b e)))
 
 pub minus-is : (a b : ℕ) → pos a -ℤ pos b ≡ subℕ a b
 minus-is a zero = sym (sub-above a 0 (omega arith) ∙ ap pos (gone a))
@@ -92,11 +89,10 @@ module _ (k n : ℕ) where
   -- by the sign bit
   pub signed-either : (P : ℤ → Type 0) → n < 2 ^ k → (n < 2 ^ (k - 1) → P (pos n)) → (2 ^ (k - 1) ≤ n → P (negsuc (2 ^ k - suc n)))
       → P (signedOf k n)
-  signed-either P b f g = go (ltb n (2 ^ (k - 1))) refl
-    where
-      go : (t : Bool) → ltb n (2 ^ (k - 1)) ≡ t → P (signedOf k n)
-      go true e = rw (signed-low (ltb-true _ _ e)) (f (ltb-true _ _ e))
-      go false e = rw (signed-high (ltb-false _ _ e), minus-is n (2 ^ k), sub-below n (2 ^ k) b) (g (ltb-false _ _ e))
+  signed-either P b f g =
+      either (ltb n (2 ^ (k - 1)))
+      (λ e. rw (signed-low (ltb-true _ _ e)) (f (ltb-true _ _ e)))
+      (λ e. rw (signed-high (ltb-false _ _ e), minus-is n (2 ^ k), sub-below n (2 ^ k) b) (g (ltb-false _ _ e)))
 
 module _ (k : ℕ) (p : 0 < k) where
   -- it is in the range of k bits
@@ -131,11 +127,6 @@ module _ (k : ℕ) (p : 0 < k) (u : k ≤ 32) where
   -- i32 holds the reading of at most 32 bits
   pub signed-fits : (n : ℕ) → n < 2 ^ k → SFits w32 (signedOf k n)
   signed-fits n b = record { sfits = omega (arith, half-most k u, signed-range k p n b) }
-
-  -- a field whose sign is extended, read as signed, is the field read as signed
-  pub signed-extend : (w : ℕ) → signedOf 32 (extendOf k w) ≡ signedOf k (w % 2 ^ k)
-  unfolding extendOf
-  signed-extend w = signed-word 32 (lit< tt) (signedOf k (w % 2 ^ k)) (signed-fits (w % 2 ^ k) (mod-lt w (pow-pos k)) .sfits)
 
 -- the word of a natural
 pub word-natural : (k n : ℕ) → n < 2 ^ k → wordOf k (pos n) ≡ n
@@ -195,18 +186,18 @@ module _ (x y : ℤ) (A B : ℕ) (p : natAbs x ≤ A) (q : natAbs y ≤ B) where
   pub product-fits : T (ltb (A * B) (2 ^ 63)) → SFits w64 (x *ℤ y)
   product-fits t = record { sfits = lt-of-le-of-lt (le-trans (mag-mul x y) (mul-le-mul p q)) (ltb→lt (A * B) (2 ^ 63) t) }
 
-pub size : {x : ℤ} → SFits w32 x → natAbs x ≤ 2 ^ 31
-size {x} f = natAbs-le x (f .sfits)
+pub abs-most : {x : ℤ} → SFits w32 x → natAbs x ≤ 2 ^ 31
+abs-most {x} f = natAbs-le x (f .sfits)
 
 module _ (x y : ℤ) (f : SFits w32 x) (g : SFits w32 y) where
   pub sum-wide-fits : SFits w64 (x +ℤ y)
-  sum-wide-fits = sum-fits x y (2 ^ 31) (2 ^ 31) (size f) (size g) tt
+  sum-wide-fits = sum-fits x y (2 ^ 31) (2 ^ 31) (abs-most f) (abs-most g) tt
 
   pub difference-wide-fits : SFits w64 (x -ℤ y)
-  difference-wide-fits = sum-fits x (negℤ y) (2 ^ 31) (2 ^ 31) (size f) (rw abs-neg (size g)) tt
+  difference-wide-fits = sum-fits x (negℤ y) (2 ^ 31) (2 ^ 31) (abs-most f) (rw abs-neg (abs-most g)) tt
 
   pub product-wide-fits : SFits w64 (x *ℤ y)
-  product-wide-fits = product-fits x y (2 ^ 31) (2 ^ 31) (size f) (size g) tt
+  product-wide-fits = product-fits x y (2 ^ 31) (2 ^ 31) (abs-most f) (abs-most g) tt
 
 -- ---- casts
 

@@ -16,9 +16,9 @@ at-each f g d (x ∷ xs) e (suc k) h =
     let tails : map f xs ≡ map g xs = cc in
     at-each f g d xs tails k (le-of-suc-le-suc h)
 
-all : map given cases ≡ map (λ (c : Case). c .expected) cases
+computed : map given cases ≡ map (λ (c : Case). c .expected) cases
 unfolding words outcome starred sums products shifts bitwise cases
-all = refl
+computed = refl
 
 pub worked : (d : Case) (k : ℕ) → k < length cases → given (getD cases k d) ≡ getD cases k d .expected
-worked d = at-each given (λ (c : Case). c .expected) d cases all
+worked d = at-each given (λ (c : Case). c .expected) d cases computed
