@@ -6,10 +6,11 @@ use Prim.Native.Nat.{ℕ, _≤_, _<_}
 use native.Mathlib.Omega.{arith}
 use lib.IntN.{pos, _+ℤ_}
 use Rattle.word.specs.Choice.{if_then_else_}
-use Rattle.isa.specs.Operation.{operationOf, Width, w16, w32, unavailable, codeOf, Properties, properties}
+use Rattle.isa.specs.Operation.{operationOf, Width, w16, w32, Properties, properties}
 use Rattle.isa.specs.Computed.{instructions}
 use Rattle.isa.specs.declared.Instruction.{Instruction}
 use Rattle.isa.proofs.Table.{values, agree, unknown-from}
+use Rattle.isa.proofs.Rules.{codeAt}
 use Rattle.view.specs.View.{View}
 use Rattle.view.specs.declared.Place.the-variants.{Denied, Missing}
 use Rattle.effect.specs.Effect.{Stopped, Raised, Next, Jump, JumpLink}
@@ -17,10 +18,6 @@ use Rattle.execute.specs.Execute.{loaded, stored, jumped, branch, execut
 use Rattle.execute.specs.Jumps.{taken, targetOf, links}
 
 -- ---- the tests that a group's operations have
-
--- the code of the exception where an operation may not be used
-abbrev pub codeAt : Width → (user : Bool) (n : ℕ) → ℕ
-codeAt width user n = codeOf (unavailable (properties (operationOf n) .availability) width user)
 
 -- nop to cmpi may be used anywhere
 pub usable-low : (width : Width) (user : Bool) (n : ℕ) → n < 34 → codeAt width user n ≡ 0

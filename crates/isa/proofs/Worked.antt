@@ -13,12 +13,12 @@ use Rattle.isa.specs.declared.Instruction.{Instruction}
 abbrev given : Case → Instruction
 given c = decode (c .width) (c .word)
 
-all : map given cases ≡ map (λ (c : Case). c .expected) cases
+computed : map given cases ≡ map (λ (c : Case). c .expected) cases
 unfolding instructions cases
-all = refl
+computed = refl
 
 pub worked : (d : Case) (k : ℕ) → k < length cases → decode (getD cases k d .width) (getD cases k d .word) ≡ getD cases k d .expected
-worked d = at-each given (λ (c : Case). c .expected) d cases all
+worked d = at-each given (λ (c : Case). c .expected) d cases computed
 
 -- the bytes of a mnemonic
 mnemonic : properties muls16 .mnemonic ≡ 109 ∷ 117 ∷ 108 ∷ 115 ∷ 95 ∷ 49 ∷ 54 ∷ []

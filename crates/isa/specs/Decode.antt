@@ -64,3 +64,8 @@ decode width word =
     let opcode = opcodeOf width word in
     let p = properties (operationOf opcode) in
     assembled width word opcode (p .conditional) (operandsOf width (p .form) word)
+
+-- to unfold all of these
+unfoldable pub decoding : Unit {0}
+unfolding wordBytes registerOf immediateOf operandsOf opcodeOf assembled decode
+decoding = tt
