@@ -20,37 +20,16 @@ last n l =
     (λ t. let h : n < 8 = ltb-true n 8 t in let e : n ≡ 7 = omega arith in rw e)
     (λ t. List·getD-eq-default conditions nc (ltb-false n 8 t))
 
-returns : tie.Need-returns
-unfolding instructions
-returns c = rw (c .match .keys1) (simp div-one)
-
-returns-2 : tie.Need-returns-2
-unfolding instructions
-returns-2 c = rw (c .match .keys2)
-
-returns-3 : tie.Need-returns-3
-unfolding instructions
-returns-3 c = rw (c .match .keys3)
-
-returns-4 : tie.Need-returns-4
-unfolding instructions
-returns-4 c = rw (c .match .keys4)
-
-returns-5 : tie.Need-returns-5
-unfolding instructions
-returns-5 c = rw (c .match .keys5)
-
-returns-6 : tie.Need-returns-6
-unfolding instructions
-returns-6 c = rw (c .match .keys6)
-
-returns-7 : tie.Need-returns-7
-unfolding instructions
-returns-7 c = rw (c .match .keys7)
-
-returns-8 : tie.Need-returns-8
-unfolding instructions
-returns-8 c = rw (last (c .before .args .n) (past 0 7 (c .before .args .n) (c .match .rest) (omega arith))) (simp div-one)
-
 pub holds-spec : {M : Type 1} → statement M
-holds-spec = tie.close (tie.spec returns returns-2 returns-3 returns-4 returns-5 returns-6 returns-7 returns-8)
+unfolding instructions
+holds-spec =
+    tie.close
+    (tie.spec
+    (λ c. rw (c .match .keys1) (simp div-one))
+    (λ c. rw (c .match .keys2))
+    (λ c. rw (c .match .keys3))
+    (λ c. rw (c .match .keys4))
+    (λ c. rw (c .match .keys5))
+    (λ c. rw (c .match .keys6))
+    (λ c. rw (c .match .keys7))
+    (λ c. rw (last (c .before .args .n) (past 0 7 (c .before .args .n) (c .match .rest) (omega arith))) (simp div-one)))
