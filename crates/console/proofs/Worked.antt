@@ -4,7 +4,7 @@ use mathlib.Core.List.{List, [], _∷_, map}
 use Prim.Native.Nat.{ℕ}
 use Rattle.word.specs.Choice.{if_then_else_}
 use Rattle.console.specs.Digits.{digitOf, digitsOf, placesFrom}
-use Rattle.console.specs.Limit.{badLimit, isDigit, numberFrom, numberOf, lineLength, limitOf}
+use Rattle.console.specs.Limit.{badLimit, isDigit, decimalFrom, decimalOf, lineLength, limitOf}
 use Rattle.console.specs.Line.{ranText, refusalText}
 
 -- texts of limit.txt, and the limits that they say
@@ -27,7 +27,7 @@ texts =
     []
 
 limits : map limitOf texts ≡ 3 ∷ 3 ∷ 0 ∷ 1000000 ∷ 9999999 ∷ badLimit ∷ badLimit ∷ badLimit ∷ badLimit ∷ badLimit ∷ badLimit ∷ badLimit ∷ badLimit ∷ badLimit ∷ []
-unfolding texts limitOf lineLength numberOf numberFrom isDigit if_then_else_
+unfolding texts limitOf lineLength decimalOf decimalFrom isDigit if_then_else_
 limits = refl
 
 -- 01: "whole output: `3 0 00000000`"

@@ -3,18 +3,18 @@ use mathlib.Core.Path.{_≡_, refl}
 use mathlib.Core.Logic.{_⊎_, inl, inr}
 use mathlib.Core.Bool.{true}
 use mathlib.Core.List.{List, [], _∷_}
-use Prim.Native.Nat.{ℕ, _+_, _^_, _-_, _≤_, _<_}
+use Prim.Native.Nat.{ℕ, _^_, _-_, _≤_, _<_}
 use native.Mathlib.Nat.{lt-of-lt-of-le}
 use native.Mathlib.Omega.{arith}
 use borrow.Author.Tests.{leb-true}
 use lib.Pow.{pow-mono}
 use lib.Signed.{mag}
-use Rattle.word.specs.Word.{Field, signedOf}
+use Rattle.word.specs.Word.{Field}
 use Rattle.word.specs.Choice.{if_then_else_}
 use Rattle.word.proofs.Tests.{either, and-parts}
 use Rattle.word.proofs.Integers.{signed-range}
-use Rattle.isa.specs.Operation.{operationOf, Width, w16, w32, Properties, properties}
-use Rattle.isa.specs.Format.{fieldsWidth, fieldsOf, operationField, cregField, conditionField, Immediate, layoutOf}
+use Rattle.isa.specs.Operation.{Width, w16, w32}
+use Rattle.isa.specs.Format.{fieldsWidth, fieldsOf, operationField, cregField, conditionField, Immediate}
 use Rattle.isa.specs.Decode.{registerOf, immediateOf, operandsOf, opcodeOf, assembled, decode}
 use Rattle.isa.specs.declared.Instruction.{Instruction}
 use Rattle.isa.proofs.Fields.{fields-below}

@@ -1,7 +1,7 @@
 -- The fields of each row of the table, in both widths, by one computed test. That they are inside the word and disjoint is for an encoder.
 -- Assumes nothing.
 use mathlib.Core.Path.{_≡_, refl}
-use mathlib.Core.Bool.{Bool, true, false, _&&_}
+use mathlib.Core.Bool.{Bool, true, _&&_}
 use mathlib.Core.List.{List, [], _∷_, _++_}
 use Prim.Native.Nat.{ℕ, _*_, _≤_}
 use lib.Dec.{leb}
@@ -10,7 +10,7 @@ use Rattle.word.specs.Word.{Field}
 use Rattle.word.specs.Choice.{if_then_else_}
 use Rattle.word.proofs.Tests.{and-parts}
 use Rattle.isa.specs.Operation.{operationOf, Width, w16, w32, Properties, properties}
-use Rattle.isa.specs.Format.{fieldsWidth, operationField, conditionalField, cregField, conditionField, Role, Dreg, Sreg1, Sreg2, Creg, Imm, Immediate, Layout, layoutOf, operandFields}
+use Rattle.isa.specs.Format.{fieldsWidth, operationField, conditionalField, cregField, conditionField, Role, Dreg, Sreg1, Sreg2, Creg, Imm, Immediate, layoutOf, operandFields}
 use Rattle.isa.specs.Decode.{wordBytes}
 use Rattle.isa.specs.Computed.{instructions}
 use Rattle.isa.proofs.Fields.{lieBelow, disjoint, disjointFrom, separate}

@@ -9,7 +9,7 @@ use lib.Dec.{leb, eqb}
 use lib.ListN.{length}
 use borrow.Author.Tests.{leb-true, le-leb, lt-leb, ne-eqb}
 use Rattle.word.specs.Choice.{if_then_else_}
-use Rattle.isa.specs.Operation.{Operation, operations, operationOf, Width, w16, w32, widthBy, Availability, anywhere, wideOnly, superOnly, nowhere, unavailable, codeOf, Properties, properties}
+use Rattle.isa.specs.Operation.{operationOf, Width, w16, w32, widthBy, Availability, anywhere, wideOnly, superOnly, nowhere, unavailable, codeOf, properties}
 use Rattle.isa.specs.Computed.{instructions}
 use Rattle.isa.proofs.Table.{values, agree, by-number}
 

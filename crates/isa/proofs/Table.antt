@@ -5,10 +5,10 @@ use mathlib.Core.List.{List, [], _∷_}
 use Prim.Native.Nat.{ℕ, zero, suc, _+_, _≤_, _<_}
 use native.Mathlib.Omega.{arith}
 use lib.Dec.{ltb}
-use lib.ListN.{getD, List·getD-eq-default}
+use lib.ListN.{List·getD-eq-default}
 use borrow.Author.Tests.{ltb-true, ltb-false}
 use Rattle.word.proofs.Tests.{either}
-use Rattle.isa.specs.Operation.{Operation, unknown, operations, operationOf, widthBy, Form, Properties, properties}
+use Rattle.isa.specs.Operation.{Operation, unknown, operations, operationOf, widthBy, Form, properties}
 use Rattle.isa.specs.Decode.{operandsOf}
 use Rattle.isa.specs.declared.Operands.{Operands}
 

@@ -1,10 +1,10 @@
 -- The table of worked instruction words holds: antt computes both columns, and the theorem reads a row off. Assumes nothing.
 use mathlib.Core.Path.{_≡_, refl}
-use mathlib.Core.List.{List, [], _∷_, map}
+use mathlib.Core.List.{[], _∷_, map}
 use Prim.Native.Nat.{ℕ, _<_}
 use lib.ListN.{length, getD}
 use Rattle.word.proofs.Worked.{at-each}
-use Rattle.isa.specs.Operation.{muls16, Properties, properties}
+use Rattle.isa.specs.Operation.{muls16, properties}
 use Rattle.isa.specs.Decode.{decode}
 use Rattle.isa.specs.Computed.{instructions}
 use Rattle.isa.specs.Worked.{Case, cases}

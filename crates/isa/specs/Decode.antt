@@ -6,8 +6,8 @@ use lib.Dec.{eqb}
 use lib.IntN.{ℤ, pos}
 use Rattle.word.specs.Choice.{if_then_else_}
 use Rattle.word.specs.Word.{Field, signedOf}
-use Rattle.isa.specs.Operation.{operationOf, Properties, properties, Width, w16, w32, Form}
-use Rattle.isa.specs.Format.{fieldsWidth, fieldsOf, operationField, conditionalField, cregField, conditionField, Immediate, Layout, layoutOf}
+use Rattle.isa.specs.Operation.{operationOf, properties, Width, w16, w32, Form}
+use Rattle.isa.specs.Format.{fieldsWidth, fieldsOf, operationField, conditionalField, cregField, conditionField, Immediate, layoutOf}
 use Rattle.isa.specs.declared.Operands.{Operands}
 use Rattle.isa.specs.declared.Instruction.{Instruction}
 

@@ -3,9 +3,9 @@
 use mathlib.Core.Path.{_≡_, refl, sym, ap, _∙_}
 use mathlib.Core.Bool.{Bool, true, false}
 use Prim.Native.Nat.{ℕ, zero, suc, _+_, _-_, _*_, _%_, _^_, _≤_, _<_}
-use native.Mathlib.Nat.{pow-suc, mod-lt, one-mul, mod-eq-of-lt, mul-le-mul, mul-le-mul-left, mul-lt-mul-of-pos-right, add-le-add, le-of-lt, le-trans, lt-of-le-of-lt}
+use native.Mathlib.Nat.{pow-suc, one-mul, mod-eq-of-lt, mul-le-mul, mul-le-mul-left, mul-lt-mul-of-pos-right, add-le-add, le-of-lt, le-trans, lt-of-le-of-lt}
 use native.Mathlib.Omega.{arith}
-use lib.Dec.{T, ltb, leb, ltb→lt, leb→le, lt→ltb, le→leb, lit<}
+use lib.Dec.{T, ltb, leb, ltb→lt, leb→le, lt→ltb, le→leb}
 use lib.IntN.{ℤ, pos, negsuc, negℤ, natAbs, subℕ, _+ℤ_, _-ℤ_, _*ℤ_}
 use lib.Pow.{pow-add, pow-lt, pow-mono, pow-pos}
 use lib.Signed.{mag, ltZ, natAbs-le}

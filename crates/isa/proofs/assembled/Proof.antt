@@ -1,5 +1,4 @@
 -- `isa::assembled` meets its contract: the parts are those of the word's operation. Assumes nothing.
-use mathlib.Core.Path.{_≡_}
 use native.Mathlib.Nat.{mul-one, add-zero}
 use native.Mathlib.Omega.{arith}
 use borrow.Author.Needs.{needs}

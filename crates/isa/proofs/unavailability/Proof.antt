@@ -1,5 +1,4 @@
 -- `isa::unavailability` meets its contract. Assumes nothing.
-use mathlib.Core.Path.{_≡_}
 use borrow.Author.Tests.{le-leb, lt-leb}
 use Rattle.word.specs.Choice.{if_then_else_}
 use Rattle.isa.proofs.Rules.{unavailable-is}
