@@ -33,3 +33,8 @@ lineLength text =
 -- the step limit that a text says
 unfoldable pub limitOf : (text : List ℕ) → ℕ
 limitOf text = decimalOf (take (lineLength text) text)
+
+-- to unfold all of these
+unfoldable pub limitReading : Unit {0}
+unfolding isDigit decimalFrom decimalOf lineLength limitOf
+limitReading = tt
