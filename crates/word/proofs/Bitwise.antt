@@ -27,14 +27,8 @@ differ-is : (x y : ℕ) → x < 2 → y < 2 → differ x y ≡ (x + y) % 2
 differ-is zero y p q = omega arith
 differ-is (suc zero) zero p q = refl
 differ-is (suc zero) (suc zero) p q = refl
-differ-is (suc zero) (suc (suc y)) p q = absurd (no y q)
-  where
-    no : (y : ℕ) → suc (suc y) < 2 → ⊥
-    no y h = omega arith
-differ-is (suc (suc x)) y p q = absurd (no x p)
-  where
-    no : (y : ℕ) → suc (suc y) < 2 → ⊥
-    no y h = omega arith
+differ-is (suc zero) (suc (suc y)) p q = absurd (omega arith)
+differ-is (suc (suc x)) y p q = absurd (omega arith)
 
 pub and-is : (k a b : ℕ) → a < 2 ^ k → b < 2 ^ k → bitAnd a b ≡ bitwiseOf min k a b
 and-is = bitwise-is bitAnd min refl and-step

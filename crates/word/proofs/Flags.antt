@@ -180,11 +180,10 @@ ones-most (suc k) x = let h : onesOf k (x / 2) ≤ k = ones-most k (x / 2) in om
 pub flags-at : (n : ℕ) (ns : List ℕ) → bitAt n (flagsAt ns) ≡ isAmong n ns
 unfolding flagsAt isAmong
 flags-at n [] = rw (zero-div (2 ^ n))
-flags-at n (m ∷ ms) = go (eqb m n) refl (flags-at n ms)
-  where
-    go : (t : Bool) → eqb m n ≡ t → bitAt n (flagsAt ms) ≡ isAmong n ms → bitAt n (withFlag m (flagsAt ms)) ≡ (t || isAmong n ms)
-    go true e h = rw (eqb-true m n e) (with-same n (flagsAt ms))
-    go false e h = with-other m (flagsAt ms) n (λ q. eqb-false m n e (sym q)) ∙ h
+flags-at n (m ∷ ms) =
+    either (eqb m n)
+    (λ e. let same : withFlag n (flagsAt ms) ≡ withFlag m (flagsAt ms) = rw (eqb-true m n e) in rw (e, ← same) (with-same n (flagsAt ms)))
+    (λ e. rw e (with-other m (flagsAt ms) n (λ q. eqb-false m n e (sym q)) ∙ flags-at n ms))
 
 -- a list's first, digit-most off
 pub flags-pop : (n : ℕ) (ns : List ℕ) → isAmong n ns ≡ false → withoutFlag n (flagsAt (n ∷ ns)) ≡ flagsAt ns

@@ -1,9 +1,9 @@
 -- Signed numbers: their words, and what i32 and i64 hold. omega does not read ℤ: each law here takes a statement on ℤ to one on ℕ.
 -- word-signed and signed-word are for an encoder of immediates, address-word and natural-address for reachability. Assumes nothing.
 use mathlib.Core.Path.{_≡_, refl, sym, ap, _∙_}
-use mathlib.Core.Bool.{Bool, true, false}
+use mathlib.Core.Bool.{Bool, true, false, true≢false}
 use Prim.Native.Nat.{ℕ, zero, suc, _+_, _-_, _*_, _%_, _^_, _≤_, _<_}
-use native.Mathlib.Nat.{pow-suc, one-mul, mod-eq-of-lt, mul-le-mul, mul-le-mul-left, mul-lt-mul-of-pos-right, add-le-add, le-of-lt, le-trans, lt-of-le-of-lt}
+use native.Mathlib.Nat.{pow-suc, not-suc-le-zero, one-mul, mod-eq-of-lt, mul-le-mul, mul-le-mul-left, mul-lt-mul-of-pos-right, add-le-add, le-of-lt, le-trans, lt-of-le-of-lt}
 use native.Mathlib.Omega.{arith}
 use lib.Dec.{T, ltb, leb, ltb→lt, leb→le, lt→ltb, le→leb}
 use lib.IntN.{ℤ, pos, negsuc, negℤ, natAbs, subℕ, _+ℤ_, _-ℤ_, _*ℤ_}
@@ -39,15 +39,12 @@ minus-is a (suc b) = refl
 -- ---- the sign test
 
 pub is-negative : (z : ℤ) → ltZ z (pos 0) ≡ true → z ≡ negsuc (mag z)
-is-negative (pos n) t = absurd (never n (ltb-true n 0 t))
-  where
-    never : (n : ℕ) → n < 0 → ⊥
-    never n h = omega arith
+is-negative (pos n) t = absurd (not-suc-le-zero (ltb-true n 0 t))
 is-negative (negsuc n) t = refl
 
 pub is-natural : (z : ℤ) → ltZ z (pos 0) ≡ false → z ≡ pos (mag z)
 is-natural (pos n) t = refl
-is-natural (negsuc n) t = absurd (let z : _≡_ {A = ℕ} 0 1 = cc in omega arith)
+is-natural (negsuc n) t = absurd (true≢false t)
 
 -- -1 - z of a negative z
 pub turned : (z : ℤ) → ltZ z (pos 0) ≡ true → negsuc 0 -ℤ z ≡ pos (mag z)
@@ -137,7 +134,7 @@ word-natural k n b = mod-eq-of-lt b
 pub address-word : (z : ℤ) → isAddress z ≡ true → z ≡ pos (wordOf 32 z)
 unfolding isAddress
 address-word (pos n) e = ap pos (sym (word-natural 32 n (ltb-true n (2 ^ 32) e)))
-address-word (negsuc n) e = absurd (let z : _≡_ {A = ℕ} 0 1 = cc in omega arith)
+address-word (negsuc n) e = absurd (true≢false (sym e))
 
 pub natural-address : (n : ℕ) → n < 2 ^ 32 → isAddress (pos n) ≡ true
 unfolding isAddress
