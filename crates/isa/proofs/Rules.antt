@@ -1,4 +1,4 @@
--- The table of operations against 01's sentences, each by one computed test. Assumes nothing.
+-- The table of operations against 01's sentences, each by one computed test; mnemonic-short is for a listing. Assumes nothing.
 use mathlib.Core.Path.{_≡_, refl}
 use mathlib.Core.Logic.{_≢_}
 use mathlib.Core.Option.{Option, none, some}
@@ -26,7 +26,7 @@ pub numbered : (n : ℕ) → n < 58 → properties (operationOf n) .number ≡ n
 unfolding instructions values
 numbered n h = agree (λ n. properties (operationOf n) .number) (λ n. n) 0 58 refl n (omega arith) h
 
--- mnemonics have at most eight bytes (for a listing)
+-- mnemonics have at most eight bytes
 pub mnemonic-short : (n : ℕ) → length (properties (operationOf n) .mnemonic) ≤ 8
 unfolding instructions values
 mnemonic-short n = leb-true _ 8 (by-number (λ o. leb (length (properties o .mnemonic)) 8) (λ n. true) refl (λ n h. refl) n)
