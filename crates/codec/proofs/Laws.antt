@@ -1,13 +1,13 @@
 -- The laws of numbers as bytes. Assumes nothing.
 use mathlib.Core.Path.{_≡_, refl, sym, ap, _∙_}
-use mathlib.Core.List.{List, [], _∷_, _++_, append-assoc}
+use mathlib.Core.List.{List, [], _∷_, _++_}
 use Prim.Native.Nat.{ℕ, zero, suc, _+_, _*_, _/_, _%_, _^_, _-_, _≤_, _<_}
 use native.Mathlib.Omega.{arith}
 use native.Mathlib.Numerals.{add-one, unary-clauses}
 use lib.ListN.{length, take, drop, getD, set, length-append, length-take, length-drop, List·getD-append}
-use lib.Seq.{sets-eq, take-at, drop-at, drop-drop, take-suc, take-append-seam, drop-append-seam, drop-append-add, getD-append-add, getD-drop, length-take-le, set-getD}
+use lib.Seq.{sets-eq, drop-drop, take-suc, take-append-seam, drop-append-add, length-take-le}
 use lib.Pow.{shr-shr}
-use Rattle.codec.specs.Number.{numberOf, numberAt, lowFirstAt, reversed, bytesOfNumber, numbersOf, bytesOf, stored, over}
+use Rattle.codec.specs.Number.{numberOf, numberAt, lowFirstAt, reversed, bytesOfNumber, numbersOf, bytesOf, putAt, over}
 
 -- every element of a list is below a bound
 abbrev pub Below : (k : ℕ) (s : List ℕ) → Type 0
@@ -48,14 +48,6 @@ reversed-numberOf a b c d ha hb hc hd =
 -- bytes read low first and reversed are those read high first
 pub reversed-lowFirstAt : (s : List ℕ) (at : ℕ) → Below 256 s → reversed (lowFirstAt s at) ≡ numberAt s at
 reversed-lowFirstAt s at h = reversed-numberOf _ _ _ _ (h at) (h (at + 1)) (h (at + 2)) (h (at + 3))
-
--- the number of four bytes has 32 bits
-pub numberAt-lt : (s : List ℕ) (at : ℕ) → Below 256 s → numberAt s at < 2 ^ 32
-numberAt-lt s at h = omega (arith, h at, h (at + 1), h (at + 2), h (at + 3))
-
--- the number at a place is the first one from there on
-numberAt-drop : (s : List ℕ) (at : ℕ) → numberAt (drop at s) 0 ≡ numberAt s at
-numberAt-drop s at = simp (getD-drop, unary-clauses)
 
 -- ---- many numbers
 
@@ -104,17 +96,7 @@ getD-numbersOf (a ∷ b ∷ c ∷ d ∷ s) (suc i) h =
     let e : 4 * suc i ≡ suc (suc (suc (suc (4 * i)))) = omega arith in
     rw e (simp unary-clauses (simp unary-clauses at r))
 
--- the numbers of bytes have 32 bits
-pub numbersOf-lt : (s : List ℕ) → Below 256 s → Below (2 ^ 32) (numbersOf s)
-unfolding numbersOf
-numbersOf-lt [] h i = omega arith
-numbersOf-lt (a ∷ []) h i = omega arith
-numbersOf-lt (a ∷ b ∷ []) h i = omega arith
-numbersOf-lt (a ∷ b ∷ c ∷ []) h i = omega arith
-numbersOf-lt (a ∷ b ∷ c ∷ d ∷ s) h zero = numberAt-lt (a ∷ b ∷ c ∷ d ∷ s) 0 h
-numbersOf-lt (a ∷ b ∷ c ∷ d ∷ s) h (suc i) = numbersOf-lt s (λ j. h (suc (suc (suc (suc j))))) i
-
--- the bytes of numbers, and of one, are bytes
+-- the bytes of numbers are bytes
 pub bytesOf-lt : (ns : List ℕ) → Below 256 (bytesOf ns)
 unfolding bytesOf
 bytesOf-lt [] i = omega arith
@@ -123,10 +105,6 @@ bytesOf-lt (n ∷ ns) (suc zero) = omega arith
 bytesOf-lt (n ∷ ns) (suc (suc zero)) = omega arith
 bytesOf-lt (n ∷ ns) (suc (suc (suc zero))) = omega arith
 bytesOf-lt (n ∷ ns) (suc (suc (suc (suc i)))) = bytesOf-lt ns i
-
-pub bytesOfNumber-lt : (n : ℕ) → Below 256 (bytesOfNumber n)
-unfolding bytesOf
-bytesOfNumber-lt n = bytesOf-lt (n ∷ [])
 
 -- lists one after the other
 pub bytesOf-append : (ms ns : List ℕ) → bytesOf (ms ++ ns) ≡ bytesOf ms ++ bytesOf ns
@@ -151,77 +129,29 @@ take-over front s = take-append-seam front (drop (length front) s)
 pub getD-over-front : (front s : List ℕ) (i : ℕ) → i < length front → getD (over front s) i 0 ≡ getD front i 0
 getD-over-front front s i h = List·getD-append front (drop (length front) s) 0 i h
 
--- the further elements stay
-pub drop-over : (front s : List ℕ) → drop (length front) (over front s) ≡ drop (length front) s
-drop-over front s = drop-append-seam front (drop (length front) s)
-
-pub getD-over-further : (front s : List ℕ) (i : ℕ) → length front ≤ i → getD (over front s) i 0 ≡ getD s i 0
-getD-over-further front s i h =
-    let e : i ≡ length front + (i - length front) = omega arith in
-    rw (e, getD-append-add, getD-drop)
-
 -- the length stays
 pub length-over : (front s : List ℕ) → length front ≤ length s → length (over front s) ≡ length s
 length-over front s h = simp (length-append, length-drop) (omega arith)
 
-module _ (s : List ℕ) (at : ℕ) (t : List ℕ) (fits : at + length t ≤ length s) where
-  -- the length stays
-  pub length-stored : length (stored s at t) ≡ length s
-  length-stored = simp (length-append, length-take, length-drop) (omega arith)
-
-  -- the elements before the place stay
-  pub take-stored : take at (stored s at t) ≡ take at s
-  take-stored = rw append-assoc (take-at (take at s) (t ++ drop (at + length t) s) at (length-take-le at s (omega arith)))
-
-  -- from the place on, the others lie over what stood there
-  pub drop-stored : drop at (stored s at t) ≡ over t (drop at s)
-  drop-stored =
-      rw append-assoc (drop-at (take at s) (t ++ drop (at + length t) s) at (length-take-le at s (omega arith)))
-      ∙ ap (λ (u : List ℕ). t ++ u) (sym (drop-drop (length t) at s))
-
-  -- the elements after the others stay
-  pub drop-stored-further : drop (at + length t) (stored s at t) ≡ drop (at + length t) s
-  drop-stored-further = sym (drop-drop (length t) at (stored s at t)) ∙ rw (drop-stored, drop-over, drop-drop)
-
 -- stores of elements, one and four in a row
-set-stored : (s : List ℕ) (at a : ℕ) → at < length s → set s at a ≡ stored s at (a ∷ [])
-set-stored s at a h = sets-eq (a ∷ []) s at (omega arith)
+set-putAt : (s : List ℕ) (at a : ℕ) → at < length s → set s at a ≡ putAt s at (a ∷ [])
+set-putAt s at a h = sets-eq (a ∷ []) s at (omega arith)
 
 pub four-stores : (s : List ℕ) (at a b c d : ℕ) → at + 4 ≤ length s
-    → set (set (set (set s at a) (at + 1) b) (at + 2) c) (at + 3) d ≡ stored s at (a ∷ b ∷ c ∷ d ∷ [])
+    → set (set (set (set s at a) (at + 1) b) (at + 2) c) (at + 3) d ≡ putAt s at (a ∷ b ∷ c ∷ d ∷ [])
 four-stores s at a b c d h =
     let e1 : at + 1 ≡ suc at = omega arith in
     let e2 : at + 2 ≡ suc (suc at) = omega arith in
     let e3 : at + 3 ≡ suc (suc (suc at)) = omega arith in
     rw (e1, e2, e3) (sets-eq (a ∷ b ∷ c ∷ d ∷ []) s at h)
 
--- what is stored just after a front lengthens it
-pub stored-over : (front s t : List ℕ) (at : ℕ) → length front ≡ at → stored (over front s) at t ≡ over (front ++ t) s
-stored-over front s t at e =
-    ap (λ (k : ℕ). stored (over front s) k t) (sym e)
+-- what is put just after a front lengthens it
+pub putAt-over : (front s t : List ℕ) (at : ℕ) → length front ≡ at → putAt (over front s) at t ≡ over (front ++ t) s
+putAt-over front s t at e =
+    ap (λ (k : ℕ). putAt (over front s) k t) (sym e)
     ∙ ap (λ (u : List ℕ). u ++ t ++ drop (length front + length t) (over front s)) (take-over front s)
     ∙ ap (λ (u : List ℕ). front ++ t ++ u) (drop-append-add front (drop (length front) s) (length t) ∙ drop-drop (length t) (length front) s)
     ∙ rw length-append
-
--- a number written and read again at its place
-pub numberAt-stored : (s : List ℕ) (at n : ℕ) → at + 4 ≤ length s → n < 2 ^ 32
-    → numberAt (stored s at (bytesOfNumber n)) at ≡ n
-numberAt-stored s at n h l =
-    sym (numberAt-drop (stored s at (bytesOfNumber n)) at)
-    ∙ ap (λ (t : List ℕ). numberAt t 0) (drop-stored s at (bytesOfNumber n) h)
-    ∙ numberAt-bytesOfNumber n l
-
--- a number read and written again at its place
-pub stored-numberAt : (s : List ℕ) (at : ℕ) → at + 4 ≤ length s → Below 256 s
-    → stored s at (bytesOfNumber (numberAt s at)) ≡ s
-stored-numberAt s at h l =
-    ap (λ (t : List ℕ). stored s at t) (bytesOfNumber-numberOf _ _ _ _ (l at) (l (at + 1)) (l (at + 2)) (l (at + 3)))
-    ∙ sym (four-stores s at (getD s at 0) (getD s (at + 1) 0) (getD s (at + 2) 0) (getD s (at + 3) 0) h)
-    ∙ simp set-getD
-
--- numbers written and read again from the front
-pub numbersOf-over : (ns s : List ℕ) → Below (2 ^ 32) ns → numbersOf (take (4 * length ns) (over (bytesOf ns) s)) ≡ ns
-numbersOf-over ns s h = rw (← length-bytesOf, take-over) (numbersOf-bytesOf ns h)
 
 -- ---- one turn of a loop
 
@@ -233,13 +163,13 @@ read-more s t i h l =
     let e : length (take i (numbersOf s)) ≡ i = length-take-le i (numbersOf s) (omega arith) in
     let f : i < length (over (take i (numbersOf s)) t) = omega (arith, length-over (take i (numbersOf s)) t (omega arith)) in
     rw (add-one i, take-suc (numbersOf s) i 0 k, getD-numbersOf s i h)
-    (set-stored (over (take i (numbersOf s)) t) i (numberAt s (4 * i)) f
-    ∙ stored-over (take i (numbersOf s)) t (numberAt s (4 * i) ∷ []) i e)
+    (set-putAt (over (take i (numbersOf s)) t) i (numberAt s (4 * i)) f
+    ∙ putAt-over (take i (numbersOf s)) t (numberAt s (4 * i) ∷ []) i e)
 
 -- one number more is written
 pub write-more : (ns t : List ℕ) (i : ℕ) → i < length ns
-    → stored (over (bytesOf (take i ns)) t) (4 * i) (bytesOfNumber (getD ns i 0)) ≡ over (bytesOf (take (i + 1) ns)) t
+    → putAt (over (bytesOf (take i ns)) t) (4 * i) (bytesOfNumber (getD ns i 0)) ≡ over (bytesOf (take (i + 1) ns)) t
 unfolding bytesOf
 write-more ns t i h =
     let e : length (bytesOf (take i ns)) ≡ 4 * i = length-bytesOf (take i ns) ∙ simp length-take (omega arith) in
-    rw (add-one i, take-suc ns i 0 h, bytesOf-append) (stored-over (bytesOf (take i ns)) t (bytesOfNumber (getD ns i 0)) (4 * i) e)
+    rw (add-one i, take-suc ns i 0 h, bytesOf-append) (putAt-over (bytesOf (take i ns)) t (bytesOfNumber (getD ns i 0)) (4 * i) e)

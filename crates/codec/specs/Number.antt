@@ -43,8 +43,8 @@ bytesOf (n ∷ ns) = bytesOfNumber n ++ bytesOf ns
 -- ---- lent memory
 
 -- a list with others in place of its elements from a place on
-abbrev pub stored : (s : List ℕ) (at : ℕ) (t : List ℕ) → List ℕ
-stored s at t = take at s ++ t ++ drop (at + length t) s
+abbrev pub putAt : (s : List ℕ) (at : ℕ) (t : List ℕ) → List ℕ
+putAt s at t = take at s ++ t ++ drop (at + length t) s
 
 -- a list laid over the front of another, whose further elements stay
 abbrev pub over : (front s : List ℕ) → List ℕ

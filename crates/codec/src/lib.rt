@@ -2,7 +2,7 @@
 ghost use mathlib.Core.Path.{_≡_};
 ghost use Prim.Native.Nat.{_+_, _*_, _/_, _≤_};
 ghost use lib.ListN.{length};
-ghost use Rattle.codec.specs.Number.{numberOf, numberAt, lowFirstAt, reversed, bytesOfNumber, numbersOf, bytesOf, stored, over};
+ghost use Rattle.codec.specs.Number.{numberOf, numberAt, lowFirstAt, reversed, bytesOfNumber, numbersOf, bytesOf, putAt, over};
 
 // The number that four bytes stand for, high byte first.
 fn number(a: u8, b: u8, c: u8, d: u8) -> u32
@@ -37,7 +37,7 @@ pub fn number_at(bytes: &[u8], at: usize) -> u32
 // Writes a number to the four bytes from a place on.
 pub fn put_number(bytes: &mut [u8], at: usize, n: u32)
     requires { ⌜ at + 4 ≤ length (now bytes) ⌝ }
-    ensures { λ _. ⌜ now (bytes .exit) ≡ stored (now (bytes .entry)) at (bytesOfNumber n) ⌝ }
+    ensures { λ _. ⌜ now (bytes .exit) ≡ putAt (now (bytes .entry)) at (bytesOfNumber n) ⌝ }
 {
     bytes[at] = (n / 16777216 % 256) as u8;
     bytes[at + 1] = (n / 65536 % 256) as u8;

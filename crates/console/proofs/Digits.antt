@@ -1,6 +1,5 @@
 -- Laws of numbers as text. Assumes nothing.
 use mathlib.Core.Path.{_≡_, refl, sym, ap, _∙_}
-use mathlib.Core.Bool.{Bool, true, false}
 use mathlib.Core.List.{List, [], _∷_, _++_, append-assoc}
 use Prim.Native.Nat.{ℕ, zero, suc, _+_, _-_, _*_, _/_, _%_, _^_, _≤_, _<_}
 use native.Mathlib.Nat.{pow-suc}
@@ -8,10 +7,10 @@ use native.Mathlib.Omega.{arith}
 use lib.ListN.{length, take, drop, set, length-append}
 use lib.Seq.{take-set-le, set-split, drop-at, length-take-le, append-snoc, paste-zero}
 use lib.Dec.{ltb}
-use borrow.Author.Tests.{lt-ltb, le-ltb, ltb-true}
+use borrow.Author.Tests.{lt-ltb, le-ltb}
 use Rattle.word.specs.Choice.{if_then_else_}
-use Rattle.word.proofs.Tests.{if-true, if-false}
-use Rattle.codec.specs.Number.{stored}
+use Rattle.word.proofs.Tests.{either, if-true, if-false}
+use Rattle.codec.specs.Number.{putAt}
 use Rattle.console.specs.Digits.{digitOf, digitsOf, placesFrom, placesOf}
 
 -- ---- digits
@@ -27,35 +26,30 @@ drop-set : (l : List ℕ) (i a : ℕ) → i < length l → drop i (set l i a) �
 drop-set l i a h = rw (set-split l i a h) (drop-at (take i l) (a ∷ drop (suc i) l) i (length-take-le i l (omega arith)))
 
 -- a text and a character after it: the character may be stored first
-pub stored-last : (l : List ℕ) (at : ℕ) (s : List ℕ) (a k : ℕ) → length s ≡ k → at + k < length l
-    → stored (set l (at + k) a) at s ≡ stored l at (s ++ a ∷ [])
-stored-last l at s a k e h =
+pub putAt-last : (l : List ℕ) (at : ℕ) (s : List ℕ) (a k : ℕ) → length s ≡ k → at + k < length l
+    → putAt (set l (at + k) a) at s ≡ putAt l at (s ++ a ∷ [])
+putAt-last l at s a k e h =
     let rest = drop (suc (at + k)) l in
     let n : at + length (s ++ a ∷ []) ≡ suc (at + k) = omega (arith, length-append s (a ∷ [])) in
     rw (n, e, take-set-le at l (at + k) a (omega arith), drop-set l (at + k) a h)
     (sym (append-snoc (take at l ++ s) a rest) ∙ ap (λ (x : List ℕ). x ++ rest) (append-assoc (take at l) s (a ∷ [])))
 
 -- no digits change nothing
-pub digits-done : (l : List ℕ) (at base i rest : ℕ) → i ≤ 0 → stored l at (digitsOf base i rest) ≡ l
+pub digits-done : (l : List ℕ) (at base i rest : ℕ) → i ≤ 0 → putAt l at (digitsOf base i rest) ≡ l
 unfolding digitsOf
 digits-done l at base zero rest h = sym (paste-zero l at [])
 digits-done l at base (suc i) rest h = absurd (omega arith)
 
 -- one digit more is written
 pub digit-more : (l : List ℕ) (at base i rest : ℕ) → 0 < i → at + i ≤ length l
-    → stored (set l (at + (i - 1)) (digitOf (rest % base))) at (digitsOf base (i - 1) (rest / base)) ≡ stored l at (digitsOf base i rest)
+    → putAt (set l (at + (i - 1)) (digitOf (rest % base))) at (digitsOf base (i - 1) (rest / base)) ≡ putAt l at (digitsOf base i rest)
 unfolding digitsOf
 digit-more l at base zero rest p h = absurd (omega arith)
 digit-more l at base (suc i) rest p h =
     let e : suc i - 1 ≡ i = omega arith in
-    rw e (stored-last l at (digitsOf base i (rest / base)) (digitOf (rest % base)) i (length-digitsOf base i (rest / base)) (omega arith))
+    rw e (putAt-last l at (digitsOf base i (rest / base)) (digitOf (rest % base)) i (length-digitsOf base i (rest / base)) (omega arith))
 
 -- ---- places
-
--- by cases of a test
-pub either : {A : Type 0} (b : Bool) → (b ≡ true → A) → (b ≡ false → A) → A
-either true f g = f refl
-either false f g = g refl
 
 -- a tenth has one digit fewer
 tenth : (n k : ℕ) → n < 10 ^ suc k → n / 10 < 10 ^ k
@@ -89,14 +83,3 @@ places-le (suc more) (suc k) n h =
 -- a 32-bit number has at most ten
 pub places-few : (n : ℕ) → n < 2 ^ 32 → placesOf n ≤ 10
 places-few n h = places-le 9 9 n (omega arith)
-
--- at least one, and the number is below that power of ten
-pub places-enclose : (more n : ℕ) → n < 10 ^ suc more → (1 ≤ placesFrom more n) × (n < 10 ^ placesFrom more n)
-unfolding placesFrom if_then_else_
-places-enclose zero n h = (omega arith, h)
-places-enclose (suc more) n h =
-    either (ltb n 10)
-    (λ e. let k : n < 10 = ltb-true n 10 e in rw e (omega arith))
-    (λ e.
-    let below = places-enclose more (n / 10) (tenth n (suc more) h) in
-    rw (e, pow-suc) (omega arith))

@@ -1,20 +1,19 @@
 -- Laws of the step limit that a text says. Assumes nothing.
 use mathlib.Core.Path.{_≡_, refl, sym, ap, _∙_}
 use mathlib.Core.Bool.{true, false}
-use mathlib.Core.List.{List, [], _∷_, _++_, append-assoc, append-nil}
-use Prim.Native.Nat.{ℕ, zero, suc, _+_, _-_, _*_, _/_, _%_, _^_, _≤_, _<_}
-use native.Mathlib.Nat.{mul-assoc, pow-suc, pow-le-pow-right}
+use mathlib.Core.List.{List, [], _∷_}
+use Prim.Native.Nat.{ℕ, _+_, _-_, _*_, _^_, _≤_, _<_}
+use native.Mathlib.Nat.{pow-suc, pow-le-pow-right}
 use native.Mathlib.Omega.{arith}
 use native.Mathlib.Numerals.{add-one}
-use lib.ListN.{length, take, drop, getD, drop-of-length-le, length-append}
-use lib.Seq.{drop-cons, length-take-le, take-all, take-nil, take-length, take-append-seam, getD-append-seam}
+use lib.ListN.{length, take, drop, getD, drop-of-length-le}
+use lib.Seq.{drop-cons, length-take-le, take-all}
 use lib.Dec.{leb, eqb}
-use borrow.Author.Tests.{lt-ltb, leb-true, leb-false, le-leb, lt-leb, eq-eqb, ne-eqb}
+use borrow.Author.Tests.{leb-true, leb-false, le-leb, lt-leb, eq-eqb, ne-eqb}
 use Rattle.word.specs.Choice.{if_then_else_}
-use Rattle.word.proofs.Tests.{and-parts, and-both, if-true, if-false}
-use Rattle.console.specs.Digits.{newline, digitOf, digitsOf, placesOf, decimal}
-use Rattle.console.specs.Limit.{badLimit, isDigit, numberFrom, numberOf, lineLength, limitOf}
-use Rattle.console.proofs.Digits.{either, length-digitsOf, places-le, places-enclose}
+use Rattle.word.proofs.Tests.{either, and-parts, if-true, if-false}
+use Rattle.console.specs.Digits.{newline}
+use Rattle.console.specs.Limit.{badLimit, isDigit, decimalFrom, decimalOf, lineLength, limitOf}
 
 -- ---- the limit
 
@@ -33,35 +32,31 @@ pub value-small : (v i : ℕ) → v < 10 ^ i → i < 7 → v < 1000000
 value-small v i h k = omega (arith, pow-le-pow-right {n = 10} (omega arith) {i = i} {j = 6} (omega arith))
 
 -- how many digits there may be
-pub number-short : (s : List ℕ) → length s < 1 → badLimit ≡ numberOf s
-unfolding numberOf if_then_else_
+pub number-short : (s : List ℕ) → length s < 1 → badLimit ≡ decimalOf s
+unfolding decimalOf if_then_else_
 number-short s h = rw (lt-leb 1 (length s) h)
 
 module _ (s : List ℕ) (some : 1 ≤ length s) where
-  pub number-long : 7 < length s → badLimit ≡ numberOf s
-  unfolding numberOf if_then_else_
+  pub number-long : 7 < length s → badLimit ≡ decimalOf s
+  unfolding decimalOf if_then_else_
   number-long h = rw (le-leb 1 (length s) some, lt-leb (length s) 7 h)
 
-  pub number-read : length s ≤ 7 → numberFrom 0 s ≡ numberOf s
-  unfolding numberOf if_then_else_
+  pub number-read : length s ≤ 7 → decimalFrom 0 s ≡ decimalOf s
+  unfolding decimalOf if_then_else_
   number-read h = rw (le-leb 1 (length s) some, le-leb (length s) 7 h)
 
--- one digit more is read
-read-one : (v b : ℕ) (s : List ℕ) → isDigit b ≡ true → numberFrom v (b ∷ s) ≡ numberFrom (v * 10 + (b - 48)) s
-unfolding numberFrom
-read-one v b s e = if-true _ _ _ e
-
--- the same at a place of a text
+-- one digit more is read at a place of a text
 module _ (s : List ℕ) (i v : ℕ) where
-  pub number-more : i < length s → isDigit (getD s i 0) ≡ true → numberFrom v (drop i s) ≡ numberFrom (v * 10 + (getD s i 0 - 48)) (drop (i + 1) s)
-  number-more h e = rw (drop-cons s i 0 h, add-one i) (read-one v (getD s i 0) (drop (suc i) s) e)
+  pub number-more : i < length s → isDigit (getD s i 0) ≡ true → decimalFrom v (drop i s) ≡ decimalFrom (v * 10 + (getD s i 0 - 48)) (drop (i + 1) s)
+  unfolding decimalFrom
+  number-more h e = rw (drop-cons s i 0 h, add-one i) (if-true _ _ _ e)
 
-  pub number-other : i < length s → isDigit (getD s i 0) ≡ false → numberFrom v (drop i s) ≡ badLimit
-  unfolding numberFrom
+  pub number-other : i < length s → isDigit (getD s i 0) ≡ false → decimalFrom v (drop i s) ≡ badLimit
+  unfolding decimalFrom
   number-other h e = rw (drop-cons s i 0 h) (if-false _ _ _ e)
 
-  pub number-end : length s ≤ i → numberFrom v (drop i s) ≡ v
-  unfolding numberFrom
+  pub number-end : length s ≤ i → decimalFrom v (drop i s) ≡ v
+  unfolding decimalFrom
   number-end h = rw (drop-of-length-le s h)
 
 -- the text before an optional newline
@@ -99,68 +94,3 @@ limit-front text n h =
     (λ e.
     let m : n < length text = leb-false (length text) n e in
     limit-long (take n text) (omega (arith, length-take-le n text (omega arith))) ∙ sym (limit-long text (omega arith)))
-
--- ---- what is written in decimal is read back
-
-decimal-digit : (d : ℕ) → d < 10 → digitOf d ≡ 48 + d
-unfolding digitOf
-decimal-digit d h = if-true _ _ _ (lt-ltb d 10 h)
-
-is-decimal : (d : ℕ) → d < 10 → isDigit (48 + d) ≡ true
-unfolding isDigit
-is-decimal d h = and-both _ _ (le-leb 48 (48 + d) (omega arith)) (le-leb (48 + d) 57 (omega arith))
-
--- the digits of a number, and what follows them
-read-digits : (k m v : ℕ) (t : List ℕ) → m < 10 ^ k → numberFrom v (digitsOf 10 k m ++ t) ≡ numberFrom (v * 10 ^ k + m) t
-unfolding digitsOf
-read-digits zero m v t h =
-    let e : v * 1 + m ≡ v = omega arith in
-    rw e
-read-digits (suc k) m v t h =
-    let h′ : m < 10 ^ k * 10 = rw pow-suc at h in
-    let d = m % 10 in
-    let l : d < 10 = omega arith in
-    let u = v * 10 ^ k + m / 10 in
-    let e : u * 10 + (48 + d - 48) ≡ v * 10 ^ suc k + m = rw (pow-suc, ← mul-assoc) (omega arith) in
-    rw (append-assoc, decimal-digit d l) (read-digits k (m / 10) v ((48 + d) ∷ t) (omega arith) ∙ read-one u (48 + d) t (is-decimal d l) ∙ ap (λ (x : ℕ). numberFrom x t) e)
-
-number-decimal : (n : ℕ) → n < 10 ^ 7 → numberOf (decimal n) ≡ n
-unfolding numberFrom
-number-decimal n h =
-    let near = places-enclose 9 n (omega arith) in
-    let few = places-le 9 6 n h in
-    let l = length-digitsOf 10 (placesOf n) n in
-    let e : 0 * 10 ^ placesOf n + n ≡ n = omega arith in
-    sym (number-read (decimal n) (omega arith) (omega arith))
-    ∙ ap (numberFrom 0) (sym (append-nil (decimal n)))
-    ∙ read-digits (placesOf n) n 0 [] (near .1)
-    ∙ e
-
--- the last character of a text
-module _ (s : List ℕ) (d : ℕ) where
-  last-place : length (s ++ d ∷ []) - 1 ≡ length s
-  last-place = omega (arith, length-append s (d ∷ []))
-
-  last-character : getD (s ++ d ∷ []) (length (s ++ d ∷ []) - 1) 0 ≡ d
-  last-character = rw (last-place, getD-append-seam)
-
-  without-newline : d ≡ newline → take (lineLength (s ++ d ∷ [])) (s ++ d ∷ []) ≡ s
-  without-newline e = rw (← line-ended (s ++ d ∷ []) (last-character ∙ e), last-place, take-append-seam)
-
-  without-change : (d ≡ newline → ⊥) → take (lineLength (s ++ d ∷ [])) (s ++ d ∷ []) ≡ s ++ d ∷ []
-  without-change f = rw (← line-open (s ++ d ∷ []) (λ e. f (sym last-character ∙ e)), take-length)
-
--- digits do not end in a newline
-decimal-whole : (k n : ℕ) → take (lineLength (digitsOf 10 k n)) (digitsOf 10 k n) ≡ digitsOf 10 k n
-unfolding digitsOf
-decimal-whole zero n = take-nil (lineLength [])
-decimal-whole (suc k) n = without-change (digitsOf 10 k (n / 10)) (digitOf (n % 10)) (λ e. omega (arith, e, decimal-digit (n % 10) (omega arith)))
-
--- a limit in decimal says itself, with a newline after it and without
-pub limit-decimal : (n : ℕ) → n < 10 ^ 7 → limitOf (decimal n) ≡ n
-unfolding limitOf
-limit-decimal n h = rw decimal-whole (number-decimal n h)
-
-pub limit-decimal-newline : (n : ℕ) → n < 10 ^ 7 → limitOf (decimal n ++ newline ∷ []) ≡ n
-unfolding limitOf
-limit-decimal-newline n h = rw (without-newline (decimal n) newline refl) (number-decimal n h)

@@ -4,8 +4,8 @@ use mathlib.Core.List.{List, [], _∷_, _++_, append-assoc}
 use Prim.Native.Nat.{ℕ, _+_, _≤_}
 use native.Mathlib.Omega.{arith}
 use lib.ListN.{length, take, replicate, length-append}
-use Rattle.codec.specs.Number.{stored, over}
-use Rattle.codec.proofs.Laws.{stored-over, take-over}
+use Rattle.codec.specs.Number.{putAt, over}
+use Rattle.codec.proofs.Laws.{putAt-over, take-over}
 use Rattle.console.specs.Digits.{blank, newline, digitsOf, placesOf}
 use Rattle.console.specs.Line.{ranText, refusalText, lineOf}
 use Rattle.console.specs.declared.Line.{Line}
@@ -22,8 +22,8 @@ module _ (base count n end : ℕ) where
   length-ended = length-append (digitsOf base count n) (end ∷ []) ∙ omega (arith, length-digitsOf base count n)
 
 -- what is written just after a front lengthens it
-grow : (front s l m t : List ℕ) (at : ℕ) → l ≡ over front s → length front ≡ at → m ≡ stored l at t → m ≡ over (front ++ t) s
-grow front s l m t at e f g = g ∙ ap (λ (x : List ℕ). stored x at t) e ∙ stored-over front s t at f
+grow : (front s l m t : List ℕ) (at : ℕ) → l ≡ over front s → length front ≡ at → m ≡ putAt l at t → m ≡ over (front ++ t) s
+grow front s l m t at e f g = g ∙ ap (λ (x : List ℕ). putAt x at t) e ∙ putAt-over front s t at f
 
 -- the bytes of a line before anything is written
 abbrev zeros : List ℕ
@@ -35,7 +35,7 @@ unfolding lineOf
 line-of l text count e f = cc
 
 -- one number is written
-pub refusal-line : (l : List ℕ) (k n : ℕ) → k ≡ placesOf n → l ≡ stored zeros 0 (ended 10 k n newline)
+pub refusal-line : (l : List ℕ) (k n : ℕ) → k ≡ placesOf n → l ≡ putAt zeros 0 (ended 10 k n newline)
     → _≡_ {A = Line} (record { bytes = l; count = k + 1 }) (lineOf (refusalText n))
 unfolding refusalText
 refusal-line l k n e f =
@@ -43,7 +43,7 @@ refusal-line l k n e f =
 
 -- three numbers are written
 pub ran-line : (l₁ l₂ l₃ : List ℕ) (k m steps ending pc : ℕ) → k ≡ placesOf steps → m ≡ placesOf ending
-    → l₁ ≡ stored zeros 0 (ended 10 k steps blank) → l₂ ≡ stored l₁ (k + 1) (ended 10 m ending blank) → l₃ ≡ stored l₂ (k + m + 2) (ended 16 8 pc newline)
+    → l₁ ≡ putAt zeros 0 (ended 10 k steps blank) → l₂ ≡ putAt l₁ (k + 1) (ended 10 m ending blank) → l₃ ≡ putAt l₂ (k + m + 2) (ended 16 8 pc newline)
     → _≡_ {A = Line} (record { bytes = l₃; count = k + m + 11 }) (lineOf (ranText steps ending pc))
 unfolding ranText
 ran-line l₁ l₂ l₃ k m steps ending pc e₁ e₂ f₁ f₂ f₃ =
@@ -61,12 +61,7 @@ ran-line l₁ l₂ l₃ k m steps ending pc e₁ e₂ f₁ f₂ f₃ =
 
 -- ---- what a caller needs
 
--- a line's characters are its text
-pub take-lineOf : (text : List ℕ) → take (lineOf text .count) (lineOf text .bytes) ≡ text
-unfolding lineOf
-take-lineOf text = take-over text zeros
-
--- so the count is one of the front of its bytes, as a caller that lends that front on has to show
+-- the count is one of the front of its bytes, as a caller that lends that front on has to show
 pub line-counts : (text : List ℕ) → (lineOf text .count ≤ length (lineOf text .bytes)) × (lineOf text .count ≡ length (take (lineOf text .count) (lineOf text .bytes)))
 unfolding lineOf
 line-counts text = (simp length-append (omega arith), sym (ap length (take-over text zeros)))

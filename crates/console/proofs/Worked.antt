@@ -2,14 +2,13 @@
 use mathlib.Core.Path.{_≡_, refl}
 use mathlib.Core.List.{List, [], _∷_, map}
 use Prim.Native.Nat.{ℕ}
-use Rattle.word.specs.Choice.{if_then_else_}
-use Rattle.console.specs.Digits.{digitOf, digitsOf, placesFrom}
-use Rattle.console.specs.Limit.{badLimit, isDigit, numberFrom, numberOf, lineLength, limitOf}
+use Rattle.console.specs.Limit.{badLimit, limitOf}
 use Rattle.console.specs.Line.{ranText, refusalText}
+use Rattle.console.specs.Computed.{texts}
 
 -- texts of limit.txt, and the limits that they say
-unfoldable texts : List (List ℕ)
-texts =
+unfoldable inputs : List (List ℕ)
+inputs =
     (51 ∷ []) ∷  -- "3"
     (51 ∷ 10 ∷ []) ∷  -- "3\n"
     (48 ∷ 48 ∷ 48 ∷ 48 ∷ 48 ∷ 48 ∷ 48 ∷ 10 ∷ []) ∷  -- "0000000\n"
@@ -26,21 +25,21 @@ texts =
     (51 ∷ 13 ∷ 10 ∷ []) ∷  -- "3\r\n"
     []
 
-limits : map limitOf texts ≡ 3 ∷ 3 ∷ 0 ∷ 1000000 ∷ 9999999 ∷ badLimit ∷ badLimit ∷ badLimit ∷ badLimit ∷ badLimit ∷ badLimit ∷ badLimit ∷ badLimit ∷ badLimit ∷ []
-unfolding texts limitOf lineLength numberOf numberFrom isDigit if_then_else_
+limits : map limitOf inputs ≡ 3 ∷ 3 ∷ 0 ∷ 1000000 ∷ 9999999 ∷ badLimit ∷ badLimit ∷ badLimit ∷ badLimit ∷ badLimit ∷ badLimit ∷ badLimit ∷ badLimit ∷ badLimit ∷ []
+unfolding texts inputs
 limits = refl
 
 -- 01: "whole output: `3 0 00000000`"
 pub whole-output : ranText 3 0 0 ≡ 51 ∷ 32 ∷ 48 ∷ 32 ∷ 48 ∷ 48 ∷ 48 ∷ 48 ∷ 48 ∷ 48 ∷ 48 ∷ 48 ∷ 10 ∷ []
-unfolding ranText digitsOf digitOf placesFrom if_then_else_
+unfolding texts
 whole-output = refl
 
 -- "1000000 15 89ABCDEF"
 ran-long : ranText 1000000 15 0x89AB_CDEF ≡ 49 ∷ 48 ∷ 48 ∷ 48 ∷ 48 ∷ 48 ∷ 48 ∷ 32 ∷ 49 ∷ 53 ∷ 32 ∷ 56 ∷ 57 ∷ 65 ∷ 66 ∷ 67 ∷ 68 ∷ 69 ∷ 70 ∷ 10 ∷ []
-unfolding ranText digitsOf digitOf placesFrom if_then_else_
+unfolding texts
 ran-long = refl
 
 -- 01: "limit 1,000,001: 7"
-refused : refusalText 7 ≡ 55 ∷ 10 ∷ []
-unfolding refusalText digitsOf digitOf placesFrom if_then_else_
-refused = refl
+refusal : refusalText 7 ≡ 55 ∷ 10 ∷ []
+unfolding texts
+refusal = refl

@@ -35,3 +35,8 @@ decimal n = digitsOf 10 (placesOf n) n
 -- "in 8 hex digits"
 abbrev pub hex8 : (n : ℕ) → List ℕ
 hex8 n = digitsOf 16 8 n
+
+-- to unfold all of these
+unfoldable pub numerals : Unit {0}
+unfolding digitOf digitsOf placesFrom
+numerals = tt

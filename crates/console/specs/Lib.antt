@@ -2,3 +2,4 @@
 pub mod Digits
 pub mod Limit
 pub mod Line
+pub mod Computed

@@ -16,13 +16,13 @@ unfoldable pub isDigit : (character : ℕ) → Bool
 isDigit b = leb 48 b && leb b 57
 
 -- the number that decimal digits say, `value` being that of the digits before them
-unfoldable pub numberFrom : (value : ℕ) (text : List ℕ) → ℕ
-numberFrom value [] = value
-numberFrom value (b ∷ s) = if isDigit b then numberFrom (value * 10 + (b - 48)) s else badLimit
+unfoldable pub decimalFrom : (value : ℕ) (text : List ℕ) → ℕ
+decimalFrom value [] = value
+decimalFrom value (b ∷ s) = if isDigit b then decimalFrom (value * 10 + (b - 48)) s else badLimit
 
 -- the number that 1 to 7 digits say
-unfoldable pub numberOf : (text : List ℕ) → ℕ
-numberOf s = if leb 1 (length s) && leb (length s) 7 then numberFrom 0 s else badLimit
+unfoldable pub decimalOf : (text : List ℕ) → ℕ
+decimalOf s = if leb 1 (length s) && leb (length s) 7 then decimalFrom 0 s else badLimit
 
 -- how many characters stand before an optional newline at the end
 unfoldable pub lineLength : (text : List ℕ) → ℕ
@@ -32,4 +32,9 @@ lineLength text =
 
 -- the step limit that a text says
 unfoldable pub limitOf : (text : List ℕ) → ℕ
-limitOf text = numberOf (take (lineLength text) text)
+limitOf text = decimalOf (take (lineLength text) text)
+
+-- to unfold all of these
+unfoldable pub limitReading : Unit {0}
+unfolding isDigit decimalFrom decimalOf lineLength limitOf
+limitReading = tt

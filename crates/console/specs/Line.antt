@@ -17,3 +17,8 @@ refusalText number = decimal number ++ newline ∷ []
 -- a text of at most 31 characters as a line by value: the characters at the front of 31 bytes, zeros after them, and how many they are
 unfoldable pub lineOf : (text : List ℕ) → Line
 lineOf text = record { bytes = over text (replicate 31 0); count = length text }
+
+-- to unfold all of these
+unfoldable pub lineWriting : Unit {0}
+unfolding ranText refusalText lineOf
+lineWriting = tt

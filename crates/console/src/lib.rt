@@ -3,9 +3,9 @@ ghost use mathlib.Core.Path.{_≡_};
 ghost use mathlib.Core.List.{[], _∷_, _++_};
 ghost use Prim.Native.Nat.{_+_, _<_, _≤_};
 ghost use lib.ListN.{length};
-ghost use Rattle.codec.specs.Number.{stored};
+ghost use Rattle.codec.specs.Number.{putAt};
 ghost use Rattle.console.specs.Digits.{digitOf, digitsOf, placesOf};
-ghost use Rattle.console.specs.Limit.{isDigit, numberOf, lineLength, limitOf};
+ghost use Rattle.console.specs.Limit.{isDigit, decimalOf, lineLength, limitOf};
 ghost use Rattle.console.specs.Line.{ranText, refusalText, lineOf};
 
 // ---- limit.txt
@@ -21,8 +21,8 @@ fn is_digit(b: u8) -> bool
 }
 
 // The number that 1 to 7 digits say.
-fn number(text: &[u8]) -> u32
-    ensures { λ r. ⌜ r ≡ numberOf (now (text .entry)) ⌝ }
+fn decimal(text: &[u8]) -> u32
+    ensures { λ r. ⌜ r ≡ decimalOf (now (text .entry)) ⌝ }
 {
     if text.len() < 1 {
         return BAD_LIMIT;
@@ -58,7 +58,7 @@ pub fn limit_of(text: &[u8]) -> u32
     ensures { λ r. ⌜ r ≡ limitOf (now (text .entry)) ⌝ }
 {
     let n = line_length(text);
-    number(&text[..n])
+    decimal(&text[..n])
 }
 
 // ---- the line
@@ -95,9 +95,9 @@ fn places(n: u32) -> usize
 }
 
 // Writes the lowest digits of a number in a base, from a place on, and a character after them.
-pub fn put_number(line: &mut [u8], at: usize, base: u32, count: usize, n: u32, end: u8)
+pub fn put_digits(line: &mut [u8], at: usize, base: u32, count: usize, n: u32, end: u8)
     requires { ⌜ ((1 ≤ base) × (base ≤ 16)) × (at + count + 1 ≤ length (now line)) ⌝ }
-    ensures { λ _. ⌜ now (line .exit) ≡ stored (now (line .entry)) at (digitsOf base count n ++ end ∷ []) ⌝ }
+    ensures { λ _. ⌜ now (line .exit) ≡ putAt (now (line .entry)) at (digitsOf base count n ++ end ∷ []) ⌝ }
 {
     line[at + count] = end;
     let mut i = count;
@@ -116,9 +116,9 @@ pub fn ran_line(steps: u32, ending: u32, pc: u32) -> Line
     let mut bytes = [0u8; 31];
     let k = places(steps);
     let m = places(ending);
-    put_number(&mut bytes, 0, 10, k, steps, b' ');
-    put_number(&mut bytes, k + 1, 10, m, ending, b' ');
-    put_number(&mut bytes, k + m + 2, 16, 8, pc, b'\n');
+    put_digits(&mut bytes, 0, 10, k, steps, b' ');
+    put_digits(&mut bytes, k + 1, 10, m, ending, b' ');
+    put_digits(&mut bytes, k + m + 2, 16, 8, pc, b'\n');
     Line {
         bytes: bytes,
         count: k + m + 11,
@@ -131,7 +131,7 @@ pub fn refusal_line(n: u32) -> Line
 {
     let mut bytes = [0u8; 31];
     let k = places(n);
-    put_number(&mut bytes, 0, 10, k, n, b'\n');
+    put_digits(&mut bytes, 0, 10, k, n, b'\n');
     Line {
         bytes: bytes,
         count: k + 1,

@@ -27,7 +27,7 @@ pub fn run(code: &[u32], requests: &[u32], limit: u32, buffer: &mut [u8]) -> Ans
 // Prints a number in 8 hex digits and a blank.
 pub fn print_value(x: u32) {
     let mut text = [0u8; 9];
-    console::put_number(&mut text, 0, 16, 8, x, b' ');
+    console::put_digits(&mut text, 0, 16, 8, x, b' ');
     io::write_all(STDOUT_FILENO, &text);
 }
 

@@ -1,5 +1,4 @@
--- Laws of the groups of operations, and of instruction words by what their tests give.
-pub mod Groups
+-- Laws of the next instruction: the order of its tests, instruction words by what their tests give, what a decision can be.
 pub mod Tests
 pub mod Order
 pub mod Safe

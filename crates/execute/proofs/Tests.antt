@@ -21,7 +21,7 @@ use Rattle.view.specs.View.{conditionFalse}
 use Rattle.view.specs.declared.Fetched.the-variants.{Word}
 use Rattle.execute.proofs.Order.{codeFor, transferInSlot, barred, in-slot, skipped, performed}
 use Rattle.effect.specs.Apply.{Report, reportOn}
-use Rattle.execute.proofs.Groups.{usable-low, no-transfer}
+use Rattle.isa.proofs.Groups.{usable-low, no-transfer}
 
 -- i is the instruction of a word in the width that PSR says, and op its number
 pub record Decoded (w : List ℕ) (word op : ℕ) (i : Instruction) : Type 0 where

@@ -1,35 +1,34 @@
 -- The fields of a decoded instruction are in range. Assumes nothing.
 use mathlib.Core.Path.{_≡_, refl}
 use mathlib.Core.Logic.{_⊎_, inl, inr}
-use mathlib.Core.Bool.{Bool, true, false}
+use mathlib.Core.Bool.{true}
 use mathlib.Core.List.{List, [], _∷_}
-use Prim.Native.Nat.{ℕ, _+_, _^_, _-_, _≤_, _<_}
+use Prim.Native.Nat.{ℕ, _^_, _-_, _≤_, _<_}
 use native.Mathlib.Nat.{lt-of-lt-of-le}
 use native.Mathlib.Omega.{arith}
 use borrow.Author.Tests.{leb-true}
 use lib.Pow.{pow-mono}
 use lib.Signed.{mag}
-use mir.Syntax as syntax
-use mir.Val.{SFits}
-use Rattle.word.specs.Word.{Field, signedOf}
+use Rattle.word.specs.Word.{Field}
 use Rattle.word.specs.Choice.{if_then_else_}
+use Rattle.word.proofs.Tests.{either, and-parts}
 use Rattle.word.proofs.Integers.{signed-range}
-use Rattle.isa.specs.Operation.{operationOf, Width, w16, w32, Properties, properties}
-use Rattle.isa.specs.Format.{fieldsWidth, fieldsOf, operationField, cregField, conditionField, Immediate, layoutOf}
+use Rattle.isa.specs.Operation.{Width, w16, w32}
+use Rattle.isa.specs.Format.{fieldsWidth, fieldsOf, operationField, cregField, conditionField, Immediate}
 use Rattle.isa.specs.Decode.{registerOf, immediateOf, operandsOf, opcodeOf, assembled, decode}
 use Rattle.isa.specs.declared.Instruction.{Instruction}
 use Rattle.isa.proofs.Fields.{fields-below}
-use Rattle.isa.proofs.Rows.{registerWidth, immediateFits, parts, rows-sound}
+use Rattle.isa.proofs.Rows.{registerWidth, immediateFits, rows-sound}
 
 -- what pieces of at most k bits hold
-short : (k : ℕ) (fs : List Field) (word : ℕ) → fieldsWidth fs ≤ k → fieldsOf fs word < 2 ^ k
-short k fs word h = lt-of-lt-of-le (fields-below fs word) (pow-mono h)
+fields-short : (k : ℕ) (fs : List Field) (word : ℕ) → fieldsWidth fs ≤ k → fieldsOf fs word < 2 ^ k
+fields-short k fs word h = lt-of-lt-of-le (fields-below fs word) (pow-mono h)
 
 register-below : (width : Width) (fs : List Field) (word : ℕ) → fieldsWidth fs ≤ registerWidth width → registerOf width fs word < 32
 unfolding registerOf registerWidth
-register-below w32 fs word h = short 5 fs word h
+register-below w32 fs word h = fields-short 5 fs word h
 register-below w16 [] word h = omega arith
-register-below w16 (f ∷ fs) word h = let l = short 3 (f ∷ fs) word h in omega arith
+register-below w16 (f ∷ fs) word h = let l = fields-short 3 (f ∷ fs) word h in omega arith
 
 -- one that is there is 24 to 31 in 16-bit words
 register-high : (fs : List Field) (word : ℕ) → (registerOf w16 fs word ≡ 0) ⊎ (24 ≤ registerOf w16 fs word)
@@ -39,16 +38,15 @@ register-high (f ∷ fs) word = inr (omega arith)
 
 immediate-below : (i : Immediate) (word : ℕ) → immediateFits i ≡ true → mag (immediateOf i word) < 2 ^ 24
 unfolding immediateFits immediateOf if_then_else_
-immediate-below i word e = go (i .signed) refl
-  where
-    go : (b : Bool) → i .signed ≡ b → mag (immediateOf i word) < 2 ^ 24
-    go true s =
-        let t = parts _ _ (rw s at e) in
-        let k = fieldsWidth (i .fields) in
-        let l : 1 ≤ k = leb-true 1 k (t .0) in
-        let h : k ≤ 25 = leb-true k 25 (t .1) in
-        rw s (lt-of-lt-of-le (signed-range k l (fieldsOf (i .fields) word) (fields-below (i .fields) word)) (pow-mono {j = 24} (omega arith)))
-    go false s = rw s (short 24 (i .fields) word (leb-true (fieldsWidth (i .fields)) 24 (rw s at e)))
+immediate-below i word e =
+    let k = fieldsWidth (i .fields) in
+    either (i .signed)
+    (λ s.
+    let t = and-parts _ _ (rw s at e) in
+    let l : 1 ≤ k = leb-true 1 k (t .0) in
+    let h : k ≤ 25 = leb-true k 25 (t .1) in
+    rw s (lt-of-lt-of-le (signed-range k l (fieldsOf (i .fields) word) (fields-below (i .fields) word)) (pow-mono {j = 24} (omega arith))))
+    (λ s. rw s (fields-short 24 (i .fields) word (leb-true k 24 (rw s at e))))
 
 pub record InRange (i : Instruction) : Type 0 where
   pub opcode : i .opcode < 64
@@ -70,18 +68,14 @@ unfolding decode assembled operandsOf opcodeOf
 in-range width word =
     let row = rows-sound width (opcodeOf width word) in
     record {
-      opcode = short 6 (operationField width) word (heads width .0);
-      creg = short 3 (cregField width) word (heads width .1);
-      condition = short 3 (conditionField width) word (heads width .2);
+      opcode = fields-short 6 (operationField width) word (heads width .0);
+      creg = fields-short 3 (cregField width) word (heads width .1);
+      condition = fields-short 3 (conditionField width) word (heads width .2);
       dreg = register-below width _ word (row .dreg);
       sreg1 = register-below width _ word (row .sreg1);
       sreg2 = register-below width _ word (row .sreg2);
       immediate = immediate-below _ word (row .immediate);
     }
-
--- an i32 holds the immediate
-pub immediate-fits : (width : Width) (word : ℕ) → SFits syntax.w32 (decode width word .immediate)
-immediate-fits width word = let h = in-range width word .immediate in record { sfits = omega arith }
 
 -- the registers of 16-bit words are 24 to 31, where there are any
 pub record HighRegisters (i : Instruction) : Type 0 where

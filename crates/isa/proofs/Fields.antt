@@ -1,8 +1,7 @@
 -- Fields in pieces. Assumes nothing.
-use mathlib.Core.Path.{_≡_}
-use mathlib.Core.Bool.{Bool, true, false, _&&_, _||_}
+use mathlib.Core.Bool.{Bool, true, _&&_, _||_}
 use mathlib.Core.List.{List, [], _∷_}
-use Prim.Native.Nat.{ℕ, _+_, _*_, _/_, _^_, _≤_, _<_}
+use Prim.Native.Nat.{ℕ, _+_, _*_, _/_, _^_, _<_}
 use native.Mathlib.Nat.{div-lt-iff-lt-mul}
 use native.Mathlib.Omega.{arith}
 use lib.Dec.{leb}
@@ -24,19 +23,19 @@ fields-below (f ∷ fs) word =
 -- ---- tests of pieces
 
 -- all lie below bit k
-unfoldable pub within : (k : ℕ) → List Field → Bool
-within k [] = true
-within k (f ∷ fs) = leb (f .place + f .width) k && within k fs
+unfoldable pub lieBelow : (k : ℕ) → List Field → Bool
+lieBelow k [] = true
+lieBelow k (f ∷ fs) = leb (f .place + f .width) k && lieBelow k fs
 
 -- two share no bit
-unfoldable pub apart : Field → Field → Bool
-apart f g = leb (f .place + f .width) (g .place) || leb (g .place + g .width) (f .place)
+unfoldable pub disjoint : Field → Field → Bool
+disjoint f g = leb (f .place + f .width) (g .place) || leb (g .place + g .width) (f .place)
 
-unfoldable pub apartFrom : Field → List Field → Bool
-apartFrom f [] = true
-apartFrom f (g ∷ gs) = apart f g && apartFrom f gs
+unfoldable pub disjointFrom : Field → List Field → Bool
+disjointFrom f [] = true
+disjointFrom f (g ∷ gs) = disjoint f g && disjointFrom f gs
 
 -- no two of a list share a bit
 unfoldable pub separate : List Field → Bool
 separate [] = true
-separate (f ∷ fs) = apartFrom f fs && separate fs
+separate (f ∷ fs) = disjointFrom f fs && separate fs

@@ -2,7 +2,7 @@
 pub mod Fields
 pub mod Table
 pub mod Rules
+pub mod Groups
 pub mod Rows
-pub mod Parts
 pub mod Decoded
 pub mod Worked

@@ -1,17 +1,19 @@
--- The fields of each row of the table, in both widths, by one computed test. Assumes nothing.
+-- The fields of each row of the table, in both widths, by one computed test. That they are inside the word and disjoint is for an encoder.
+-- Assumes nothing.
 use mathlib.Core.Path.{_≡_, refl}
-use mathlib.Core.Bool.{Bool, true, false, _&&_, and-eq-true-iff}
+use mathlib.Core.Bool.{Bool, true, _&&_}
 use mathlib.Core.List.{List, [], _∷_, _++_}
 use Prim.Native.Nat.{ℕ, _*_, _≤_}
 use lib.Dec.{leb}
 use borrow.Author.Tests.{leb-true}
 use Rattle.word.specs.Word.{Field}
 use Rattle.word.specs.Choice.{if_then_else_}
+use Rattle.word.proofs.Tests.{and-parts}
 use Rattle.isa.specs.Operation.{operationOf, Width, w16, w32, Properties, properties}
-use Rattle.isa.specs.Format.{fieldsWidth, operationField, conditionalField, cregField, conditionField, Role, Dreg, Sreg1, Sreg2, Creg, Imm, Immediate, Layout, layoutOf, operandFields}
+use Rattle.isa.specs.Format.{fieldsWidth, operationField, conditionalField, cregField, conditionField, Role, Dreg, Sreg1, Sreg2, Creg, Imm, Immediate, layoutOf, operandFields}
 use Rattle.isa.specs.Decode.{wordBytes}
 use Rattle.isa.specs.Computed.{instructions}
-use Rattle.isa.proofs.Fields.{within, apart, apartFrom, separate}
+use Rattle.isa.proofs.Fields.{lieBelow, disjoint, disjointFrom, separate}
 use Rattle.isa.proofs.Table.{values, by-number}
 
 -- the bits of a register's number
@@ -46,38 +48,35 @@ pub record Sound (width : Width) (p : Properties) : Type 0 where
   pub sreg1 : fieldsWidth (layoutOf width (p .form) .sreg1) ≤ registerWidth width
   pub sreg2 : fieldsWidth (layoutOf width (p .form) .sreg2) ≤ registerWidth width
   pub immediate : immediateFits (layoutOf width (p .form) .immediate) ≡ true
-  pub inside : within (8 * wordBytes width) (rowFields width p) ≡ true
-  pub apart : separate (usedFields width p) ≡ true
+  pub inside : lieBelow (8 * wordBytes width) (rowFields width p) ≡ true
+  pub disjoint : separate (usedFields width p) ≡ true
 
 -- the same as a test
 unfoldable sound : Width → Properties → Bool
 sound width p =
     let l = layoutOf width (p .form) in
     (leb (fieldsWidth (l .dreg)) (registerWidth width) && (leb (fieldsWidth (l .sreg1)) (registerWidth width) && leb (fieldsWidth (l .sreg2)) (registerWidth width)))
-    && (immediateFits (l .immediate) && (within (8 * wordBytes width) (rowFields width p) && separate (usedFields width p)))
-
-pub parts : (a b : Bool) → a && b ≡ true → (a ≡ true) × (b ≡ true)
-parts a b e = and-eq-true-iff a b .0 e
+    && (immediateFits (l .immediate) && (lieBelow (8 * wordBytes width) (rowFields width p) && separate (usedFields width p)))
 
 sound-is : (width : Width) (p : Properties) → sound width p ≡ true → Sound width p
 unfolding sound
 sound-is width p e =
-    let all = parts _ _ e in
-    let registers = parts _ _ (all .0) in
-    let sources = parts _ _ (registers .1) in
-    let others = parts _ _ (all .1) in
-    let places = parts _ _ (others .1) in
+    let all = and-parts _ _ e in
+    let registers = and-parts _ _ (all .0) in
+    let sources = and-parts _ _ (registers .1) in
+    let others = and-parts _ _ (all .1) in
+    let places = and-parts _ _ (others .1) in
     record {
       dreg = leb-true _ _ (registers .0);
       sreg1 = leb-true _ _ (sources .0);
       sreg2 = leb-true _ _ (sources .1);
       immediate = others .0;
       inside = places .0;
-      apart = places .1;
+      disjoint = places .1;
     }
 
 computed : (width : Width) → values (λ n. sound width (properties (operationOf n))) 0 64 ≡ values (λ n. true) 0 64
-unfolding instructions values registerWidth immediateFits guardFields fieldsFor usedFields rowFields sound within apart apartFrom separate
+unfolding instructions values registerWidth immediateFits guardFields fieldsFor usedFields rowFields sound lieBelow disjoint disjointFrom separate
 computed w16 = refl
 computed w32 = refl
 

@@ -1,4 +1,4 @@
--- The table of operations against 01's sentences, each by one computed test. Assumes nothing.
+-- The table of operations against 01's sentences, each by one computed test; mnemonic-short is for a listing. Assumes nothing.
 use mathlib.Core.Path.{_≡_, refl}
 use mathlib.Core.Logic.{_≢_}
 use mathlib.Core.Option.{Option, none, some}
@@ -9,7 +9,7 @@ use lib.Dec.{leb, eqb}
 use lib.ListN.{length}
 use borrow.Author.Tests.{leb-true, le-leb, lt-leb, ne-eqb}
 use Rattle.word.specs.Choice.{if_then_else_}
-use Rattle.isa.specs.Operation.{Operation, operations, operationOf, Width, w16, w32, widthBy, Availability, anywhere, wideOnly, superOnly, nowhere, unavailable, codeOf, Properties, properties}
+use Rattle.isa.specs.Operation.{operationOf, Width, w16, w32, widthBy, Availability, anywhere, wideOnly, superOnly, nowhere, unavailable, codeOf, properties}
 use Rattle.isa.specs.Computed.{instructions}
 use Rattle.isa.proofs.Table.{values, agree, by-number}
 
@@ -18,8 +18,8 @@ abbrev pub between : (low high n : ℕ) → Bool
 between low high n = leb low n && leb n high
 
 -- it is not, past high
-outside : (low high n : ℕ) → high < n → between low high n ≡ false
-outside low high n h = rw (lt-leb n high h) (and-false (leb low n))
+not-between : (low high n : ℕ) → high < n → between low high n ≡ false
+not-between low high n h = rw (lt-leb n high h) (and-false (leb low n))
 
 -- each row has its own number
 pub numbered : (n : ℕ) → n < 58 → properties (operationOf n) .number ≡ n
@@ -37,7 +37,7 @@ unfolding instructions values
 conditional-is = by-number (λ o. properties o .conditional) (λ n. (between 1 31 n || between 38 39 n) || eqb n 48) refl high
   where
     high : (n : ℕ) → 64 ≤ n → (between 1 31 n || between 38 39 n) || eqb n 48 ≡ false
-    high n h = rw (outside 1 31 n (omega arith), outside 38 39 n (omega arith), ne-eqb n 48 (λ e. omega arith))
+    high n h = rw (not-between 1 31 n (omega arith), not-between 38 39 n (omega arith), ne-eqb n 48 (λ e. omega arith))
 
 -- "control transfer in a slot (stop 13; operations 36 to 50 and swm ..)"
 pub transfer-is : (n : ℕ) → properties (operationOf n) .transfer ≡ between 36 50 n || eqb n 54
@@ -45,26 +45,30 @@ unfolding instructions values
 transfer-is = by-number (λ o. properties o .transfer) (λ n. between 36 50 n || eqb n 54) refl high
   where
     high : (n : ℕ) → 64 ≤ n → between 36 50 n || eqb n 54 ≡ false
-    high n h = rw (outside 36 50 n (omega arith), ne-eqb n 54 (λ e. omega arith))
+    high n h = rw (not-between 36 50 n (omega arith), ne-eqb n 54 (λ e. omega arith))
+
+-- the code of the exception where an operation may not be used, 0 where it may
+abbrev pub codeAt : Width → (user : Bool) (n : ℕ) → ℕ
+codeAt width user n = codeOf (unavailable (properties (operationOf n) .availability) width user)
 
 -- "58 to 63 are unknown (code 01h)"; "Code 02h: lli, lui in 16-bit; those two (retu, chrs) in user mode"
-abbrev pub codeAt : (wide user : Bool) (n : ℕ) → ℕ
-codeAt wide user n =
+abbrev pub codeBy : (wide user : Bool) (n : ℕ) → ℕ
+codeBy wide user n =
     if leb 58 n then 0x01
     else if (between 34 35 n && not wide) || (eqb n 49 || eqb n 51) && user then 0x02
     else 0
 
-pub unavailable-is : (wide user : Bool) (n : ℕ) → codeOf (unavailable (properties (operationOf n) .availability) (widthBy wide) user) ≡ codeAt wide user n
+pub unavailable-is : (wide user : Bool) (n : ℕ) → codeAt (widthBy wide) user n ≡ codeBy wide user n
 unfolding instructions values
-unavailable-is wide user = by-number (λ o. codeOf (unavailable (properties o .availability) (widthBy wide) user)) (codeAt wide user) (computed wide user) high
+unavailable-is wide user = by-number (λ o. codeOf (unavailable (properties o .availability) (widthBy wide) user)) (codeBy wide user) (computed wide user) high
   where
-    computed : (wide user : Bool) → values (λ n. codeOf (unavailable (properties (operationOf n) .availability) (widthBy wide) user)) 0 64 ≡ values (codeAt wide user) 0 64
+    computed : (wide user : Bool) → values (codeAt (widthBy wide) user) 0 64 ≡ values (codeBy wide user) 0 64
     computed true true = refl
     computed true false = refl
     computed false true = refl
     computed false false = refl
 
-    high : (n : ℕ) → 64 ≤ n → codeAt wide user n ≡ 0x01
+    high : (n : ℕ) → 64 ≤ n → codeBy wide user n ≡ 0x01
     high n h = rw (le-leb 58 n (omega arith))
 
 -- ---- the answer of `unavailability`

@@ -1,15 +1,16 @@
 -- The table of operations by number: a test computed for the 64 numbers is a law. Assumes nothing.
 use mathlib.Core.Path.{_≡_, refl, sym, ap, _∙_}
-use mathlib.Core.Logic.{_≢_}
-use mathlib.Core.Bool.{Bool, true, false}
+use mathlib.Core.Bool.{Bool}
 use mathlib.Core.List.{List, [], _∷_}
 use Prim.Native.Nat.{ℕ, zero, suc, _+_, _≤_, _<_}
 use native.Mathlib.Omega.{arith}
 use lib.Dec.{ltb}
-use lib.ListN.{getD, List·getD-eq-default}
+use lib.ListN.{List·getD-eq-default}
 use borrow.Author.Tests.{ltb-true, ltb-false}
-use Rattle.isa.specs.Operation.{Operation, unknown, operations, operationOf, Width, Form, Properties, properties}
+use Rattle.word.proofs.Tests.{either}
+use Rattle.isa.specs.Operation.{Operation, unknown, operations, operationOf, widthBy, Form, properties}
 use Rattle.isa.specs.Decode.{operandsOf}
+use Rattle.isa.specs.declared.Operands.{Operands}
 
 module _ {A : Type 0} where
   -- the values of f at `first` and the numbers after it, `count` of them
@@ -21,24 +22,14 @@ module _ {A : Type 0} where
   pub agree : (f g : ℕ → A) (first count : ℕ) → values f first count ≡ values g first count → (n : ℕ) → first ≤ n → n < first + count → f n ≡ g n
   unfolding values
   agree f g first zero e n l h = let z : ⊥ = omega arith in absurd z
-  agree f g first (suc count) e n l h = go (ltb first n) refl (agree f g (suc first) count (cc) n)
-    where
-      go : (b : Bool) → ltb first n ≡ b → (suc first ≤ n → n < suc first + count → f n ≡ g n) → f n ≡ g n
-      go true t later = let k : first < n = ltb-true first n t in later (omega arith) (omega arith)
-      go false t later =
-          let k : n ≤ first = ltb-false first n t in
-          let here : n ≡ first = omega arith in
-          let same : f first ≡ g first = cc in
-          cc
-
--- n is none of the numbers below k: what a match of 0 to k - 1 leaves
-abbrev pub Rest : (k n : ℕ) → Type 0
-Rest zero n = Unit {0}
-Rest (suc k) n = Rest k n × (n ≢ k)
-
-pub past : (k n : ℕ) → Rest k n → k ≤ n
-past zero n r = omega arith
-past (suc k) n r = let l : k ≤ n = past k n (r .0) in let d : n ≢ k = r .1 in omega arith
+  agree f g first (suc count) e n l h =
+      either (ltb first n)
+      (λ t. let k : first < n = ltb-true first n t in agree f g (suc first) count (cc) n (omega arith) (omega arith))
+      (λ t.
+      let k : n ≤ first = ltb-false first n t in
+      let here : n ≡ first = omega arith in
+      let same : f first ≡ g first = cc in
+      cc)
 
 -- no operation has a number of 64 or more
 pub beyond : (n : ℕ) → 64 ≤ n → operationOf n ≡ unknown
@@ -49,28 +40,24 @@ beyond n h = List·getD-eq-default operations unknown h
 pub by-number : {A : Type 0} (f : Operation → A) (g : ℕ → A) → values (λ n. f (operationOf n)) 0 64 ≡ values g 0 64
     → ((n : ℕ) → 64 ≤ n → g n ≡ g 63) → (n : ℕ) → f (operationOf n) ≡ g n
 unfolding operationOf operations
-by-number f g e high n = go (ltb n 64) refl
-  where
-    go : (b : Bool) → ltb n 64 ≡ b → f (operationOf n) ≡ g n
-    go true t = agree (λ n. f (operationOf n)) g 0 64 e n (omega arith) (ltb-true n 64 t)
-    go false t =
-        let l : 64 ≤ n = ltb-false n 64 t in
-        let last : f unknown ≡ g 63 = agree (λ n. f (operationOf n)) g 0 64 e 63 (omega arith) (omega arith) in
-        ap f (beyond n l) ∙ last ∙ sym (high n l)
+by-number f g e high n =
+    either (ltb n 64)
+    (λ t. agree (λ n. f (operationOf n)) g 0 64 e n (omega arith) (ltb-true n 64 t))
+    (λ t.
+    let l : 64 ≤ n = ltb-false n 64 t in
+    let last : f unknown ≡ g 63 = agree (λ n. f (operationOf n)) g 0 64 e 63 (omega arith) (omega arith) in
+    ap f (beyond n l) ∙ last ∙ sym (high n l))
 
 -- 58 to 63 are unknown, and beyond them there is nothing
 pub unknown-from : (n : ℕ) → 58 ≤ n → operationOf n ≡ unknown
 unfolding values operationOf operations
-unknown-from n l = go (ltb n 64) refl
-  where
-    go : (b : Bool) → ltb n 64 ≡ b → operationOf n ≡ unknown
-    go true t = agree operationOf (λ n. unknown) 58 6 refl n l (ltb-true n 64 t)
-    go false t = beyond n (ltb-false n 64 t)
+unknown-from n l =
+    either (ltb n 64) (λ t. agree operationOf (λ n. unknown) 58 6 refl n l (ltb-true n 64 t)) (λ t. beyond n (ltb-false n 64 t))
 
--- the operands of a word whose operation has the form of its neighbours
-pub grouped : (width : Width) (form : Form) (first count : ℕ)
+-- the operands of a word whose operation has the form of its neighbours; w is the value that wide is known to have
+pub grouped : {wide w : Bool} {o : Operands} (form : Form) (first count : ℕ)
     → values (λ n. properties (operationOf n) .form) first count ≡ values (λ n. form) first count
-    → (op word : ℕ) → first ≤ op → op < first + count
-    → operandsOf width form word ≡ operandsOf width (properties (operationOf op) .form) word
-grouped width form first count e op word l h =
-    ap (λ (f : Form). operandsOf width f word) (sym (agree (λ n. properties (operationOf n) .form) (λ n. form) first count e op l h))
+    → (op word : ℕ) → wide ≡ w → first ≤ op → op < first + count → o ≡ operandsOf (widthBy w) form word
+    → o ≡ operandsOf (widthBy wide) (properties (operationOf op) .form) word
+grouped form first count e op word known l h operands =
+    rw (operands, known, agree (λ n. properties (operationOf n) .form) (λ n. form) first count e op l h)

@@ -1,11 +1,11 @@
--- To unfold `instructions` is to unfold all definitions of this crate and of `word`.
+-- To unfold `instructions` is to unfold all definitions of this crate and of `word`; each file ends with its own.
 use Rattle.word.specs.Computed.{words}
-use Rattle.isa.specs.Text.{bytes}
-use Rattle.isa.specs.Operation.{operations, operationOf, widthBy, unavailable, codeOf, properties}
-use Rattle.isa.specs.Condition.{conditions, conditionOf, holds}
-use Rattle.isa.specs.Format.{fieldsWidth, fieldsOf, operationField, conditionalField, cregField, conditionField, layoutOf, operandFields}
-use Rattle.isa.specs.Decode.{wordBytes, registerOf, immediateOf, operandsOf, opcodeOf, assembled, decode}
+use Rattle.isa.specs.Text.{spelling}
+use Rattle.isa.specs.Operation.{table}
+use Rattle.isa.specs.Condition.{conditioning}
+use Rattle.isa.specs.Format.{formats}
+use Rattle.isa.specs.Decode.{decoding}
 
 unfoldable pub instructions : Unit {0}
-unfolding words bytes operations operationOf widthBy unavailable codeOf properties conditions conditionOf holds fieldsWidth fieldsOf operationField conditionalField cregField conditionField layoutOf operandFields wordBytes registerOf immediateOf operandsOf opcodeOf assembled decode
+unfolding words spelling table conditioning formats decoding
 instructions = tt

@@ -36,3 +36,8 @@ holds gt flags = not (negative flags) && not (zeroFlag flags)
 holds lt flags = negative flags
 holds ne flags = not (zeroFlag flags)
 holds nc flags = not (carry flags)
+
+-- to unfold all of these
+unfoldable pub conditioning : Unit {0}
+unfolding conditions conditionOf holds
+conditioning = tt

@@ -6,8 +6,8 @@ use lib.Dec.{eqb}
 use lib.IntN.{ℤ, pos}
 use Rattle.word.specs.Choice.{if_then_else_}
 use Rattle.word.specs.Word.{Field, signedOf}
-use Rattle.isa.specs.Operation.{operationOf, Properties, properties, Width, w16, w32, Form}
-use Rattle.isa.specs.Format.{fieldsWidth, fieldsOf, operationField, conditionalField, cregField, conditionField, Immediate, Layout, layoutOf}
+use Rattle.isa.specs.Operation.{operationOf, properties, Width, w16, w32, Form}
+use Rattle.isa.specs.Format.{fieldsWidth, fieldsOf, operationField, conditionalField, cregField, conditionField, Immediate, layoutOf}
 use Rattle.isa.specs.declared.Operands.{Operands}
 use Rattle.isa.specs.declared.Instruction.{Instruction}
 
@@ -64,3 +64,8 @@ decode width word =
     let opcode = opcodeOf width word in
     let p = properties (operationOf opcode) in
     assembled width word opcode (p .conditional) (operandsOf width (p .form) word)
+
+-- to unfold all of these
+unfoldable pub decoding : Unit {0}
+unfolding wordBytes registerOf immediateOf operandsOf opcodeOf assembled decode
+decoding = tt

@@ -3,7 +3,7 @@ use mathlib.Core.Bool.{Bool, true, false}
 use mathlib.Core.List.{List, [], _∷_}
 use Prim.Native.Nat.{ℕ, _+_, _-_, _*_, _^_}
 use Rattle.word.specs.Word.{Field, bits_to_, fieldOf}
-use Rattle.isa.specs.Operation.{Width, w16, w32, Form, NoOperands, ThreeRegisters, TwoRegisters, Destination, Source, CompareRegisters, CompareImmediate, SignedImmediate, UnsignedImmediate, Shift, Memory, Halfword, Jump, Branch, Low}
+use Rattle.isa.specs.Operation.{Width, w16, w32, Form, NoOperands, ThreeRegisters, TwoRegisters, Destination, Source, CompareRegisters, CompareImmediate, SignedImmediate, UnsignedImmediate, Shift, Memory, Halfword, Jump, Branch, LowBits}
 
 -- ---- fields in pieces: the first piece above the others. No pieces: there is no such field, and it reads 0
 
@@ -112,7 +112,7 @@ layoutOf w32 Memory = layout d s₁ [] (signed imm9) (Dreg ∷ Sreg1 ∷ Imm ∷
 layoutOf w32 Halfword = layout (bits 20 to 16 ∷ []) [] [] (unsigned (bits 15 to 0 ∷ [])) (Dreg ∷ Imm ∷ [])
 layoutOf w32 Jump = layout [] [] [] (signed (bits 24 to 0 ∷ [])) (Imm ∷ [])
 layoutOf w32 Branch = layout [] [] [] (signed (bits 21 to 0 ∷ [])) (Creg ∷ Imm ∷ [])
-layoutOf w32 (Low n) = layout [] [] [] (unsigned (low n)) (Imm ∷ [])
+layoutOf w32 (LowBits n) = layout [] [] [] (unsigned (low n)) (Imm ∷ [])
 layoutOf w16 NoOperands = layout [] [] [] absent []
 layoutOf w16 ThreeRegisters = layout dr sr dr absent (Dreg ∷ Sreg1 ∷ [])
 layoutOf w16 TwoRegisters = layout dr sr [] absent (Dreg ∷ Sreg1 ∷ [])
@@ -127,7 +127,7 @@ layoutOf w16 Memory = layout dr sr [] (signed (bits 9 to 6 ∷ [])) (Dreg ∷ Sr
 layoutOf w16 Halfword = layout [] [] [] absent []
 layoutOf w16 Jump = layout [] [] [] (signed (bits 9 to 0 ∷ [])) (Imm ∷ [])
 layoutOf w16 Branch = layout [] [] [] (signed (bits 9 to 0 ∷ [])) (Imm ∷ [])
-layoutOf w16 (Low n) = layout [] [] [] (unsigned (low n)) (Imm ∷ [])
+layoutOf w16 (LowBits n) = layout [] [] [] (unsigned (low n)) (Imm ∷ [])
 
 -- the fields of an operand
 unfoldable pub operandFields : Width → Form → Role → List Field
@@ -136,3 +136,8 @@ operandFields width form Sreg1 = layoutOf width form .sreg1
 operandFields width form Sreg2 = layoutOf width form .sreg2
 operandFields width form Creg = cregField width
 operandFields width form Imm = layoutOf width form .immediate .fields
+
+-- to unfold all of these
+unfoldable pub formats : Unit {0}
+unfolding fieldsWidth fieldsOf operationField conditionalField cregField conditionField layoutOf operandFields
+formats = tt

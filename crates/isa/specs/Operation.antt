@@ -60,7 +60,7 @@ pub data Form : Type 0 where
   Halfword : Form  -- dreg, sixteen bits
   Jump : Form  -- signed immediate
   Branch : Form  -- creg, signed immediate
-  Low : ℕ → Form  -- so many of the word's lowest bits: of bits 4..0 swm uses one, chrs two, trap all five
+  LowBits : ℕ → Form  -- so many of the word's lowest bits: of bits 4..0 swm uses one, chrs two, trap all five
 
 -- where an operation may be used
 pub data Availability : Type 0 where
@@ -154,11 +154,16 @@ properties bnc = alwaysTransfer 47 "bnc" Branch anywhere
 properties scall = optionalTransfer 48 "scall" NoOperands
 properties retu = alwaysTransfer 49 "retu" NoOperands superOnly
 properties reti = alwaysTransfer 50 "reti" NoOperands anywhere
-properties chrs = always 51 "chrs" (Low 2) superOnly
+properties chrs = always 51 "chrs" (LowBits 2) superOnly
 properties di = always 52 "di" NoOperands anywhere
 properties ei = always 53 "ei" NoOperands anywhere
-properties swm = alwaysTransfer 54 "swm" (Low 1) anywhere
-properties trap = always 55 "trap" (Low 5) anywhere
+properties swm = alwaysTransfer 54 "swm" (LowBits 1) anywhere
+properties trap = always 55 "trap" (LowBits 5) anywhere
 properties scon = always 56 "scon" Destination anywhere
 properties rcon = always 57 "rcon" Source anywhere
 properties unknown = always 58 "?" NoOperands nowhere
+
+-- to unfold all of these
+unfoldable pub table : Unit {0}
+unfolding operations operationOf widthBy unavailable codeOf properties
+table = tt

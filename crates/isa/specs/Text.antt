@@ -9,3 +9,8 @@ use Prim.Native.String.{String, [], _∷_}
 unfoldable pub bytes : String → List ℕ
 bytes [] = list.[]
 bytes (c ∷ cs) = list._∷_ (code c) (bytes cs)
+
+-- to unfold it
+unfoldable pub spelling : Unit {0}
+unfolding bytes
+spelling = tt

@@ -1,9 +1,9 @@
 -- Instruction words of 01 "Worked by hand", taken apart by hand, as a table. Assumes nothing.
-use mathlib.Core.Bool.{Bool, true, false}
+use mathlib.Core.Bool.{false}
 use mathlib.Core.List.{List, [], _∷_}
 use Prim.Native.Nat.{ℕ}
 use lib.IntN.{ℤ, pos, negsuc}
-use Rattle.isa.specs.Operation.{Width, w16, w32, Operation, sub, addi, lli, swm, trap, Properties, properties}
+use Rattle.isa.specs.Operation.{Width, w16, w32, Operation, sub, addi, lli, swm, trap, properties}
 use Rattle.isa.specs.declared.Instruction.{Instruction}
 
 pub record Case : Type 0 where

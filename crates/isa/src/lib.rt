@@ -3,9 +3,9 @@ ghost use mathlib.Core.Path.{_≡_};
 ghost use Prim.Native.Nat.{_<_, _≤_, _^_};
 ghost use lib.IntN.{pos};
 ghost use Rattle.word.specs.Word.{signedOf};
-ghost use Rattle.isa.specs.Operation.{operationOf, properties, Properties, w16, w32, widthBy, unavailable, codeOf};
+ghost use Rattle.isa.specs.Operation.{operationOf, properties, Properties, widthBy, unavailable, codeOf};
 ghost use Rattle.isa.specs.Condition.{conditionOf, holds};
-ghost use Rattle.isa.specs.Decode.{opcodeOf, operandsOf, assembled, decode};
+ghost use Rattle.isa.specs.Decode.{opcodeOf, operandsOf, decode};
 
 // The operands of an instruction; one that it does not have is 0.
 pub struct Operands {
@@ -104,166 +104,145 @@ fn signed(dreg: u32, sreg1: u32, n: u32, k: u32) -> Operands
     }
 }
 
-// 32-bit words of add to sext.
-fn wide_registers(op: u32, w: u32) -> Operands
+// ---- the operands of a word, by width, a function for each group of operations
+
+// add to sext; in 16-bit words the second source is the target.
+fn register_operands(w: u32, wide: bool, op: u32) -> Operands
     requires { ⌜ (1 ≤ op) × (op ≤ 17) ⌝ }
-    ensures { λ r. ⌜ r ≡ operandsOf w32 (properties (operationOf op) .form) w ⌝ }
+    ensures { λ r. ⌜ r ≡ operandsOf (widthBy wide) (properties (operationOf op) .form) w ⌝ }
 {
-    registers(w / 1024 % 32, w / 32 % 32, w % 32)
+    if wide {
+        registers(w / 1024 % 32, w / 32 % 32, w % 32)
+    } else {
+        let d = w % 8 + 24;
+        registers(d, w / 8 % 8 + 24, d)
+    }
 }
 
-// 32-bit words of addi to sexti.
-fn wide_immediate(op: u32, w: u32) -> Operands
+// addi to sexti.
+fn immediate_operands(w: u32, wide: bool, op: u32) -> Operands
     requires { ⌜ (18 ≤ op) × (op ≤ 26) ⌝ }
-    ensures { λ r. ⌜ r ≡ operandsOf w32 (properties (operationOf op) .form) w ⌝ }
+    ensures { λ r. ⌜ r ≡ operandsOf (widthBy wide) (properties (operationOf op) .form) w ⌝ }
 {
-    let d = w / 1024 % 32;
-    let s = w / 32 % 32;
-    let n = w / 0x8000 % 16 * 32 + w % 32;
-    match op {
-        18 => signed(d, s, n, 9),
-        19..=21 => unsigned(d, s, n),
-        22 => signed(d, s, n, 9),
-        _ => unsigned(d, s, w % 32),
+    if wide {
+        let d = w / 1024 % 32;
+        let s = w / 32 % 32;
+        let n = w / 0x8000 % 16 * 32 + w % 32;
+        match op {
+            18 => signed(d, s, n, 9),
+            19..=21 => unsigned(d, s, n),
+            22 => signed(d, s, n, 9),
+            _ => unsigned(d, s, w % 32),
+        }
+    } else {
+        let d = w % 8 + 24;
+        let n = w / 8 % 128;
+        match op {
+            18 => signed(d, d, n, 7),
+            19..=21 => unsigned(d, d, n),
+            22 => signed(d, d, n, 7),
+            _ => unsigned(d, d, w / 8 % 32),
+        }
     }
 }
 
-// 32-bit words of ld and st.
-fn wide_access(op: u32, w: u32) -> Operands
+// ld and st.
+fn access_operands(w: u32, wide: bool, op: u32) -> Operands
     requires { ⌜ (27 ≤ op) × (op ≤ 28) ⌝ }
-    ensures { λ r. ⌜ r ≡ operandsOf w32 (properties (operationOf op) .form) w ⌝ }
+    ensures { λ r. ⌜ r ≡ operandsOf (widthBy wide) (properties (operationOf op) .form) w ⌝ }
 {
-    signed(w / 1024 % 32, w / 32 % 32, w / 0x8000 % 16 * 32 + w % 32, 9)
+    if wide {
+        signed(w / 1024 % 32, w / 32 % 32, w / 0x8000 % 16 * 32 + w % 32, 9)
+    } else {
+        signed(w % 8 + 24, w / 8 % 8 + 24, w / 64 % 16, 4)
+    }
 }
 
-// 32-bit words of mov, not, mulhi, cmp, cmpi, lli, lui.
-fn wide_move(op: u32, w: u32) -> Operands
+// mov, not, mulhi, cmp, cmpi, lli, lui; the last two have no operands in 16-bit words.
+fn move_operands(w: u32, wide: bool, op: u32) -> Operands
     requires { ⌜ (29 ≤ op) × (op ≤ 35) ⌝ }
-    ensures { λ r. ⌜ r ≡ operandsOf w32 (properties (operationOf op) .form) w ⌝ }
+    ensures { λ r. ⌜ r ≡ operandsOf (widthBy wide) (properties (operationOf op) .form) w ⌝ }
 {
-    let d = w / 1024 % 32;
-    let s = w / 32 % 32;
-    match op {
-        29..=30 => registers(d, s, 0),
-        31 => registers(d, 0, 0),
-        32 => registers(0, s, w % 32),
-        33 => signed(0, s, w / 0x8000 % 16 * 32 + w % 32, 9),
-        _ => unsigned(w / 0x1_0000 % 32, 0, w % 0x1_0000),
+    if wide {
+        let d = w / 1024 % 32;
+        let s = w / 32 % 32;
+        match op {
+            29..=30 => registers(d, s, 0),
+            31 => registers(d, 0, 0),
+            32 => registers(0, s, w % 32),
+            33 => signed(0, s, w / 0x8000 % 16 * 32 + w % 32, 9),
+            _ => unsigned(w / 0x1_0000 % 32, 0, w % 0x1_0000),
+        }
+    } else {
+        let d = w % 8 + 24;
+        let s = w / 8 % 8 + 24;
+        match op {
+            29..=30 => registers(d, s, 0),
+            31 => registers(d, 0, 0),
+            32 => registers(0, s, d),
+            33 => signed(0, d, w / 8 % 128, 7),
+            _ => registers(0, 0, 0),
+        }
     }
 }
 
-// 32-bit words of jmp, jal, jmpr, jalr and the branches.
-fn wide_jump(op: u32, w: u32) -> Operands
+// jmp, jal, jmpr, jalr and the branches.
+fn jump_operands(w: u32, wide: bool, op: u32) -> Operands
     requires { ⌜ (36 ≤ op) × (op ≤ 47) ⌝ }
-    ensures { λ r. ⌜ r ≡ operandsOf w32 (properties (operationOf op) .form) w ⌝ }
+    ensures { λ r. ⌜ r ≡ operandsOf (widthBy wide) (properties (operationOf op) .form) w ⌝ }
 {
-    match op {
-        36..=37 => signed(0, 0, w % 0x0200_0000, 25),
-        38..=39 => registers(0, w / 32 % 32, 0),
-        _ => signed(0, 0, w % 0x0040_0000, 22),
+    if wide {
+        match op {
+            36..=37 => signed(0, 0, w % 0x0200_0000, 25),
+            38..=39 => registers(0, w / 32 % 32, 0),
+            _ => signed(0, 0, w % 0x0040_0000, 22),
+        }
+    } else {
+        match op {
+            36..=37 => signed(0, 0, w % 1024, 10),
+            38..=39 => registers(0, w / 8 % 8 + 24, 0),
+            _ => signed(0, 0, w % 1024, 10),
+        }
     }
 }
 
-// 32-bit words of scall to rcon.
-fn wide_system(op: u32, w: u32) -> Operands
+// scall to rcon.
+fn system_operands(w: u32, wide: bool, op: u32) -> Operands
     requires { ⌜ (48 ≤ op) × (op ≤ 57) ⌝ }
-    ensures { λ r. ⌜ r ≡ operandsOf w32 (properties (operationOf op) .form) w ⌝ }
+    ensures { λ r. ⌜ r ≡ operandsOf (widthBy wide) (properties (operationOf op) .form) w ⌝ }
 {
-    match op {
-        48..=50 => registers(0, 0, 0),
-        51 => unsigned(0, 0, w % 4),
-        52..=53 => registers(0, 0, 0),
-        54 => unsigned(0, 0, w % 2),
-        55 => unsigned(0, 0, w % 32),
-        56 => registers(w / 1024 % 32, 0, 0),
-        _ => registers(0, w / 32 % 32, 0),
+    if wide {
+        match op {
+            48..=50 => registers(0, 0, 0),
+            51 => unsigned(0, 0, w % 4),
+            52..=53 => registers(0, 0, 0),
+            54 => unsigned(0, 0, w % 2),
+            55 => unsigned(0, 0, w % 32),
+            56 => registers(w / 1024 % 32, 0, 0),
+            _ => registers(0, w / 32 % 32, 0),
+        }
+    } else {
+        match op {
+            48..=50 => registers(0, 0, 0),
+            51 => unsigned(0, 0, w % 4),
+            52..=53 => registers(0, 0, 0),
+            54 => unsigned(0, 0, w % 2),
+            55 => unsigned(0, 0, w % 32),
+            56 => registers(w % 8 + 24, 0, 0),
+            _ => registers(0, w / 8 % 8 + 24, 0),
+        }
     }
 }
 
-// 16-bit words of add to sext: the second source is the target.
-fn narrow_registers(op: u32, w: u32) -> Operands
-    requires { ⌜ (1 ≤ op) × (op ≤ 17) ⌝ }
-    ensures { λ r. ⌜ r ≡ operandsOf w16 (properties (operationOf op) .form) w ⌝ }
-{
-    let d = w % 8 + 24;
-    registers(d, w / 8 % 8 + 24, d)
-}
-
-// 16-bit words of addi to sexti.
-fn narrow_immediate(op: u32, w: u32) -> Operands
-    requires { ⌜ (18 ≤ op) × (op ≤ 26) ⌝ }
-    ensures { λ r. ⌜ r ≡ operandsOf w16 (properties (operationOf op) .form) w ⌝ }
-{
-    let d = w % 8 + 24;
-    let n = w / 8 % 128;
-    match op {
-        18 => signed(d, d, n, 7),
-        19..=21 => unsigned(d, d, n),
-        22 => signed(d, d, n, 7),
-        _ => unsigned(d, d, w / 8 % 32),
-    }
-}
-
-// 16-bit words of ld and st.
-fn narrow_access(op: u32, w: u32) -> Operands
-    requires { ⌜ (27 ≤ op) × (op ≤ 28) ⌝ }
-    ensures { λ r. ⌜ r ≡ operandsOf w16 (properties (operationOf op) .form) w ⌝ }
-{
-    signed(w % 8 + 24, w / 8 % 8 + 24, w / 64 % 16, 4)
-}
-
-// 16-bit words of mov, not, mulhi, cmp, cmpi; lli and lui have no operands there.
-fn narrow_move(op: u32, w: u32) -> Operands
-    requires { ⌜ (29 ≤ op) × (op ≤ 35) ⌝ }
-    ensures { λ r. ⌜ r ≡ operandsOf w16 (properties (operationOf op) .form) w ⌝ }
-{
-    let d = w % 8 + 24;
-    let s = w / 8 % 8 + 24;
-    match op {
-        29..=30 => registers(d, s, 0),
-        31 => registers(d, 0, 0),
-        32 => registers(0, s, d),
-        33 => signed(0, d, w / 8 % 128, 7),
-        _ => registers(0, 0, 0),
-    }
-}
-
-// 16-bit words of jmp, jal, jmpr, jalr and the branches.
-fn narrow_jump(op: u32, w: u32) -> Operands
-    requires { ⌜ (36 ≤ op) × (op ≤ 47) ⌝ }
-    ensures { λ r. ⌜ r ≡ operandsOf w16 (properties (operationOf op) .form) w ⌝ }
-{
-    match op {
-        36..=37 => signed(0, 0, w % 1024, 10),
-        38..=39 => registers(0, w / 8 % 8 + 24, 0),
-        _ => signed(0, 0, w % 1024, 10),
-    }
-}
-
-// 16-bit words of scall to rcon.
-fn narrow_system(op: u32, w: u32) -> Operands
-    requires { ⌜ (48 ≤ op) × (op ≤ 57) ⌝ }
-    ensures { λ r. ⌜ r ≡ operandsOf w16 (properties (operationOf op) .form) w ⌝ }
-{
-    match op {
-        48..=50 => registers(0, 0, 0),
-        51 => unsigned(0, 0, w % 4),
-        52..=53 => registers(0, 0, 0),
-        54 => unsigned(0, 0, w % 2),
-        55 => unsigned(0, 0, w % 32),
-        56 => registers(w % 8 + 24, 0, 0),
-        _ => registers(0, w / 8 % 8 + 24, 0),
-    }
-}
-
-// The instruction of a word, from the parts that its group of operations gives.
-fn assembled(word: u32, wide: bool, op: u32, conditional: bool, o: Operands) -> Instruction
-    ensures { λ r. ⌜ r ≡ assembled (widthBy wide) word op conditional o ⌝ }
+// The instruction of a word, from the number of its operation and its operands.
+fn assembled(word: u32, wide: bool, op: u32, o: Operands) -> Instruction
+    requires { ⌜ (op ≡ opcodeOf (widthBy wide) word) × (o ≡ operandsOf (widthBy wide) (properties (operationOf op) .form) word) ⌝ }
+    ensures { λ r. ⌜ r ≡ decode (widthBy wide) word ⌝ }
 {
     if wide {
         Instruction {
             opcode: op,
-            conditional: (word / 0x0200_0000 % 2 == 1) & conditional,
+            conditional: (word / 0x0200_0000 % 2 == 1) & is_conditional(op),
             creg: word / 0x0040_0000 % 8,
             condition: word / 0x0008_0000 % 8,
             dreg: o.dreg,
@@ -292,17 +271,7 @@ pub fn decode_registers(word: u32, wide: bool, op: u32) -> Instruction
     requires { ⌜ (op ≡ opcodeOf (widthBy wide) word) × (1 ≤ op) × (op ≤ 17) ⌝ }
     ensures { λ r. ⌜ r ≡ decode (widthBy wide) word ⌝ }
 {
-    if wide {
-        assembled(word, wide, op, is_conditional(op), wide_registers(op, word))
-    } else {
-        assembled(
-            word,
-            wide,
-            op,
-            is_conditional(op),
-            narrow_registers(op, word),
-        )
-    }
+    assembled(word, wide, op, register_operands(word, wide, op))
 }
 
 // Operations 18 to 26: addi to sexti.
@@ -310,17 +279,7 @@ pub fn decode_immediate(word: u32, wide: bool, op: u32) -> Instruction
     requires { ⌜ (op ≡ opcodeOf (widthBy wide) word) × (18 ≤ op) × (op ≤ 26) ⌝ }
     ensures { λ r. ⌜ r ≡ decode (widthBy wide) word ⌝ }
 {
-    if wide {
-        assembled(word, wide, op, is_conditional(op), wide_immediate(op, word))
-    } else {
-        assembled(
-            word,
-            wide,
-            op,
-            is_conditional(op),
-            narrow_immediate(op, word),
-        )
-    }
+    assembled(word, wide, op, immediate_operands(word, wide, op))
 }
 
 // Operations 27 and 28: ld and st.
@@ -328,11 +287,7 @@ pub fn decode_access(word: u32, wide: bool, op: u32) -> Instruction
     requires { ⌜ (op ≡ opcodeOf (widthBy wide) word) × (27 ≤ op) × (op ≤ 28) ⌝ }
     ensures { λ r. ⌜ r ≡ decode (widthBy wide) word ⌝ }
 {
-    if wide {
-        assembled(word, wide, op, is_conditional(op), wide_access(op, word))
-    } else {
-        assembled(word, wide, op, is_conditional(op), narrow_access(op, word))
-    }
+    assembled(word, wide, op, access_operands(word, wide, op))
 }
 
 // Operations 29 to 35: mov to lui.
@@ -340,11 +295,7 @@ pub fn decode_move(word: u32, wide: bool, op: u32) -> Instruction
     requires { ⌜ (op ≡ opcodeOf (widthBy wide) word) × (29 ≤ op) × (op ≤ 35) ⌝ }
     ensures { λ r. ⌜ r ≡ decode (widthBy wide) word ⌝ }
 {
-    if wide {
-        assembled(word, wide, op, is_conditional(op), wide_move(op, word))
-    } else {
-        assembled(word, wide, op, is_conditional(op), narrow_move(op, word))
-    }
+    assembled(word, wide, op, move_operands(word, wide, op))
 }
 
 // Operations 36 to 47: jmp, jal, jmpr, jalr and the branches.
@@ -352,11 +303,7 @@ pub fn decode_jump(word: u32, wide: bool, op: u32) -> Instruction
     requires { ⌜ (op ≡ opcodeOf (widthBy wide) word) × (36 ≤ op) × (op ≤ 47) ⌝ }
     ensures { λ r. ⌜ r ≡ decode (widthBy wide) word ⌝ }
 {
-    if wide {
-        assembled(word, wide, op, is_conditional(op), wide_jump(op, word))
-    } else {
-        assembled(word, wide, op, is_conditional(op), narrow_jump(op, word))
-    }
+    assembled(word, wide, op, jump_operands(word, wide, op))
 }
 
 // Operations 48 to 57: scall to rcon.
@@ -364,11 +311,7 @@ pub fn decode_system(word: u32, wide: bool, op: u32) -> Instruction
     requires { ⌜ (op ≡ opcodeOf (widthBy wide) word) × (48 ≤ op) × (op ≤ 57) ⌝ }
     ensures { λ r. ⌜ r ≡ decode (widthBy wide) word ⌝ }
 {
-    if wide {
-        assembled(word, wide, op, is_conditional(op), wide_system(op, word))
-    } else {
-        assembled(word, wide, op, is_conditional(op), narrow_system(op, word))
-    }
+    assembled(word, wide, op, system_operands(word, wide, op))
 }
 
 // Whether condition n holds of a condition register.

@@ -8,6 +8,7 @@ use lib.Seq.{length-take-le, take-all}
 use lib.Dec.{leb, lit<, lit≤}
 use borrow.Author.Tests.{leb-true, leb-false, le-leb, lt-leb}
 use Rattle.word.specs.Choice.{if_then_else_}
+use Rattle.word.proofs.Tests.{either}
 use Rattle.codec.specs.Number.{numbersOf, over}
 use Rattle.codec.proofs.Laws.{numbersOf-bytesOf, numbersOf-append}
 use Rattle.machine.specs.Machine.{Machine}
@@ -27,7 +28,6 @@ use Rattle.emulator.proofs.Answers.{call-refused, call-started}
 use Rattle.console.specs.Digits.{newline, digitOf, digitsOf, placesFrom}
 use Rattle.console.specs.Limit.{limitOf}
 use Rattle.console.specs.Line.{ranText, refusalText}
-use Rattle.console.proofs.Digits.{either}
 use Rattle.console.proofs.Limits.{limit-front}
 use Rattle.runner.specs.Report.{zeroCells, pcOf, answerText, callOf, outcomeOf, reportOf}
 

@@ -4,12 +4,12 @@ use mathlib.Core.List.{List, [], _∷_}
 use Prim.Native.Nat.{ℕ}
 use lib.ListN.{getD}
 use lib.Dec.{lit≤}
-use Rattle.word.specs.Choice.{if_then_else_}
 use Rattle.codec.specs.Number.{bytesOf}
 use Rattle.machine.specs.Control.{reset, controlAt, EXCEPTION-CS}
 use Rattle.emulator.specs.Run.{stateOf, RunResult, resultFrom}
 use Rattle.emulator.specs.Computed.{runs}
-use Rattle.console.specs.Limit.{isDigit, numberFrom, numberOf, lineLength, limitOf}
+use Rattle.console.specs.Limit.{limitOf}
+use Rattle.console.specs.Computed.{texts}
 use Rattle.console.proofs.Worked.{whole-output}
 use Rattle.runner.specs.Report.{zeroCells, reportOf}
 use Rattle.runner.proofs.Reports.{report-ran}
@@ -28,7 +28,7 @@ abbrev pub left : RunResult
 left = resultFrom code [] 3 0 (stateOf reset zeroCells)
 
 limit-three : limitOf three ≡ 3
-unfolding limitOf lineLength numberOf numberFrom isDigit if_then_else_
+unfolding texts
 limit-three = refl
 
 -- "For 88010005h 4807883Fh DC000003h and limit 3, whole output: `3 0 00000000`"

@@ -1,6 +1,6 @@
 -- The search for the source to accept: what one turn of it does, and that it finds the candidate of a well-formed machine. Assumes nothing.
 use mathlib.Core.Path.{_≡_, refl, sym, ap, _∙_}
-use mathlib.Core.Bool.{Bool, true, false, _&&_}
+use mathlib.Core.Bool.{Bool, true, false, _&&_, and-false}
 use mathlib.Core.List.{List}
 use mathlib.Core.Option.{Option, none, some}
 use Prim.Native.Nat.{ℕ, zero, suc, _/_, _%_, _^_, _≤_, _<_, min}
@@ -29,10 +29,6 @@ use Rattle.word.proofs.Tests.{if-holds}
 use Rattle.step.proofs.Accepted.{none-some, candidate-eligible}
 
 -- ---- tests
-
-and-false : (b : Bool) → b && false ≡ false
-and-false true = refl
-and-false false = refl
 
 -- a test moved to another place
 and-last : (a b c : Bool) → (a && (b && c)) && true ≡ (a && b) && c

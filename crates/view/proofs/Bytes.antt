@@ -44,11 +44,7 @@ below-bounds low high x h = rw (lt-leb low x h)
 
 above-bounds : (low high x : ℕ) → high < x → within low high x ≡ false
 unfolding within
-above-bounds low high x h = rw (lt-leb x high h) (either (leb low x))
-  where
-    either : (b : Bool) → b && false ≡ false
-    either true = refl
-    either false = refl
+above-bounds low high x h = rw (lt-leb x high h) (and-false (leb low x))
 
 -- one of n addresses is within bounds exactly where the two ranges overlap
 overlap : (low high a n : ℕ) → 0 < n → (leb low high && leb low (a + (n - 1))) && leb a high ≡ anyWithin low high a n

@@ -1,7 +1,7 @@
 -- The machine's operations on bits are the definitions', digit by digit. Assumes nothing.
 use mathlib.Core.Path.{_≡_, refl, ap, ap₂, _∙_}
-use Prim.Native.Nat.{ℕ, zero, suc, _+_, _*_, _/_, _%_, _^_, _≤_, _<_, min, max}
-use native.Mathlib.Nat.{pow-suc, le-of-suc-le-suc, not-suc-le-zero}
+use Prim.Native.Nat.{ℕ, zero, suc, _+_, _*_, _/_, _%_, _^_, _<_, min, max}
+use native.Mathlib.Nat.{pow-suc}
 use native.Mathlib.Omega.{arith}
 use lib.Bits.{bitAnd, bitOr, bitXor, and-step, or-step, xor-step, differ}
 use lib.Count
@@ -27,14 +27,8 @@ differ-is : (x y : ℕ) → x < 2 → y < 2 → differ x y ≡ (x + y) % 2
 differ-is zero y p q = omega arith
 differ-is (suc zero) zero p q = refl
 differ-is (suc zero) (suc zero) p q = refl
-differ-is (suc zero) (suc (suc y)) p q = absurd (no y q)
-  where
-    no : (y : ℕ) → suc (suc y) < 2 → ⊥
-    no y h = omega arith
-differ-is (suc (suc x)) y p q = absurd (no x p)
-  where
-    no : (y : ℕ) → suc (suc y) < 2 → ⊥
-    no y h = omega arith
+differ-is (suc zero) (suc (suc y)) p q = absurd (omega arith)
+differ-is (suc (suc x)) y p q = absurd (omega arith)
 
 pub and-is : (k a b : ℕ) → a < 2 ^ k → b < 2 ^ k → bitAnd a b ≡ bitwiseOf min k a b
 and-is = bitwise-is bitAnd min refl and-step
@@ -46,29 +40,6 @@ pub xor-is : (k a b : ℕ) → a < 2 ^ k → b < 2 ^ k → bitXor a b ≡ bitwis
 xor-is =
     bitwise-is bitXor (λ x y. (x + y) % 2) refl
     (λ a b. xor-step a b ∙ ap (λ (d : ℕ). bitXor (a / 2) (b / 2) * 2 + d) (differ-is (a % 2) (b % 2) (omega arith) (omega arith)))
-
--- a definition of digits below 2 is a word
-pub bitwise-below : (f : ℕ → ℕ → ℕ) → ((x y : ℕ) → x < 2 → y < 2 → f x y < 2) → (k a b : ℕ) → bitwiseOf f k a b < 2 ^ k
-unfolding bitwiseOf
-bitwise-below f d zero a b = omega arith
-bitwise-below f d (suc k) a b =
-    let h : bitwiseOf f k (a / 2) (b / 2) < 2 ^ k = bitwise-below f d k (a / 2) (b / 2) in
-    let g : f (a % 2) (b % 2) < 2 = d (a % 2) (b % 2) (omega arith) (omega arith) in
-    rw pow-suc (omega arith)
-
--- at operands of j bits, more digits change nothing
-module _ (f : ℕ → ℕ → ℕ) (z : f 0 0 ≡ 0) where
-  bitwise-zero : (k : ℕ) → bitwiseOf f k 0 0 ≡ 0
-  unfolding bitwiseOf
-  bitwise-zero zero = refl
-  bitwise-zero (suc k) = rw (bitwise-zero k, z)
-
-  pub bitwise-narrow : (j k a b : ℕ) → j ≤ k → a < 2 ^ j → b < 2 ^ j → bitwiseOf f k a b ≡ bitwiseOf f j a b
-  unfolding bitwiseOf
-  bitwise-narrow zero k a b h p q = ap₂ (bitwiseOf f k) (none a p) (none b q) ∙ bitwise-zero k
-  bitwise-narrow (suc j) zero a b h p q = absurd (not-suc-le-zero h)
-  bitwise-narrow (suc j) (suc k) a b h p q =
-      ap (λ (x : ℕ). x * 2 + f (a % 2) (b % 2)) (bitwise-narrow j k (a / 2) (b / 2) (le-of-suc-le-suc h) (halved j a p) (halved j b q))
 
 pub ones-is : (k n : ℕ) → n < 2 ^ k → ones n ≡ onesOf k n
 unfolding onesOf ones lib.Count.onesIn

@@ -1,6 +1,6 @@
 -- Numbers as sets of flags: one flag set or cleared, the others, and the count. Assumes nothing.
 use mathlib.Core.Path.{_≡_, refl, sym, ap, _∙_}
-use mathlib.Core.Bool.{Bool, true, false, not, _&&_, _||_, or-true}
+use mathlib.Core.Bool.{Bool, true, false, true≢false, not, _&&_, _||_, or-true}
 use mathlib.Core.List.{List, [], _∷_}
 use Prim.Native.Nat.{ℕ, zero, suc, _+_, _-_, _*_, _/_, _%_, _^_, _≤_, _<_}
 use native.Mathlib.Nat.{pow-suc, pow-succ', div-div-eq-div-mul, add-div-right, le-div-iff-mul-le, le-of-suc-le-suc, not-suc-le-zero, zero-div}
@@ -11,7 +11,7 @@ use lib.Pow.{pow-pos}
 use borrow.Author.Tests.{eqb-true, eqb-false, eq-eqb, ne-eqb, ltb-true, lt-ltb, not-true}
 use Rattle.word.specs.Choice.{if_then_else_}
 use Rattle.word.specs.Word.{bitAt}
-use Rattle.word.proofs.Tests.{and-parts}
+use Rattle.word.proofs.Tests.{either, and-parts}
 use Rattle.word.specs.Flags.{onesOf, withFlag, withoutFlag, flagsAt, isAmong, distinctBelow}
 
 -- ---- digits: flag n is 1 when digit n is
@@ -71,15 +71,15 @@ add-below (suc k) (suc n) x h b e =
     let i : x / 2 + 2 ^ n < 2 ^ k = add-below k n (x / 2) (le-of-suc-le-suc h) (omega arith) (sym (digit-half n x) ∙ e) in
     rw (pow-suc 2 n, pow-suc 2 k) (omega arith)
 
--- where digit n is 1, 2 ^ n can be taken away and added again
-taken : (n x : ℕ) → digit n x ≡ 1 → 2 ^ n ≤ x
-taken n x e =
+-- where digit n is 1, 2 ^ n can be digit-most away and added again
+digit-most : (n x : ℕ) → digit n x ≡ 1 → 2 ^ n ≤ x
+digit-most n x e =
     let q : 1 ≤ x / 2 ^ n = omega arith in
     let m : 1 * 2 ^ n ≤ x = le-div-iff-mul-le (pow-pos n) .0 q in
     omega arith
 
 again : (n x : ℕ) → digit n x ≡ 1 → x - 2 ^ n + 2 ^ n ≡ x
-again n x e = omega (arith, taken n x e)
+again n x e = omega (arith, digit-most n x e)
 
 less-same : (n x : ℕ) → digit n x ≡ 1 → digit n (x - 2 ^ n) ≡ 0
 less-same n x e =
@@ -105,42 +105,34 @@ module _ (n x : ℕ) where
   unfolding withoutFlag if_then_else_
   without-clear e = rw e
 
-  -- by the flag
-  either : (P : Type 0) → (bitAt n x ≡ true → P) → (bitAt n x ≡ false → P) → P
-  either P f g = go (bitAt n x) refl
-    where
-      go : (t : Bool) → bitAt n x ≡ t → P
-      go true e = f e
-      go false e = g e
-
   pub set-most : bitAt n x ≡ true → 2 ^ n ≤ x
-  set-most e = taken n x (digit-one n x e)
+  set-most e = digit-most n x (digit-one n x e)
 
   pub with-same : bitAt n (withFlag n x) ≡ true
   with-same =
-      either (bitAt n (withFlag n x) ≡ true) (λ e. rw (with-set e) e)
+      either (bitAt n x) (λ e. rw (with-set e) e)
       (λ e. rw (with-clear e) (eq-eqb (digit n (x + 2 ^ n)) 1 (add-same n x (digit-zero n x e))))
 
   pub with-other : (j : ℕ) → (j ≡ n → ⊥) → bitAt j (withFlag n x) ≡ bitAt j x
   with-other j d =
-      either (bitAt j (withFlag n x) ≡ bitAt j x) (λ e. ap (bitAt j) (with-set e))
+      either (bitAt n x) (λ e. ap (bitAt j) (with-set e))
       (λ e. rw (with-clear e) (ap (λ (m : ℕ). eqb m 1) (add-other j n x d (digit-zero n x e))))
 
   pub with-below : (k : ℕ) → n < k → x < 2 ^ k → withFlag n x < 2 ^ k
   with-below k h b =
-      either (withFlag n x < 2 ^ k) (λ e. rw (with-set e) b) (λ e. rw (with-clear e) (add-below k n x h b (digit-zero n x e)))
+      either (bitAt n x) (λ e. rw (with-set e) b) (λ e. rw (with-clear e) (add-below k n x h b (digit-zero n x e)))
 
   pub ones-with : (k : ℕ) → n < k → bitAt n x ≡ false → onesOf k (withFlag n x) ≡ suc (onesOf k x)
   ones-with k h e = rw (with-clear e) (add-ones k n x h (digit-zero n x e))
 
   pub without-same : bitAt n (withoutFlag n x) ≡ false
   without-same =
-      either (bitAt n (withoutFlag n x) ≡ false)
+      either (bitAt n x)
       (λ e. rw (without-set e) (ne-eqb (digit n (x - 2 ^ n)) 1 (λ q. omega (arith, less-same n x (digit-one n x e)))))
       (λ e. rw (without-clear e) e)
 
   pub without-below : (k : ℕ) → x < 2 ^ k → withoutFlag n x < 2 ^ k
-  without-below k b = either (withoutFlag n x < 2 ^ k) (λ e. rw (without-set e) (omega arith)) (λ e. rw (without-clear e) b)
+  without-below k b = either (bitAt n x) (λ e. rw (without-set e) (omega arith)) (λ e. rw (without-clear e) b)
 
 -- a flag that was 0, set and cleared
 pub without-with : (n x : ℕ) → bitAt n x ≡ false → withoutFlag n (withFlag n x) ≡ x
@@ -156,7 +148,7 @@ with-without n x e =
 
 pub without-other : (n x j : ℕ) → (j ≡ n → ⊥) → bitAt j (withoutFlag n x) ≡ bitAt j x
 without-other n x j d =
-    either n x (bitAt j (withoutFlag n x) ≡ bitAt j x)
+    either (bitAt n x)
     (λ e. sym (with-other n (withoutFlag n x) j d) ∙ ap (bitAt j) (with-without n x e))
     (λ e. ap (bitAt j) (without-clear n x e))
 
@@ -188,25 +180,17 @@ ones-most (suc k) x = let h : onesOf k (x / 2) ≤ k = ones-most k (x / 2) in om
 pub flags-at : (n : ℕ) (ns : List ℕ) → bitAt n (flagsAt ns) ≡ isAmong n ns
 unfolding flagsAt isAmong
 flags-at n [] = rw (zero-div (2 ^ n))
-flags-at n (m ∷ ms) = go (eqb m n) refl (flags-at n ms)
-  where
-    go : (t : Bool) → eqb m n ≡ t → bitAt n (flagsAt ms) ≡ isAmong n ms → bitAt n (withFlag m (flagsAt ms)) ≡ (t || isAmong n ms)
-    go true e h = rw (eqb-true m n e) (with-same n (flagsAt ms))
-    go false e h = with-other m (flagsAt ms) n (λ q. eqb-false m n e (sym q)) ∙ h
+flags-at n (m ∷ ms) =
+    either (eqb m n)
+    (λ e. let same : withFlag n (flagsAt ms) ≡ withFlag m (flagsAt ms) = rw (eqb-true m n e) in rw (e, ← same) (with-same n (flagsAt ms)))
+    (λ e. rw e (with-other m (flagsAt ms) n (λ q. eqb-false m n e (sym q)) ∙ flags-at n ms))
 
--- a list's first, put on and taken off
-pub flags-push : (n : ℕ) (ns : List ℕ) → flagsAt (n ∷ ns) ≡ withFlag n (flagsAt ns)
-unfolding flagsAt
-flags-push n ns = refl
-
+-- a list's first, digit-most off
 pub flags-pop : (n : ℕ) (ns : List ℕ) → isAmong n ns ≡ false → withoutFlag n (flagsAt (n ∷ ns)) ≡ flagsAt ns
 unfolding flagsAt
 flags-pop n ns e = without-with n (flagsAt ns) (flags-at n ns ∙ e)
 
 -- ---- distinct places
-
-apart : {b : Bool} → b ≡ true → b ≡ false → ⊥
-apart p q = let z : _≡_ {A = ℕ} 0 1 = cc in omega arith
 
 module _ (k n : ℕ) (ns : List ℕ) where
   -- n is below k, none of ns, and they are distinct
@@ -258,4 +242,4 @@ module _ (k : ℕ) where
       ap (withFlag n) (flags-counted ns (withoutFlag n x) (without-below n x k b) (d .rest) (kept (d .new)) r) ∙ with-without n x h
     where
       kept : isAmong n ns ≡ false → (j : ℕ) → isAmong j ns ≡ true → bitAt j (withoutFlag n x) ≡ true
-      kept w j a = without-other n x j (λ s. apart (ap (λ (m : ℕ). isAmong m ns) (sym s) ∙ a) w) ∙ f j (rw a (or-true (eqb n j)))
+      kept w j a = without-other n x j (λ s. true≢false (sym a ∙ ap (λ (m : ℕ). isAmong m ns) s ∙ w)) ∙ f j (rw a (or-true (eqb n j)))

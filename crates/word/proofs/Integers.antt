@@ -1,11 +1,11 @@
 -- Signed numbers: their words, and what i32 and i64 hold. omega does not read ℤ: each law here takes a statement on ℤ to one on ℕ.
--- Assumes nothing.
+-- word-signed and signed-word are for an encoder of immediates, address-word and natural-address for reachability. Assumes nothing.
 use mathlib.Core.Path.{_≡_, refl, sym, ap, _∙_}
-use mathlib.Core.Bool.{Bool, true, false}
+use mathlib.Core.Bool.{Bool, true, false, true≢false}
 use Prim.Native.Nat.{ℕ, zero, suc, _+_, _-_, _*_, _%_, _^_, _≤_, _<_}
-use native.Mathlib.Nat.{pow-suc, mod-lt, one-mul, mod-eq-of-lt, mul-le-mul, mul-le-mul-left, mul-lt-mul-of-pos-right, add-le-add, le-of-lt, le-trans, lt-of-le-of-lt}
+use native.Mathlib.Nat.{pow-suc, not-suc-le-zero, one-mul, mod-eq-of-lt, mul-le-mul, mul-le-mul-left, mul-lt-mul-of-pos-right, add-le-add, le-of-lt, le-trans, lt-of-le-of-lt}
 use native.Mathlib.Omega.{arith}
-use lib.Dec.{T, ltb, leb, ltb→lt, leb→le, lt→ltb, le→leb, lit<}
+use lib.Dec.{T, ltb, leb, ltb→lt, leb→le, lt→ltb, le→leb}
 use lib.IntN.{ℤ, pos, negsuc, negℤ, natAbs, subℕ, _+ℤ_, _-ℤ_, _*ℤ_}
 use lib.Pow.{pow-add, pow-lt, pow-mono, pow-pos}
 use lib.Signed.{mag, ltZ, natAbs-le}
@@ -14,7 +14,8 @@ use mir.Syntax.{Width, w32, w64}
 use mir.Val.{hbits, SFits, toZ, ofZ}
 use mir.Facts.{toZ-ofZ, sfits-widen}
 use Rattle.word.specs.Choice.{if_then_else_}
-use Rattle.word.specs.Word.{signedOf, modZ, wordOf, extendOf, isAddress}
+use Rattle.word.specs.Word.{signedOf, modZ, wordOf, isAddress}
+use Rattle.word.proofs.Tests.{either}
 
 -- ---- differences of naturals
 
@@ -26,11 +27,7 @@ sub-above a b h = rw (le-ltb a b h)
 
 -- by which of the two is the larger
 pub sub-either : (P : ℤ → Type 0) (a b : ℕ) → (a < b → P (negsuc (b - suc a))) → (b ≤ a → P (pos (a - b))) → P (subℕ a b)
-sub-either P a b f g = go (ltb a b) refl
-  where
-    go : (t : Bool) → ltb a b ≡ t → P (subℕ a b)
-    go true e = rw e (f (ltb-true a b e))
-    go false e = rw e (g (ltb-false a b e))
+sub-either P a b f g = either (ltb a b) (λ e. rw e (f (ltb-true a b e))) (λ e. rw e (g (ltb-false a b e)))
 
 pub minus-is : (a b : ℕ) → pos a -ℤ pos b ≡ subℕ a b
 minus-is a zero = sym (sub-above a 0 (omega arith) ∙ ap pos (gone a))
@@ -42,15 +39,12 @@ minus-is a (suc b) = refl
 -- ---- the sign test
 
 pub is-negative : (z : ℤ) → ltZ z (pos 0) ≡ true → z ≡ negsuc (mag z)
-is-negative (pos n) t = absurd (never n (ltb-true n 0 t))
-  where
-    never : (n : ℕ) → n < 0 → ⊥
-    never n h = omega arith
+is-negative (pos n) t = absurd (not-suc-le-zero (ltb-true n 0 t))
 is-negative (negsuc n) t = refl
 
 pub is-natural : (z : ℤ) → ltZ z (pos 0) ≡ false → z ≡ pos (mag z)
 is-natural (pos n) t = refl
-is-natural (negsuc n) t = absurd (let z : _≡_ {A = ℕ} 0 1 = cc in omega arith)
+is-natural (negsuc n) t = absurd (true≢false t)
 
 -- -1 - z of a negative z
 pub turned : (z : ℤ) → ltZ z (pos 0) ≡ true → negsuc 0 -ℤ z ≡ pos (mag z)
@@ -92,11 +86,10 @@ module _ (k n : ℕ) where
   -- by the sign bit
   pub signed-either : (P : ℤ → Type 0) → n < 2 ^ k → (n < 2 ^ (k - 1) → P (pos n)) → (2 ^ (k - 1) ≤ n → P (negsuc (2 ^ k - suc n)))
       → P (signedOf k n)
-  signed-either P b f g = go (ltb n (2 ^ (k - 1))) refl
-    where
-      go : (t : Bool) → ltb n (2 ^ (k - 1)) ≡ t → P (signedOf k n)
-      go true e = rw (signed-low (ltb-true _ _ e)) (f (ltb-true _ _ e))
-      go false e = rw (signed-high (ltb-false _ _ e), minus-is n (2 ^ k), sub-below n (2 ^ k) b) (g (ltb-false _ _ e))
+  signed-either P b f g =
+      either (ltb n (2 ^ (k - 1)))
+      (λ e. rw (signed-low (ltb-true _ _ e)) (f (ltb-true _ _ e)))
+      (λ e. rw (signed-high (ltb-false _ _ e), minus-is n (2 ^ k), sub-below n (2 ^ k) b) (g (ltb-false _ _ e)))
 
 module _ (k : ℕ) (p : 0 < k) where
   -- it is in the range of k bits
@@ -132,11 +125,6 @@ module _ (k : ℕ) (p : 0 < k) (u : k ≤ 32) where
   pub signed-fits : (n : ℕ) → n < 2 ^ k → SFits w32 (signedOf k n)
   signed-fits n b = record { sfits = omega (arith, half-most k u, signed-range k p n b) }
 
-  -- a field whose sign is extended, read as signed, is the field read as signed
-  pub signed-extend : (w : ℕ) → signedOf 32 (extendOf k w) ≡ signedOf k (w % 2 ^ k)
-  unfolding extendOf
-  signed-extend w = signed-word 32 (lit< tt) (signedOf k (w % 2 ^ k)) (signed-fits (w % 2 ^ k) (mod-lt w (pow-pos k)) .sfits)
-
 -- the word of a natural
 pub word-natural : (k n : ℕ) → n < 2 ^ k → wordOf k (pos n) ≡ n
 unfolding modZ
@@ -146,7 +134,7 @@ word-natural k n b = mod-eq-of-lt b
 pub address-word : (z : ℤ) → isAddress z ≡ true → z ≡ pos (wordOf 32 z)
 unfolding isAddress
 address-word (pos n) e = ap pos (sym (word-natural 32 n (ltb-true n (2 ^ 32) e)))
-address-word (negsuc n) e = absurd (let z : _≡_ {A = ℕ} 0 1 = cc in omega arith)
+address-word (negsuc n) e = absurd (true≢false (sym e))
 
 pub natural-address : (n : ℕ) → n < 2 ^ 32 → isAddress (pos n) ≡ true
 unfolding isAddress
@@ -195,18 +183,18 @@ module _ (x y : ℤ) (A B : ℕ) (p : natAbs x ≤ A) (q : natAbs y ≤ B) where
   pub product-fits : T (ltb (A * B) (2 ^ 63)) → SFits w64 (x *ℤ y)
   product-fits t = record { sfits = lt-of-le-of-lt (le-trans (mag-mul x y) (mul-le-mul p q)) (ltb→lt (A * B) (2 ^ 63) t) }
 
-pub size : {x : ℤ} → SFits w32 x → natAbs x ≤ 2 ^ 31
-size {x} f = natAbs-le x (f .sfits)
+pub abs-most : {x : ℤ} → SFits w32 x → natAbs x ≤ 2 ^ 31
+abs-most {x} f = natAbs-le x (f .sfits)
 
 module _ (x y : ℤ) (f : SFits w32 x) (g : SFits w32 y) where
   pub sum-wide-fits : SFits w64 (x +ℤ y)
-  sum-wide-fits = sum-fits x y (2 ^ 31) (2 ^ 31) (size f) (size g) tt
+  sum-wide-fits = sum-fits x y (2 ^ 31) (2 ^ 31) (abs-most f) (abs-most g) tt
 
   pub difference-wide-fits : SFits w64 (x -ℤ y)
-  difference-wide-fits = sum-fits x (negℤ y) (2 ^ 31) (2 ^ 31) (size f) (rw abs-neg (size g)) tt
+  difference-wide-fits = sum-fits x (negℤ y) (2 ^ 31) (2 ^ 31) (abs-most f) (rw abs-neg (abs-most g)) tt
 
   pub product-wide-fits : SFits w64 (x *ℤ y)
-  product-wide-fits = product-fits x y (2 ^ 31) (2 ^ 31) (size f) (size g) tt
+  product-wide-fits = product-fits x y (2 ^ 31) (2 ^ 31) (abs-most f) (abs-most g) tt
 
 -- ---- casts
 

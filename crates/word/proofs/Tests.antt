@@ -1,7 +1,12 @@
--- Tests joined, and choices by a test. Assumes nothing.
+-- Cases of a test, tests joined, and choices by a test. Assumes nothing.
 use mathlib.Core.Path.{_≡_, refl, sym}
 use mathlib.Core.Bool.{Bool, true, false, true≢false, _&&_, _||_}
 use Rattle.word.specs.Choice.{if_then_else_}
+
+-- by cases of a test
+pub either : {A : Type 0} (b : Bool) → (b ≡ true → A) → (b ≡ false → A) → A
+either true f g = f refl
+either false f g = g refl
 
 pub and-parts : (a b : Bool) → a && b ≡ true → (a ≡ true) × (b ≡ true)
 and-parts true b e = (refl, e)

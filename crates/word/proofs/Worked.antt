@@ -5,7 +5,7 @@ use Prim.Native.Nat.{ℕ, zero, suc, _<_}
 use native.Mathlib.Nat.{le-of-suc-le-suc, not-suc-le-zero}
 use lib.ListN.{length, getD}
 use Rattle.word.specs.Computed.{words}
-use Rattle.word.specs.Worked.{Case, outcome, starred, sums, products, shifts, bitwise, cases, given}
+use Rattle.word.specs.Worked.{Case, gives, starred, sums, products, shifts, bitwise, cases, given}
 
 -- two functions that agree on a list's elements agree at each place
 pub at-each : {X Y : Type 0} (f g : X → Y) (d : X) (xs : List X) → map f xs ≡ map g xs → (k : ℕ) → k < length xs
@@ -16,9 +16,9 @@ at-each f g d (x ∷ xs) e (suc k) h =
     let tails : map f xs ≡ map g xs = cc in
     at-each f g d xs tails k (le-of-suc-le-suc h)
 
-all : map given cases ≡ map (λ (c : Case). c .expected) cases
-unfolding words outcome starred sums products shifts bitwise cases
-all = refl
+computed : map given cases ≡ map (λ (c : Case). c .expected) cases
+unfolding words gives starred sums products shifts bitwise cases
+computed = refl
 
 pub worked : (d : Case) (k : ℕ) → k < length cases → given (getD cases k d) ≡ getD cases k d .expected
-worked d = at-each given (λ (c : Case). c .expected) d cases all
+worked d = at-each given (λ (c : Case). c .expected) d cases computed

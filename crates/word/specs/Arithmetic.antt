@@ -90,3 +90,8 @@ xorOf = bitwiseOf (λ x y. (x + y) % 2) 32
 
 unfoldable pub notOf : (a : ℕ) → ℕ
 notOf a = 2 ^ 32 - 1 - a
+
+-- to unfold all of these
+unfoldable pub arithmetic : Unit {0}
+unfolding addOf subOf cmpOf productOf shortProductOf sllOf srlOf sraOf sextOf andOf orOf xorOf notOf
+arithmetic = tt

@@ -1,9 +1,9 @@
--- To unfold `words` is to unfold all definitions of this crate.
-use Rattle.word.specs.Choice.{if_then_else_}
-use Rattle.word.specs.Word.{fieldOf, signedOf, divZ, modZ, extendOf, isAddress, bitwiseOf}
-use Rattle.word.specs.Arithmetic.{addOf, subOf, cmpOf, productOf, shortProductOf, sllOf, srlOf, sraOf, sextOf, andOf, orOf, xorOf, notOf}
-use Rattle.word.specs.Flags.{onesOf, withFlag, withoutFlag, flagsAt, isAmong, distinctBelow}
+-- To unfold `words` is to unfold all definitions of this crate; each file ends with its own.
+use Rattle.word.specs.Choice.{choices}
+use Rattle.word.specs.Word.{readings}
+use Rattle.word.specs.Arithmetic.{arithmetic}
+use Rattle.word.specs.Flags.{flagSets}
 
 unfoldable pub words : Unit {0}
-unfolding if_then_else_ fieldOf signedOf divZ modZ extendOf isAddress bitwiseOf addOf subOf cmpOf productOf shortProductOf sllOf srlOf sraOf sextOf andOf orOf xorOf notOf onesOf withFlag withoutFlag flagsAt isAmong distinctBelow
+unfolding choices readings arithmetic flagSets
 words = tt

@@ -32,3 +32,8 @@ isAmong n (m ∷ ms) = eqb m n || isAmong n ms
 unfoldable pub distinctBelow : (k : ℕ) → List ℕ → Bool
 distinctBelow k [] = true
 distinctBelow k (n ∷ ns) = ltb n k && (not (isAmong n ns) && distinctBelow k ns)
+
+-- to unfold all of these
+unfoldable pub flagSets : Unit {0}
+unfolding onesOf withFlag withoutFlag flagsAt isAmong distinctBelow
+flagSets = tt

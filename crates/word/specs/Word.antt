@@ -64,3 +64,8 @@ isAddress (negsuc n) = false
 unfoldable pub bitwiseOf : (f : ℕ → ℕ → ℕ) (k a b : ℕ) → ℕ
 bitwiseOf f zero a b = 0
 bitwiseOf f (suc k) a b = bitwiseOf f k (a / 2) (b / 2) * 2 + f (a % 2) (b % 2)
+
+-- to unfold all of these
+unfoldable pub readings : Unit {0}
+unfolding fieldOf signedOf divZ modZ extendOf isAddress bitwiseOf
+readings = tt

@@ -12,44 +12,44 @@ pub data Operation : Type 0 where
   add sub cmp muls mulu mulus muls16 mulu16 mulus16 sll srl sra sext and or xor not : Operation
 
 -- a sum with its flags and its overflow (06h where the operation checks it); a product; a word, or a comparison's flags
-pub data Outcome : Type 0 where
-  sum : (value flags : ℕ) (overflow : Bool) → Outcome
-  product : (high low : ℕ) → Outcome
-  word : ℕ → Outcome
+pub data Given : Type 0 where
+  sum : (value flags : ℕ) (overflow : Bool) → Given
+  product : (high low : ℕ) → Given
+  word : ℕ → Given
 
-abbrev sumOf : Sum → Outcome
+abbrev sumOf : Sum → Given
 sumOf s = sum (s .value) (s .flags) (s .overflow)
 
-abbrev wideOf : Product → Outcome
+abbrev wideOf : Product → Given
 wideOf p = product (p .high) (p .low)
 
 -- what an operation gives at two registers
-unfoldable pub outcome : Operation → (a b : ℕ) → Outcome
-outcome add a b = sumOf (addOf a b)
-outcome sub a b = sumOf (subOf a b)
-outcome cmp a b = word (cmpOf a b)
-outcome muls a b = wideOf (productOf (signedOf 32 a) (signedOf 32 b))
-outcome mulu a b = wideOf (productOf (pos a) (pos b))
-outcome mulus a b = wideOf (productOf (pos a) (signedOf 32 b))
-outcome muls16 a b = word (shortProductOf (signedHalf a) (signedHalf b))
-outcome mulu16 a b = word (shortProductOf (half a) (half b))
-outcome mulus16 a b = word (shortProductOf (half a) (signedHalf b))
-outcome sll a b = word (sllOf a b)
-outcome srl a b = word (srlOf a b)
-outcome sra a b = word (sraOf a b)
-outcome sext a b = word (sextOf a b)
-outcome and a b = word (andOf a b)
-outcome or a b = word (orOf a b)
-outcome xor a b = word (xorOf a b)
-outcome not a b = word (notOf a)
+unfoldable pub gives : Operation → (a b : ℕ) → Given
+gives add a b = sumOf (addOf a b)
+gives sub a b = sumOf (subOf a b)
+gives cmp a b = word (cmpOf a b)
+gives muls a b = wideOf (productOf (signedOf 32 a) (signedOf 32 b))
+gives mulu a b = wideOf (productOf (pos a) (pos b))
+gives mulus a b = wideOf (productOf (pos a) (signedOf 32 b))
+gives muls16 a b = word (shortProductOf (signedHalf a) (signedHalf b))
+gives mulu16 a b = word (shortProductOf (half a) (half b))
+gives mulus16 a b = word (shortProductOf (half a) (signedHalf b))
+gives sll a b = word (sllOf a b)
+gives srl a b = word (srlOf a b)
+gives sra a b = word (sraOf a b)
+gives sext a b = word (sextOf a b)
+gives and a b = word (andOf a b)
+gives or a b = word (orOf a b)
+gives xor a b = word (xorOf a b)
+gives not a b = word (notOf a)
 
 pub record Case : Type 0 where
   pub operation : Operation
   pub first : ℕ
   pub second : ℕ
-  pub expected : Outcome
+  pub expected : Given
 
-abbrev row : Operation → (a b : ℕ) → Outcome → Case
+abbrev row : Operation → (a b : ℕ) → Given → Case
 row o a b e = record { operation = o; first = a; second = b; expected = e }
 
 -- 01 "Worked by hand": add at 7FFFFFFFh, sub and subu at 80000000h, the products of FFFFFFFFh by itself
@@ -125,5 +125,5 @@ unfoldable pub cases : List Case
 cases = starred ++ sums ++ products ++ shifts ++ bitwise
 
 -- what the definitions give at a case
-abbrev pub given : Case → Outcome
-given c = outcome (c .operation) (c .first) (c .second)
+abbrev pub given : Case → Given
+given c = gives (c .operation) (c .first) (c .second)

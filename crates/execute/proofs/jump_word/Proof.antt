@@ -11,7 +11,7 @@ use Rattle.machine.specs.Machine.{Machine, psr, userMode, widthOf}
 use Rattle.machine.specs.Words.{machineOf}
 use Rattle.machine.specs.declared.Position.{Position}
 use Rattle.effect.specs.Apply.{apply, stopNumber, reported, reportOn}
-use Rattle.execute.proofs.Groups.{usable-jump, transfers}
+use Rattle.isa.proofs.Groups.{usable-jump, transfers}
 use Rattle.execute.proofs.Tests.{Decoded, decoded, decoded-word, word-in-slot, word-skipped, word-performed}
 use Rattle.execute.proofs.jump_word.Statement.{statement}
 use Rattle.execute.proofs.jump_word.Tie as tie

@@ -9,7 +9,7 @@ use Rattle.isa.specs.Operation.{operationOf, Properties, properties}
 use Rattle.machine.specs.Machine.{Machine, widthOf}
 use Rattle.machine.specs.Words.{machineOf}
 use Rattle.machine.specs.declared.Position.{Position}
-use Rattle.execute.proofs.Groups.{no-transfer}
+use Rattle.isa.proofs.Groups.{no-transfer}
 use Rattle.execute.proofs.Tests.{Decoded, decoded, decoded-word, word-barred, word-skipped, word-performed}
 use Rattle.execute.proofs.move_word.Statement.{statement}
 use Rattle.execute.proofs.move_word.Tie as tie

@@ -3,7 +3,7 @@ use mathlib.Core.Path.{_≡_, sym, _∙_}
 use native.Mathlib.Omega.{arith}
 use denote.Ref.{now}
 use borrow.Author.Needs.{needs}
-use Rattle.execute.proofs.Groups.{unknown-code}
+use Rattle.isa.proofs.Groups.{unknown-code}
 use Rattle.execute.proofs.Tests.{decoded-word, word-barred}
 use Rattle.execute.proofs.upper_half.Statement.{statement}
 use Rattle.execute.proofs.upper_half.Tie as tie

@@ -1,57 +1,35 @@
 -- `isa::holds` meets its contract. Assumes nothing.
-use mathlib.Core.Path.{_≡_, refl}
-use mathlib.Core.Bool.{Bool, true, false}
+use mathlib.Core.Path.{_≡_}
 use Prim.Native.Nat.{ℕ, _≤_, _<_}
 use native.Mathlib.Nat.{div-one}
 use native.Mathlib.Omega.{arith}
 use lib.Dec.{ltb}
 use lib.ListN.{List·getD-eq-default}
 use borrow.Author.Tests.{ltb-true, ltb-false}
+use Rattle.word.proofs.Tests.{either}
+use Rattle.word.proofs.Ranges.{past}
 use Rattle.isa.specs.Condition.{nc, conditions, conditionOf}
 use Rattle.isa.specs.Computed.{instructions}
-use Rattle.isa.proofs.Table.{past}
 use Rattle.isa.proofs.holds.Statement.{statement}
 use Rattle.isa.proofs.holds.Tie as tie
 
 last : (n : ℕ) → 7 ≤ n → conditionOf n ≡ nc
 unfolding conditionOf conditions
-last n l = go (ltb n 8) refl
-  where
-    go : (b : Bool) → ltb n 8 ≡ b → conditionOf n ≡ nc
-    go true t = let h : n < 8 = ltb-true n 8 t in let e : n ≡ 7 = omega arith in rw e
-    go false t = List·getD-eq-default conditions nc (ltb-false n 8 t)
-
-returns : tie.Need-returns
-unfolding instructions
-returns c = rw (c .match .keys1) (simp div-one)
-
-returns-2 : tie.Need-returns-2
-unfolding instructions
-returns-2 c = rw (c .match .keys2)
-
-returns-3 : tie.Need-returns-3
-unfolding instructions
-returns-3 c = rw (c .match .keys3)
-
-returns-4 : tie.Need-returns-4
-unfolding instructions
-returns-4 c = rw (c .match .keys4)
-
-returns-5 : tie.Need-returns-5
-unfolding instructions
-returns-5 c = rw (c .match .keys5)
-
-returns-6 : tie.Need-returns-6
-unfolding instructions
-returns-6 c = rw (c .match .keys6)
-
-returns-7 : tie.Need-returns-7
-unfolding instructions
-returns-7 c = rw (c .match .keys7)
-
-returns-8 : tie.Need-returns-8
-unfolding instructions
-returns-8 c = rw (last (c .before .args .n) (past 7 (c .before .args .n) (c .match .rest))) (simp div-one)
+last n l =
+    either (ltb n 8)
+    (λ t. let h : n < 8 = ltb-true n 8 t in let e : n ≡ 7 = omega arith in rw e)
+    (λ t. List·getD-eq-default conditions nc (ltb-false n 8 t))
 
 pub holds-spec : {M : Type 1} → statement M
-holds-spec = tie.close (tie.spec returns returns-2 returns-3 returns-4 returns-5 returns-6 returns-7 returns-8)
+unfolding instructions
+holds-spec =
+    tie.close
+    (tie.spec
+    (λ c. rw (c .match .keys1) (simp div-one))
+    (λ c. rw (c .match .keys2))
+    (λ c. rw (c .match .keys3))
+    (λ c. rw (c .match .keys4))
+    (λ c. rw (c .match .keys5))
+    (λ c. rw (c .match .keys6))
+    (λ c. rw (c .match .keys7))
+    (λ c. rw (last (c .before .args .n) (past 0 7 (c .before .args .n) (c .match .rest) (omega arith))) (simp div-one)))

@@ -4,8 +4,5 @@ use Rattle.isa.proofs.Rules.{conditional-is}
 use Rattle.isa.proofs.is_conditional.Statement.{statement}
 use Rattle.isa.proofs.is_conditional.Tie as tie
 
-returns : tie.Need-returns
-returns c = sym (conditional-is (c .args .op))
-
 pub is-conditional-spec : {M : Type 1} → statement M
-is-conditional-spec = tie.close (tie.spec returns)
+is-conditional-spec = tie.close (tie.spec (λ c. sym (conditional-is (c .args .op))))

@@ -4,8 +4,5 @@ use Rattle.isa.proofs.Rules.{transfer-is}
 use Rattle.isa.proofs.is_transfer.Statement.{statement}
 use Rattle.isa.proofs.is_transfer.Tie as tie
 
-returns : tie.Need-returns
-returns c = sym (transfer-is (c .args .op))
-
 pub is-transfer-spec : {M : Type 1} → statement M
-is-transfer-spec = tie.close (tie.spec returns)
+is-transfer-spec = tie.close (tie.spec (λ c. sym (transfer-is (c .args .op))))

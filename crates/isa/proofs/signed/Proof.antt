@@ -1,5 +1,4 @@
 -- `isa::signed` meets its contract. Assumes nothing.
-use mathlib.Core.Path.{_≡_}
 use mir.Syntax.{w32}
 use borrow.Author.Needs.{needs}
 use Rattle.word.proofs.Integers.{back}

@@ -1,6 +1,6 @@
 -- `word::is_outside` meets its contract: by the sign. Assumes nothing.
-use mathlib.Core.Path.{_≡_, refl, sym}
-use mathlib.Core.Bool.{Bool, true, false, _||_}
+use mathlib.Core.Path.{_≡_, sym}
+use mathlib.Core.Bool.{true, false, or-false}
 use lib.IntN.{ℤ, pos, negsuc}
 use lib.Signed.{ltZ}
 use mir.Facts.{toZ-ofZ}
@@ -8,10 +8,6 @@ use Rattle.word.specs.Arithmetic.{outside}
 use Rattle.word.proofs.Integers.{is-negative, is-natural}
 use Rattle.word.proofs.is_outside.Statement.{statement}
 use Rattle.word.proofs.is_outside.Tie as tie
-
-or-false : (b : Bool) → (b || false) ≡ b
-or-false true = refl
-or-false false = refl
 
 low : (z : ℤ) → ltZ z (pos 0) ≡ true → ltZ z (negsuc 2147483647) ≡ outside z
 low z t = rw (is-negative z t) (sym (or-false _))

@@ -6,12 +6,12 @@ use mir.Syntax.{w32, w64}
 use mir.Val.{SFits}
 use mir.Facts.{toZ-ofZ, toZ-pos}
 use borrow.Author.Needs.{needs}
-use Rattle.word.proofs.Integers.{wide-fits, wide-is, sum-fits, product-fits, abs-mul, size}
+use Rattle.word.proofs.Integers.{wide-fits, wide-is, sum-fits, product-fits, abs-mul, abs-most}
 use Rattle.word.proofs.jump_target.Statement.{statement}
 use Rattle.word.proofs.jump_target.Tie as tie
 
 twice : {x : ℤ} → SFits w32 x → natAbs (x *ℤ pos 2) ≤ 2 ^ 32
-twice {x} f = rw (abs-mul x (pos 2)) (omega (arith, size f))
+twice {x} f = rw (abs-mul x (pos 2)) (omega (arith, abs-most f))
 
 cast-result-2 : tie.Need-cast-result-2
 cast-result-2 c = wide-fits (c .fits .x)
@@ -19,7 +19,7 @@ cast-result-2 c = wide-fits (c .fits .x)
 mul-result : tie.Need-mul-result
 mul-result c =
     rw (wide-is (c .fits .x))
-    (product-fits (c .args .x) (pos 2) (2 ^ 31) 2 (size (c .fits .x)) (omega arith) tt)
+    (product-fits (c .args .x) (pos 2) (2 ^ 31) 2 (abs-most (c .fits .x)) (omega arith) tt)
 
 add-result : tie.Need-add-result
 add-result c =

@@ -5,7 +5,7 @@ use lib.IntN.{pos}
 use mir.Syntax.{w64}
 use mir.Facts.{toZ-ofZ, toZ-pos}
 use borrow.Author.Needs.{needs}
-use Rattle.word.proofs.Integers.{wide-fits, wide-is, sum-fits, size}
+use Rattle.word.proofs.Integers.{wide-fits, wide-is, sum-fits, abs-most}
 use Rattle.word.proofs.offset_by.Statement.{statement}
 use Rattle.word.proofs.offset_by.Tie as tie
 
@@ -15,7 +15,7 @@ cast-result-2 c = wide-fits (c .fits .x)
 add-result : tie.Need-add-result
 add-result c =
     rw (toZ-pos w64 {n = c .args .a} (omega arith), wide-is (c .fits .x))
-    (sum-fits (pos (c .args .a)) (c .args .x) (2 ^ 32 - 1) (2 ^ 31) (omega arith) (size (c .fits .x)) tt)
+    (sum-fits (pos (c .args .a)) (c .args .x) (2 ^ 32 - 1) (2 ^ 31) (omega arith) (abs-most (c .fits .x)) tt)
 
 returns : tie.Need-returns
 returns c = rw (toZ-ofZ (add-result c), toZ-pos w64 {n = c .args .a} (omega arith), wide-is (c .fits .x))

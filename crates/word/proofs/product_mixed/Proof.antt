@@ -5,7 +5,7 @@ use lib.IntN.{pos}
 use mir.Syntax.{w64}
 use mir.Facts.{toZ-ofZ, toZ-pos}
 use borrow.Author.Needs.{needs}
-use Rattle.word.proofs.Integers.{wide-fits, wide-is, product-fits, size}
+use Rattle.word.proofs.Integers.{wide-fits, wide-is, product-fits, abs-most}
 use Rattle.word.proofs.product_mixed.Statement.{statement}
 use Rattle.word.proofs.product_mixed.Tie as tie
 
@@ -15,7 +15,7 @@ cast-result-2 c = wide-fits (c .fits .y)
 mul-result : tie.Need-mul-result
 mul-result c =
     rw (toZ-pos w64 {n = c .args .a} (omega arith), wide-is (c .fits .y))
-    (product-fits (pos (c .args .a)) (c .args .y) (2 ^ 32 - 1) (2 ^ 31) (omega arith) (size (c .fits .y)) tt)
+    (product-fits (pos (c .args .a)) (c .args .y) (2 ^ 32 - 1) (2 ^ 31) (omega arith) (abs-most (c .fits .y)) tt)
 
 returns : tie.Need-returns
 returns c = rw (toZ-ofZ (mul-result c), toZ-pos w64 {n = c .args .a} (omega arith), wide-is (c .fits .y))

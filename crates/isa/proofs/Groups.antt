@@ -3,15 +3,10 @@ use mathlib.Core.Path.{_≡_, refl}
 use mathlib.Core.Bool.{Bool, true, false}
 use Prim.Native.Nat.{ℕ, _≤_, _<_}
 use native.Mathlib.Omega.{arith}
-use Rattle.isa.specs.Operation.{operationOf, Width, w16, w32, unavailable, codeOf, Properties, properties}
+use Rattle.isa.specs.Operation.{operationOf, Width, w16, w32, Properties, properties}
 use Rattle.isa.specs.Computed.{instructions}
 use Rattle.isa.proofs.Table.{values, agree, unknown-from}
-
--- ---- the tests that a group's operations have
-
--- the code of the exception where an operation may not be used
-abbrev pub codeAt : Width → (user : Bool) (n : ℕ) → ℕ
-codeAt width user n = codeOf (unavailable (properties (operationOf n) .availability) width user)
+use Rattle.isa.proofs.Rules.{codeAt}
 
 -- nop to cmpi may be used anywhere
 pub usable-low : (width : Width) (user : Bool) (n : ℕ) → n < 34 → codeAt width user n ≡ 0

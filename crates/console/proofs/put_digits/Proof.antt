@@ -1,19 +1,19 @@
--- `put_number` meets its contract: each turn of the loop writes one digit more, the lowest of those that are left. Assumes nothing.
+-- `put_digits` meets its contract: each turn of the loop writes one digit more, the lowest of those that are left. Assumes nothing.
 use mathlib.Core.Path.{_≡_, sym, _∙_}
 use Prim.Native.Nat.{_≤_}
 use native.Mathlib.Nat.{mod-lt}
 use native.Mathlib.Omega.{arith}
 use lib.ListN.{length, length-set}
 use borrow.Author.Needs.{needs}
-use Rattle.codec.specs.Number.{stored}
+use Rattle.codec.specs.Number.{putAt}
 use Rattle.console.specs.Digits.{digitsOf}
-use Rattle.console.proofs.Digits.{length-digitsOf, stored-last, digits-done, digit-more}
-use Rattle.console.proofs.put_number.Statement.{statement}
-use Rattle.console.proofs.put_number.Tie as tie
+use Rattle.console.proofs.Digits.{length-digitsOf, putAt-last, digits-done, digit-more}
+use Rattle.console.proofs.put_digits.Statement.{statement}
+use Rattle.console.proofs.put_digits.Tie as tie
 
 abbrev Inv-loop : tie.InvT-loop
 Inv-loop line₀ at base count n end i₀ rest₀ line i rest =
-    (i ≤ count) × ((length line ≡ length line₀) × (stored line at (digitsOf base i rest) ≡ stored line₀ at (digitsOf base count n)))
+    (i ≤ count) × ((length line ≡ length line₀) × (putAt line at (digitsOf base i rest) ≡ putAt line₀ at (digitsOf base count n)))
 
 abbrev μ-loop : tie.MeasureT-loop
 μ-loop line₀ at base count n end i₀ rest₀ line i rest = i
@@ -47,10 +47,10 @@ returns c =
     let at-loop = c .before .loop in
     sym (digits-done (at-loop .line) (args .at) (args .base) (at-loop .i) (at-loop .rest) (c .loop-test .left))
     ∙ at-loop .inv .1 .1
-    ∙ stored-last (args .line .now) (args .at) _ (args .end) (args .count) (length-digitsOf (args .base) (args .count) (args .n)) (omega arith)
+    ∙ putAt-last (args .line .now) (args .at) _ (args .end) (args .count) (length-digitsOf (args .base) (args .count) (args .n)) (omega arith)
 
-pub put-number-spec : {M : Type 1} → statement M
-put-number-spec =
+pub put-digits-spec : {M : Type 1} → statement M
+put-digits-spec =
     tie.close
     (tie.spec
     Inv-loop

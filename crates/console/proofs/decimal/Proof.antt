@@ -1,17 +1,17 @@
--- `number` meets its contract: each turn of the loop reads one digit more. Assumes nothing.
+-- `decimal` meets its contract: each turn of the loop reads one digit more. Assumes nothing.
 use mathlib.Core.Bool.{true}
 use mathlib.Core.Path.{_≡_, sym, _∙_}
 use Prim.Native.Nat.{ℕ, _≤_, _<_, _-_, _^_}
 use native.Mathlib.Omega.{arith}
 use lib.ListN.{length, getD, drop}
 use borrow.Author.Needs.{needs}
-use Rattle.console.specs.Limit.{isDigit, numberFrom, numberOf}
+use Rattle.console.specs.Limit.{isDigit, decimalFrom, decimalOf}
 use Rattle.console.proofs.Limits.{digit-bounds, value-lt, value-small, number-short, number-long, number-read, number-more, number-other, number-end}
-use Rattle.console.proofs.number.Statement.{statement}
-use Rattle.console.proofs.number.Tie as tie
+use Rattle.console.proofs.decimal.Statement.{statement}
+use Rattle.console.proofs.decimal.Tie as tie
 
 abbrev Inv-loop : tie.InvT-loop
-Inv-loop text value₀ i₀ i-end value i = (i ≤ length text) × ((value < 10 ^ i) × (numberFrom value (drop i text) ≡ numberOf text))
+Inv-loop text value₀ i₀ i-end value i = (i ≤ length text) × ((value < 10 ^ i) × (decimalFrom value (drop i text) ≡ decimalOf text))
 
 abbrev μ-loop : tie.MeasureT-loop
 μ-loop text value₀ i₀ i-end value i = length text - i
@@ -70,8 +70,8 @@ loop-again c =
 returns-4 : tie.Need-returns-4 Inv-loop μ-loop
 returns-4 c = sym (number-end _ _ (c .before .loop .value) (c .loop-test .left)) ∙ c .before .loop .inv .1 .1
 
-pub number-spec : {M : Type 1} → statement M
-number-spec =
+pub decimal-spec : {M : Type 1} → statement M
+decimal-spec =
     tie.close
     (tie.spec
     Inv-loop
