@@ -34,11 +34,11 @@ use Rattle.runner.specs.Report.{zeroCells, pcOf, answerText, callOf, out
 -- ---- the report is that of a run call
 
 -- what a run call from reset answers and leaves is what is reported
-pub reported : (code text image : List ℕ) (limit : ℕ) (a : Answer) (buffer cells : List ℕ) → image ≡ writeImage reset → limit ≡ limitOf text
+pub report-is : (code text image : List ℕ) (limit : ℕ) (a : Answer) (buffer cells : List ℕ) → image ≡ writeImage reset → limit ≡ limitOf text
     → outcome a buffer cells ≡ runCall code image zeroCells (record { requests = []; limit = limit; buffer = replicate 708 0 })
     → answerText a buffer ≡ reportOf code text
 unfolding callOf outcomeOf reportOf
-reported code text image limit a buffer cells i l e =
+report-is code text image limit a buffer cells i l e =
     let o : outcome a buffer cells ≡ outcomeOf code text = e ∙ rw (i, l) in
     ap (λ (x : Outcome). answerText (x .answer) (x .buffer)) o
 

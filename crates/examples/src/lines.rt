@@ -1,0 +1,40 @@
+// Lines and words of a text, and numbers in them.
+ghost use Prim.Native.Nat.{_<_, _≤_};
+ghost use lib.ListN.{length};
+
+// Where a character that is at most `last` stands first from a place on: b' ' ends a word, b'\n' a line.
+pub fn end_of(text: &[u8], from: usize, last: u8) -> usize
+    requires { ⌜ from ≤ length (now text) ⌝ }
+    ensures { λ r. ⌜ (from ≤ r) × (r ≤ length (now (text .entry))) ⌝ }
+{
+    let mut i = from;
+    while i < text.len() {
+        if text[i] <= last {
+            return i;
+        }
+        i += 1;
+    }
+    i
+}
+
+// The value of a digit, of which the letters are capitals; 0 of any other character.
+fn digit(b: u8) -> u32
+    ensures { λ r. ⌜ r < 16 ⌝ }
+{
+    match b {
+        48..=57 => (b - 48) as u32,
+        65..=70 => (b - 55) as u32,
+        _ => 0,
+    }
+}
+
+// The number that digits say in a base up to 16; of one beyond 32 bits the lowest 8 hexadecimal digits at most.
+pub fn number(text: &[u8], base: u32) -> u32
+    requires { ⌜ base ≤ 16 ⌝ }
+{
+    let mut value: u32 = 0;
+    for i in 0..text.len() {
+        value = value % 0x1000_0000 * base + digit(text[i]);
+    }
+    value
+}
