@@ -1,4 +1,4 @@
-// Lines and words of a text, and numbers in them.
+// The lines and words of a text, and hexadecimal numbers.
 ghost use Prim.Native.Nat.{_<_, _≤_};
 ghost use lib.ListN.{length};
 
@@ -17,7 +17,7 @@ pub fn end_of(text: &[u8], from: usize, last: u8) -> usize
     i
 }
 
-// The value of a digit, of which the letters are capitals; 0 of any other character.
+// The value of a hexadecimal digit; 0 of any other character.
 fn digit(b: u8) -> u32
     ensures { λ r. ⌜ r < 16 ⌝ }
 {
@@ -28,13 +28,11 @@ fn digit(b: u8) -> u32
     }
 }
 
-// The number that digits say in a base up to 16; of one beyond 32 bits the lowest 8 hexadecimal digits at most.
-pub fn number(text: &[u8], base: u32) -> u32
-    requires { ⌜ base ≤ 16 ⌝ }
-{
+// The number that hexadecimal digits say, of which the last eight count.
+pub fn number(text: &[u8]) -> u32 {
     let mut value: u32 = 0;
     for i in 0..text.len() {
-        value = value % 0x1000_0000 * base + digit(text[i]);
+        value = value % 0x1000_0000 * 16 + digit(text[i]);
     }
     value
 }

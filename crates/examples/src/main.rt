@@ -15,11 +15,11 @@ fn put_word(line: &[u8], program: &mut [u8; 256]) -> usize
     if line.len() < 11 {
         return 0;
     }
-    let at = number(&line[..2], 16) as usize;
+    let at = number(&line[0..2]) as usize;
     if 252 < at {
         return 0;
     }
-    codec::put_number(program, at, number(&line[3..11], 16));
+    codec::put_number(program, at, number(&line[3..11]));
     at + 4
 }
 
@@ -28,14 +28,14 @@ fn put_request(line: &[u8], requests: &mut [u32; 16]) {
     if line.len() < 7 {
         return;
     }
-    let step = number(&line[1..3], 10) as usize;
+    let step = console::limit_of(&line[1..3]) as usize;
     if step < 1 {
         return;
     }
     if 16 < step {
         return;
     }
-    requests[step - 1] = number(&line[4..7], 16);
+    requests[step - 1] = number(&line[4..7]);
 }
 
 // Reads the examples line by line.
@@ -46,19 +46,26 @@ fn examples(text: &[u8], names: &[u8]) {
     let mut title: usize = 0;
     let mut at: usize = 0;
     while at < text.len() {
-        let end = end_of(text, at, b'\n');
-        let kind = text[at];
-        if b'a' <= kind {
-            title = at;
-            requests = [0u32; 16];
-        } else if kind == b'>' {
-            show::example(text, title, &text[at..end], names, &program[..size], &requests);
-        } else if kind == b'@' {
-            put_request(&text[at..end], &mut requests);
-        } else if b'0' <= kind {
-            size = put_word(&text[at..end], &mut program);
-        }
+        let start = at;
+        let end = end_of(text, start, b'\n');
         at = end + 1;
+        let kind = text[start];
+        if b'a' <= kind {
+            title = start;
+            requests = [0u32; 16];
+            continue;
+        }
+        if kind == b'>' {
+            show::example(text, title, &text[start..end], names, &program, size, &requests);
+            continue;
+        }
+        if kind == b'@' {
+            put_request(&text[start..end], &mut requests);
+            continue;
+        }
+        if b'0' <= kind {
+            size = put_word(&text[start..end], &mut program);
+        }
     }
 }
 

@@ -33,7 +33,7 @@ fn print_named(name: &[u8], names: &[u8], buffer: &[u8])
 {
     if check::same(name, b"image") {
         let reset = runner::reset_image();
-        print_value(check::same(&reset[..516], &buffer[..516]) as u32);
+        print_value(check::same(&reset[0..516], &buffer[0..516]) as u32);
         return;
     }
     let at = place(names, name);
@@ -63,20 +63,21 @@ fn print_values(line: &[u8], from: usize, names: &[u8], buffer: &[u8])
 }
 
 // Runs a program for the steps that a line says, and prints the example's name, what the names in the line say, and what the run program would print.
-pub fn example(text: &[u8], title: usize, line: &[u8], names: &[u8], program: &[u8], requests: &[u32])
-    requires { ⌜ title ≤ length (now text) ⌝ }
+pub fn example(text: &[u8], title: usize, line: &[u8], names: &[u8], program: &[u8; 256], size: usize, requests: &[u32; 16])
+    requires { ⌜ (title ≤ length (now text)) × (size ≤ 256) ⌝ }
 {
     if line.len() < 2 {
         return;
     }
     let end = end_of(line, 2, b' ');
+    let memory = &program[..];
     let mut cells = [0u32; 16];
     let image = runner::reset_image();
     let mut buffer = [0u8; 708];
     let answer = emulator::run(
-        program,
+        &memory[0..size],
         &mut cells,
-        &image[..516],
+        &image[0..516],
         requests,
         console::limit_of(&line[2..end]),
         &mut buffer,
