@@ -56,7 +56,15 @@ fn examples(text: &[u8], names: &[u8]) {
             continue;
         }
         if kind == b'>' {
-            show::example(text, title, &text[start..end], names, &program, size, &requests);
+            show::example(
+                text,
+                title,
+                &text[start..end],
+                names,
+                &program,
+                size,
+                &requests,
+            );
             continue;
         }
         if kind == b'@' {

@@ -63,7 +63,15 @@ fn print_values(line: &[u8], from: usize, names: &[u8], buffer: &[u8])
 }
 
 // Runs a program for the steps that a line says, and prints the example's name, what the names in the line say, and what the run program would print.
-pub fn example(text: &[u8], title: usize, line: &[u8], names: &[u8], program: &[u8; 256], size: usize, requests: &[u32; 16])
+pub fn example(
+    text: &[u8],
+    title: usize,
+    line: &[u8],
+    names: &[u8],
+    program: &[u8; 256],
+    size: usize,
+    requests: &[u32; 16],
+)
     requires { ⌜ (title ≤ length (now text)) × (size ≤ 256) ⌝ }
 {
     if line.len() < 2 {
