@@ -1,5 +1,6 @@
 // Runs an example from reset, and prints a line of it.
 use crate::lines::end_of;
+use emulator::Answer;
 use libc::STDOUT_FILENO;
 ghost use mathlib.Core.Path.{_≡_};
 ghost use Prim.Native.Nat.{_≤_};
@@ -27,32 +28,30 @@ fn print_value(x: u32) {
     io::write_all(STDOUT_FILENO, &text);
 }
 
+// Whether the image at the front of a buffer is that at reset.
+fn is_reset(buffer: &[u8]) -> bool
+    requires { ⌜ length (now buffer) ≡ 708 ⌝ }
+{
+    let reset = runner::reset_image();
+    check::same(&reset[0..516], &buffer[0..516])
+}
+
 // Prints what a name says of an image at the front of a buffer: a number of it, or whether it is that at reset. A name that is not known says nothing.
 fn print_named(name: &[u8], names: &[u8], buffer: &[u8])
     requires { ⌜ length (now buffer) ≡ 708 ⌝ }
 {
-    if check::same(name, b"image") {
-        let reset = runner::reset_image();
-        print_value(check::same(&reset[0..516], &buffer[0..516]) as u32);
-        return;
-    }
     let at = place(names, name);
     if at < 177 {
         print_value(codec::number_at(buffer, 4 * at));
+    } else if check::same(name, b"image") {
+        print_value(is_reset(buffer) as u32);
     }
 }
 
-// Prints the names that stand in a line from a place on, each after a blank, and then what they say.
+// Prints what the names say that stand in a line from a place on, each after a blank.
 fn print_values(line: &[u8], from: usize, names: &[u8], buffer: &[u8])
     requires { ⌜ (from ≤ length (now line)) × (length (now buffer) ≡ 708) ⌝ }
 {
-    if from == line.len() {
-        io::write_all(STDOUT_FILENO, b" ");
-        return;
-    }
-    io::write_all(STDOUT_FILENO, b",");
-    io::write_all(STDOUT_FILENO, &line[from..]);
-    io::write_all(STDOUT_FILENO, b": ");
     let mut at = from;
     while at < line.len() {
         let start = at + 1;
@@ -60,6 +59,49 @@ fn print_values(line: &[u8], from: usize, names: &[u8], buffer: &[u8])
         print_named(&line[start..end], names, buffer);
         at = end;
     }
+}
+
+// Prints the line of a text that starts at a place: an example's name.
+fn print_title(text: &[u8], title: usize)
+    requires { ⌜ title ≤ length (now text) ⌝ }
+{
+    let end = end_of(text, title, b'\n');
+    io::write_all(STDOUT_FILENO, &text[title..end]);
+}
+
+// Prints the names that stand in a line from a place on.
+fn print_names(line: &[u8], from: usize)
+    requires { ⌜ from ≤ length (now line) ⌝ }
+{
+    if from < line.len() {
+        io::write_all(STDOUT_FILENO, b",");
+        io::write_all(STDOUT_FILENO, &line[from..]);
+        io::write_all(STDOUT_FILENO, b":");
+    }
+    io::write_all(STDOUT_FILENO, b" ");
+}
+
+// Runs a program from reset, with sixteen zero cells; the new image is at the buffer's front.
+fn run(
+    program: &[u8; 256],
+    size: usize,
+    requests: &[u32; 16],
+    limit: u32,
+    buffer: &mut [u8],
+) -> Answer
+    requires { ⌜ size ≤ 256 ⌝ }
+{
+    let memory = &program[..];
+    let mut cells = [0u32; 16];
+    let image = runner::reset_image();
+    emulator::run(
+        &memory[0..size],
+        &mut cells,
+        &image[0..516],
+        requests,
+        limit,
+        buffer,
+    )
 }
 
 // Runs a program for the steps that a line says, and prints the example's name, what the names in the line say, and what the run program would print.
@@ -78,20 +120,16 @@ pub fn example(
         return;
     }
     let end = end_of(line, 2, b' ');
-    let memory = &program[..];
-    let mut cells = [0u32; 16];
-    let image = runner::reset_image();
     let mut buffer = [0u8; 708];
-    let answer = emulator::run(
-        &memory[0..size],
-        &mut cells,
-        &image[0..516],
+    let answer = run(
+        program,
+        size,
         requests,
         console::limit_of(&line[2..end]),
         &mut buffer,
     );
-    let title_end = end_of(text, title, b'\n');
-    io::write_all(STDOUT_FILENO, &text[title..title_end]);
+    print_title(text, title);
+    print_names(line, end);
     print_values(line, end, names, &buffer);
     io::write_all(STDOUT_FILENO, b"| ");
     runner::print(runner::line(answer, &buffer));
