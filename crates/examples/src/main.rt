@@ -2,9 +2,7 @@
 mod lines;
 mod show;
 
-ghost use mathlib.Core.Path.{_≡_};
-ghost use Prim.Native.Nat.{_<_, _≤_};
-ghost use lib.ListN.{length};
+ghost use Prim.Native.Nat.{_≤_};
 use lines::end_of;
 use lines::number;
 
