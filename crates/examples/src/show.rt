@@ -1,61 +1,136 @@
 // Runs an example from reset, and prints a line of it.
+use crate::lines::end_of;
 use emulator::Answer;
 use libc::STDOUT_FILENO;
 ghost use mathlib.Core.Path.{_≡_};
 ghost use Prim.Native.Nat.{_≤_};
 ghost use lib.ListN.{length};
 
-// Runs instruction words from reset, with sixteen zero cells; the new image is at the buffer's front.
-pub fn run(code: &[u32], requests: &[u32], limit: u32, buffer: &mut [u8]) -> Answer
-    requires { ⌜ length (now code) ≤ 64 ⌝ }
+// Where a name stands in image.txt, after its first line: its number in an image. 177, past every image, when it is not there.
+fn place(names: &[u8], name: &[u8]) -> usize {
+    let mut at = end_of(names, 0, b'\n') + 1;
+    let mut k: usize = 0;
+    while at < names.len() {
+        let end = end_of(names, at, b' ');
+        if check::same(&names[at..end], name) {
+            return k;
+        }
+        at = end + 1;
+        k += 1;
+    }
+    177
+}
+
+// Prints a number in 8 hex digits and a blank.
+fn print_value(x: u32) {
+    let mut text = [0u8; 9];
+    console::put_digits(&mut text, 0, 16, 8, x, b' ');
+    io::write_all(STDOUT_FILENO, &text);
+}
+
+// Whether the image at the front of a buffer is that at reset.
+fn is_reset(buffer: &[u8]) -> bool
+    requires { ⌜ length (now buffer) ≡ 708 ⌝ }
 {
-    let mut program = [0u8; 256];
-    codec::write_numbers(code, &mut program);
-    let n = 4 * code.len();
+    let reset = runner::reset_image();
+    check::same(&reset[0..516], &buffer[0..516])
+}
+
+// Prints what a name says of an image at the front of a buffer: a number of it, or whether it is that at reset. A name that is not known says nothing.
+fn print_named(name: &[u8], names: &[u8], buffer: &[u8])
+    requires { ⌜ length (now buffer) ≡ 708 ⌝ }
+{
+    let at = place(names, name);
+    if at < 177 {
+        print_value(codec::number_at(buffer, 4 * at));
+    } else if check::same(name, b"image") {
+        print_value(is_reset(buffer) as u32);
+    }
+}
+
+// Prints what the names say that stand in a line from a place on, each after a blank.
+fn print_values(line: &[u8], from: usize, names: &[u8], buffer: &[u8])
+    requires { ⌜ (from ≤ length (now line)) × (length (now buffer) ≡ 708) ⌝ }
+{
+    let mut at = from;
+    while at < line.len() {
+        let start = at + 1;
+        let end = end_of(line, start, b' ');
+        print_named(&line[start..end], names, buffer);
+        at = end;
+    }
+}
+
+// Prints the line of a text that starts at a place: an example's name.
+fn print_title(text: &[u8], title: usize)
+    requires { ⌜ title ≤ length (now text) ⌝ }
+{
+    let end = end_of(text, title, b'\n');
+    io::write_all(STDOUT_FILENO, &text[title..end]);
+}
+
+// Prints the names that stand in a line from a place on.
+fn print_names(line: &[u8], from: usize)
+    requires { ⌜ from ≤ length (now line) ⌝ }
+{
+    if from < line.len() {
+        io::write_all(STDOUT_FILENO, b",");
+        io::write_all(STDOUT_FILENO, &line[from..]);
+        io::write_all(STDOUT_FILENO, b":");
+    }
+    io::write_all(STDOUT_FILENO, b" ");
+}
+
+// Runs a program from reset, with sixteen zero cells; the new image is at the buffer's front.
+fn run(
+    program: &[u8; 256],
+    size: usize,
+    requests: &[u32; 16],
+    limit: u32,
+    buffer: &mut [u8],
+) -> Answer
+    requires { ⌜ size ≤ 256 ⌝ }
+{
+    let memory = &program[..];
     let mut cells = [0u32; 16];
     let image = runner::reset_image();
     emulator::run(
-        &program[..n],
+        &memory[0..size],
         &mut cells,
-        &image[..516],
+        &image[0..516],
         requests,
         limit,
         buffer,
     )
 }
 
-// Prints a number in 8 hex digits and a blank.
-pub fn print_value(x: u32) {
-    let mut text = [0u8; 9];
-    console::put_digits(&mut text, 0, 16, 8, x, b' ');
-    io::write_all(STDOUT_FILENO, &text);
-}
-
-// Prints the numbers of an image at some places; a place past them prints nothing.
-fn print_values(image: &[u8], places: &[usize]) {
-    for i in 0..places.len() {
-        let at = places[i];
-        if at < image.len() / 4 {
-            print_value(codec::number_at(image, 4 * at));
-        }
+// Runs a program for the steps that a line says, and prints the example's name, what the names in the line say, and what the run program would print.
+pub fn example(
+    text: &[u8],
+    title: usize,
+    line: &[u8],
+    names: &[u8],
+    program: &[u8; 256],
+    size: usize,
+    requests: &[u32; 16],
+)
+    requires { ⌜ (title ≤ length (now text)) × (size ≤ 256) ⌝ }
+{
+    if line.len() < 2 {
+        return;
     }
-}
-
-// Prints the end of an example's line: what the run program would print.
-pub fn print_end(answer: Answer, buffer: &[u8])
-    requires { ⌜ length (now buffer) ≡ 708 ⌝ }
-{
-    io::write_all(STDOUT_FILENO, b"| ");
-    runner::print(runner::line(answer, buffer));
-}
-
-// Prints an example's line: its name, the numbers at some places of the image that the run leaves, steps, ending and PC.
-pub fn example(name: &[u8], code: &[u32], requests: &[u32], limit: u32, places: &[usize])
-    requires { ⌜ length (now code) ≤ 64 ⌝ }
-{
+    let end = end_of(line, 2, b' ');
     let mut buffer = [0u8; 708];
-    let answer = run(code, requests, limit, &mut buffer);
-    io::write_all(STDOUT_FILENO, name);
-    print_values(&buffer, places);
-    print_end(answer, &buffer);
+    let answer = run(
+        program,
+        size,
+        requests,
+        console::limit_of(&line[2..end]),
+        &mut buffer,
+    );
+    print_title(text, title);
+    print_names(line, end);
+    print_values(line, end, names, &buffer);
+    io::write_all(STDOUT_FILENO, b"| ");
+    runner::print(runner::line(answer, &buffer));
 }

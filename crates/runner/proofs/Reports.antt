@@ -11,7 +11,7 @@ use Rattle.word.specs.Choice.{if_then_else_}
 use Rattle.word.proofs.Tests.{either}
 use Rattle.codec.specs.Number.{numbersOf, over}
 use Rattle.codec.proofs.Laws.{numbersOf-bytesOf, numbersOf-append}
-use Rattle.machine.specs.Machine.{Machine}
+use Rattle.machine.specs.Machine.{Machine, Memory}
 use Rattle.machine.specs.Control.{reset}
 use Rattle.machine.specs.Words.{POSITION, positionOf, machineOf}
 use Rattle.machine.proofs.Flat.{section-at}
@@ -20,7 +20,7 @@ use Rattle.image.specs.Image.{imageNumbers, writeImage}
 use Rattle.image.proofs.Formed.{WellFormed, formed-counts}
 use Rattle.image.proofs.Sections.{machineOf-imageNumbers, length-imageNumbers}
 use Rattle.image.proofs.Image.{length-writeImage, imageNumbers-below, reset-formed, reset-accepted}
-use Rattle.emulator.specs.Run.{Outcome, outcome, runCall, Asked, No, Start, askCall, ask, stateOf, resultFrom}
+use Rattle.emulator.specs.Run.{Outcome, outcome, runCall, No, askCall, ask, asked, stateWith, resultFrom}
 use Rattle.emulator.specs.Closure.{AllYes, Questions}
 use Rattle.emulator.specs.declared.Answer.{Answer}
 use Rattle.emulator.proofs.Closed.{questions, result-formed}
@@ -29,17 +29,17 @@ use Rattle.console.specs.Digits.{newline, digitOf, digitsOf, placesFrom}
 use Rattle.console.specs.Limit.{limitOf}
 use Rattle.console.specs.Line.{ranText, refusalText}
 use Rattle.console.proofs.Limits.{limit-front}
-use Rattle.runner.specs.Report.{zeroCells, pcOf, answerText, callOf, outcomeOf, reportOf}
+use Rattle.runner.specs.Report.{zeroMemory, pcOf, answerText, callOf, outcomeOf, reportOf}
 
 -- ---- the report is that of a run call
 
 -- what a run call from reset answers and leaves is what is reported
-pub reported : (code text image : List ℕ) (limit : ℕ) (a : Answer) (buffer cells : List ℕ) → image ≡ writeImage reset → limit ≡ limitOf text
-    → outcome a buffer cells ≡ runCall code image zeroCells (record { requests = []; limit = limit; buffer = replicate 708 0 })
+pub report-is : (code text image : List ℕ) (limit : ℕ) (a : Answer) (buffer : List ℕ) (memory : Memory) → image ≡ writeImage reset → limit ≡ limitOf text
+    → outcome a buffer memory ≡ runCall code image zeroMemory (record { requests = []; limit = limit; buffer = replicate 708 0 })
     → answerText a buffer ≡ reportOf code text
 unfolding callOf outcomeOf reportOf
-reported code text image limit a buffer cells i l e =
-    let o : outcome a buffer cells ≡ outcomeOf code text = e ∙ rw (i, l) in
+report-is code text image limit a buffer memory i l e =
+    let o : outcome a buffer memory ≡ outcomeOf code text = e ∙ rw (i, l) in
     ap (λ (x : Outcome). answerText (x .answer) (x .buffer)) o
 
 -- limit.txt counts by the limit that it says
@@ -49,12 +49,9 @@ report-by-limit code text other e = rw e
 
 -- ---- refusals
 
-abbrev asked : (code text : List ℕ) → Asked
-asked code text = ask code (writeImage reset) zeroCells (callOf text)
-
-report-refused : (code text : List ℕ) (n : ℕ) → asked code text ≡ No n → reportOf code text ≡ refusalText n
+report-refused : (code text : List ℕ) (n : ℕ) → asked code (writeImage reset) zeroMemory (callOf text) ≡ No n → reportOf code text ≡ refusalText n
 unfolding reportOf outcomeOf answerText
-report-refused code text n e = rw (call-refused code (writeImage reset) zeroCells (callOf text) n e)
+report-refused code text n e = rw (call-refused code (writeImage reset) zeroMemory (callOf text) n e)
 
 -- a program of more than 65,536 bytes is refused before anything else, a bad limit.txt included: `1` and a newline
 pub report-long : (code text : List ℕ) → 65536 < length code → reportOf code text ≡ 49 ∷ newline ∷ []
@@ -96,19 +93,19 @@ module _ (m : Machine) (s : List ℕ) (f : WellFormed m) where
 
 -- steps, ending and PC are those of the run from reset, with no requests
 module _ (code text : List ℕ) (h : length code ≤ 65536) (l : limitOf text ≤ 1000000) where
-  all-yes : AllYes code (writeImage reset) zeroCells (callOf text) reset
+  all-yes : AllYes code (writeImage reset) zeroMemory (callOf text) reset
   unfolding callOf
   all-yes = record { programSize = h; dataSize = lit≤ tt; read = reset-accepted; requests = λ i. lit≤ tt; limit = l; room = lit≤ tt }
 
-  pub report-ran : let e = resultFrom code [] (limitOf text) 0 (stateOf reset zeroCells) in
+  pub report-ran : let e = resultFrom code [] (limitOf text) 0 (stateWith reset zeroMemory) in
       reportOf code text ≡ ranText (e .steps) (e .ending) (e .after .machine .position .pc)
   unfolding reportOf outcomeOf callOf answerText Questions
   report-ran =
-      let e = resultFrom code [] (limitOf text) 0 (stateOf reset zeroCells) in
-      let a = questions code (writeImage reset) zeroCells (callOf text) reset .1 all-yes in
-      let o = call-started code (writeImage reset) zeroCells (callOf text) reset a in
+      let e = resultFrom code [] (limitOf text) 0 (stateWith reset zeroMemory) in
+      let a = questions code (writeImage reset) zeroMemory (callOf text) reset .1 all-yes in
+      let o = call-started code (writeImage reset) zeroMemory (callOf text) reset a in
       ap (λ (x : Outcome). answerText (x .answer) (x .buffer)) o
-      ∙ ap (ranText (e .steps) (e .ending)) (pcOf-image (e .after .machine) (replicate 708 0) (result-formed code [] (limitOf text) (stateOf reset zeroCells) reset-formed))
+      ∙ ap (ranText (e .steps) (e .ending)) (pcOf-image (e .after .machine) (replicate 708 0) (result-formed code [] (limitOf text) (stateWith reset zeroMemory) reset-formed))
 
 -- ---- the bytes that are read
 

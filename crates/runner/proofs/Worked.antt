@@ -6,12 +6,12 @@ use lib.ListN.{getD}
 use lib.Dec.{lit≤}
 use Rattle.codec.specs.Number.{bytesOf}
 use Rattle.machine.specs.Control.{reset, controlAt, EXCEPTION-CS}
-use Rattle.emulator.specs.Run.{stateOf, RunResult, resultFrom}
+use Rattle.emulator.specs.Run.{stateWith, RunResult, resultFrom}
 use Rattle.emulator.specs.Computed.{runs}
 use Rattle.console.specs.Limit.{limitOf}
 use Rattle.console.specs.Computed.{texts}
 use Rattle.console.proofs.Worked.{whole-output}
-use Rattle.runner.specs.Report.{zeroCells, reportOf}
+use Rattle.runner.specs.Report.{zeroMemory, reportOf}
 use Rattle.runner.proofs.Reports.{report-ran}
 
 -- lli PR1, 5; addi PR2, PR1, -1; trap 3
@@ -25,7 +25,7 @@ three = 51 ∷ []
 
 -- what the run leaves
 abbrev pub left : RunResult
-left = resultFrom code [] 3 0 (stateOf reset zeroCells)
+left = resultFrom code [] 3 0 (stateWith reset zeroMemory)
 
 limit-three : limitOf three ≡ 3
 unfolding texts

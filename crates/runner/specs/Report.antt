@@ -3,6 +3,7 @@ use mathlib.Core.List.{List, []}
 use Prim.Native.Nat.{ℕ}
 use lib.ListN.{replicate}
 use Rattle.codec.specs.Number.{numbersOf}
+use Rattle.machine.specs.Machine.{Memory, memoryOf}
 use Rattle.machine.specs.Control.{reset}
 use Rattle.machine.specs.Words.{machineOf}
 use Rattle.image.specs.Image.{writeImage}
@@ -22,8 +23,8 @@ answerText (Refusal n) buffer = refusalText n
 answerText (Ran steps ending) buffer = ranText steps ending (pcOf buffer)
 
 -- "4,096 zero cells"
-abbrev pub zeroCells : List ℕ
-zeroCells = replicate 4096 0
+abbrev pub zeroMemory : Memory
+zeroMemory = memoryOf (replicate 4096 0)
 
 -- "runs without requests", with the limit that limit.txt says and a buffer that is long enough for every image
 unfoldable pub callOf : (text : List ℕ) → Call
@@ -31,7 +32,7 @@ callOf text = record { requests = []; limit = limitOf text; buffer = replicate 7
 
 -- "starts from reset with 4,096 zero cells, reads code.bin and limit.txt (decimal), runs without requests"
 unfoldable pub outcomeOf : (code text : List ℕ) → Outcome
-outcomeOf code text = runCall code (writeImage reset) zeroCells (callOf text)
+outcomeOf code text = runCall code (writeImage reset) zeroMemory (callOf text)
 
 -- what the run program prints, `code` and `text` being the bytes of code.bin and limit.txt
 unfoldable pub reportOf : (code text : List ℕ) → List ℕ

@@ -65,7 +65,7 @@ pub fn report(code: &[u8], text: &[u8]) -> Line
 // ---- files
 
 // Puts a file's bytes at the front of a buffer, and answers how many; a file that cannot be opened counts as empty.
-fn load(path: &[u8], buffer: &mut [u8]) -> usize
+pub fn load(path: &[u8], buffer: &mut [u8]) -> usize
     ensures { λ r. ⌜ Counts r (now (buffer .exit)) ⌝ }
 {
     let fd = os::open_read(path);
@@ -86,11 +86,16 @@ pub fn print(line: Line)
     io::write_all(STDOUT_FILENO, &bytes[..n]);
 }
 
-// Reads code.bin and limit.txt, and prints the report. Of a longer file the bytes that are read say the same.
-pub fn run_files() {
+// Runs the program of one file for the steps that another says, and prints the report. Of a longer file the bytes that are read say the same.
+pub fn run_paths(code_path: &[u8], limit_path: &[u8]) {
     let mut code = [0u8; 65537];
-    let n = load(b"code.bin", &mut code);
+    let n = load(code_path, &mut code);
     let mut text = [0u8; 16];
-    let m = load(b"limit.txt", &mut text);
+    let m = load(limit_path, &mut text);
     print(report(&code[..n], &text[..m]));
+}
+
+// The run program: code.bin and limit.txt of the folder that it is started in.
+pub fn run_files() {
+    run_paths(b"code.bin", b"limit.txt");
 }

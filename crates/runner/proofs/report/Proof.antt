@@ -4,7 +4,7 @@ use lib.ListN.{length}
 use borrow.Author.Needs.{needs}
 use Rattle.console.specs.Line.{lineOf}
 use Rattle.runner.proofs.Buffers.{reset-length}
-use Rattle.runner.proofs.Reports.{reported}
+use Rattle.runner.proofs.Reports.{report-is}
 use Rattle.runner.proofs.report.Statement.{statement}
 use Rattle.runner.proofs.report.Tie as tie
 
@@ -15,7 +15,7 @@ returns : tie.Need-returns
 returns c =
     let called = c .before .before .before .before in
     let started = called .before .before .before .before .before in
-    c .line .ensures ∙ ap lineOf (reported _ _ _ _ _ _ _ (started .before .reset-image .ensures) (started .limit-of .ensures) (called .run .ensures))
+    c .line .ensures ∙ ap lineOf (report-is _ _ _ _ _ _ _ (started .before .reset-image .ensures) (started .limit-of .ensures) (called .run .ensures))
 
 pub report-spec : {M : Type 1} → statement M
 report-spec =
