@@ -5,7 +5,8 @@ use mathlib.Core.List.{List, [], _∷_}
 use Prim.Native.Nat.{ℕ, suc, _≤_, _<_}
 use lib.ListN.{length, getD, getElem?}
 use Rattle.machine.specs.Machine.{Machine, Memory, State}
-use Rattle.image.specs.Image.{Accepted, readImage}
+use Rattle.formed.specs.Questions.{Accepted}
+use Rattle.image.specs.Image.{readImage}
 use Rattle.effect.specs.Apply.{Transition}
 use Rattle.step.specs.Step.{step}
 use Rattle.emulator.specs.Run.{Call, No, Start, asked, stateWith, Called, called, transitions}

@@ -8,8 +8,8 @@ use Rattle.word.specs.Choice.{if_then_else_}
 use Rattle.codec.specs.Number.{over}
 use Rattle.machine.specs.Machine.{Machine, Memory, State}
 use Rattle.machine.specs.Words.{stateOf}
-use Rattle.image.specs.Questions.{allBelow}
-use Rattle.image.specs.Image.{Read, Refused, Accepted, readImage, writeImage}
+use Rattle.formed.specs.Questions.{allBelow, Read, Refused, Accepted}
+use Rattle.image.specs.Image.{readImage, writeImage}
 use Rattle.effect.specs.Apply.{Transition, stopNumber}
 use Rattle.step.specs.Step.{isStop, step}
 use Rattle.emulator.specs.declared.Ended.{Ended}

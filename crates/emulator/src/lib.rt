@@ -4,7 +4,7 @@ ghost use mathlib.Core.Bool.{true};
 ghost use Prim.Native.Nat.{_≤_};
 ghost use lib.ListN.{length, getD};
 ghost use Rattle.machine.specs.Words.{MachineWords, machineOf, stateOf};
-ghost use Rattle.image.specs.Questions.{wellFormed};
+ghost use Rattle.formed.specs.Questions.{wellFormed};
 ghost use Rattle.emulator.specs.Run.{resultFrom, resultBy, ask, askedBy, outcome, runCall};
 ghost use Rattle.emulator.specs.Reset.{resetOutcome, resetCall};
 ghost use Rattle.machine.specs.Machine.{memoryOf};
@@ -61,7 +61,7 @@ fn refusal(
     if read != 0 {
         return read;
     }
-    if !image::all_below(requests, 0x1000) {
+    if !formed::all_below(requests, 0x1000) {
         return 6;
     }
     if MOST_STEPS < limit {

@@ -1,6 +1,6 @@
 -- An image is read back as the machine that it was written from; an accepted one is written again as it was. Assumes nothing.
 use mathlib.Core.Path.{_≡_, refl, sym, ap, _∙_}
-use mathlib.Core.Bool.{Bool, true, false, not}
+use mathlib.Core.Bool.{Bool, true, false}
 use mathlib.Core.List.{List, [], _∷_, _++_, reverseAux}
 use Prim.Native.Nat.{ℕ, zero, suc, _+_, _*_, _^_, _≤_, _<_}
 use native.Mathlib.Omega.{arith}
@@ -17,11 +17,11 @@ use Rattle.machine.specs.Control.{reset}
 use Rattle.machine.specs.Words.{DEPTH, machineOf}
 use Rattle.machine.specs.declared.Position.{Position}
 use Rattle.machine.specs.declared.Entry.{Entry}
-use Rattle.image.specs.Questions.{question3, question4, question5, wellFormed}
-use Rattle.image.specs.Image.{positionNumbers, entryNumbers, imageNumbers, writeImage, sectionTests, question2, Read, Refused, Accepted, askMachine, readImage}
-use Rattle.image.specs.Computed.{images}
-use Rattle.image.proofs.Tests.{Passed, no-more, _also_, all-passed, passed-all}
-use Rattle.image.proofs.Formed.{Placed, Stacked, empty, pushed, stacked-depth, Counts, WellFormed, registers-below, formed-counts, formed-3, formed-4, formed-5, questions-formed, true-formed}
+use Rattle.formed.specs.Questions.{Read, Refused, Accepted, askMachine}
+use Rattle.image.specs.Image.{positionNumbers, entryNumbers, imageNumbers, writeImage, sectionTests, question2, readImage}
+use Rattle.formed.proofs.Tests.{Passed, no-more, _also_, all-passed, passed-all}
+use Rattle.formed.proofs.Asked.{askMachine-formed, machine-asked}
+use Rattle.formed.proofs.Formed.{Placed, Stacked, empty, pushed, stacked-depth, Counts, WellFormed, registers-below, formed-counts, reset-formed}
 use Rattle.image.proofs.Sections.{Counted, counted-imageNumbers, depth-imageNumbers, machineOf-imageNumbers, length-imageNumbers, counts-machineOf, imageNumbers-machineOf}
 
 -- ---- the numbers of a well-formed machine have 32 bits
@@ -96,10 +96,6 @@ writeImage-2 {m} w =
     eq-eqb _ _ (c .position) also
     no-more))
 
-askMachine-formed : {m : Machine} → WellFormed m → askMachine m ≡ Accepted m
-unfolding askMachine if_then_else_
-askMachine-formed w = rw (formed-3 w, formed-4 w, formed-5 w)
-
 -- decode after encode
 pub readImage-writeImage : {m : Machine} → WellFormed m → readImage (writeImage m) ≡ Accepted m
 unfolding readImage if_then_else_
@@ -112,20 +108,6 @@ sections-yes : (b : Bool) (r : Read) (m : Machine) → if_then_else_ b r (Refuse
 unfolding if_then_else_
 sections-yes true r m e = (refl, e)
 sections-yes false r m e = absurd (let z : _≡_ {A = ℕ} 0 1 = cc in omega arith)
-
-question-yes : (b : Bool) (n : ℕ) (r : Read) (m : Machine) → if_then_else_ (not b) (Refused n) r ≡ Accepted m → (b ≡ true) × (r ≡ Accepted m)
-unfolding if_then_else_
-question-yes true n r m e = (refl, e)
-question-yes false n r m e = absurd (let z : _≡_ {A = ℕ} 0 1 = cc in omega arith)
-
-machine-asked : (x m : Machine) → Counts x → askMachine x ≡ Accepted m → (x ≡ m) × WellFormed x
-unfolding askMachine
-machine-asked x m c e =
-    let q₃ = question-yes (question3 x) 3 _ m e in
-    let q₄ = question-yes (question4 x) 4 _ m (q₃ .1) in
-    let q₅ = question-yes (question5 x) 5 _ m (q₄ .1) in
-    let a : Accepted x ≡ Accepted m = q₅ .1 in
-    (cc, questions-formed x c (q₃ .0) (q₄ .0) (q₅ .0))
 
 -- the numbers of an image with its sections
 pub record Sectioned (image : List ℕ) : Type 0 where
@@ -178,13 +160,6 @@ writeImage-readImage image m b e =
     ap bytesOf back ∙ bytesOf-numbersOf image (omega (arith, s .exact)) b
 
 -- ---- reset
-
-pub reset-true : wellFormed reset ≡ true
-unfolding images
-reset-true = refl
-
-pub reset-formed : WellFormed reset
-reset-formed = true-formed reset reset-true
 
 pub reset-accepted : readImage (writeImage reset) ≡ Accepted reset
 reset-accepted = readImage-writeImage reset-formed

@@ -12,7 +12,7 @@ use Rattle.machine.specs.Words.{SET1, SET2, CONDITIONS, CONTROL, POSITION, DEPT
 use Rattle.machine.specs.declared.Entry.{Entry}
 use Rattle.machine.proofs.Flat.{section-length}
 use Rattle.image.specs.Image.{positionNumbers, entryNumbers, imageNumbers, countOf}
-use Rattle.image.proofs.Formed.{Counts}
+use Rattle.formed.proofs.Formed.{Counts}
 
 -- words whose sections have their counts
 pub record Counted (ws : List ℕ) : Type 0 where

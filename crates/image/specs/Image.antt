@@ -1,5 +1,5 @@
 -- The machine image: numbers in sections, each after its count, as bytes (01 "Machine image"). Assumes nothing.
-use mathlib.Core.Bool.{Bool, not}
+use mathlib.Core.Bool.{Bool}
 use mathlib.Core.List.{List, [], _∷_, _++_, reverse}
 use Prim.Native.Nat.{ℕ, zero, suc, _+_, _*_}
 use lib.ListN.{length, getD}
@@ -8,7 +8,7 @@ use Rattle.word.specs.Choice.{if_then_else_}
 use Rattle.codec.specs.Number.{numbersOf, bytesOf}
 use Rattle.machine.specs.Machine.{Machine}
 use Rattle.machine.specs.Words.{REGISTERS, FLAGS, OFFSETS, PLACES, SET1, SET2, CONDITIONS, CONTROL, POSITION, DEPTH, ENTRIES, machineOf}
-use Rattle.image.specs.Questions.{all, question3, question4, question5}
+use Rattle.formed.specs.Questions.{all, Read, Refused, askMachine}
 use Rattle.machine.specs.declared.Position.{Position}
 use Rattle.machine.specs.declared.Entry.{Entry}
 
@@ -57,22 +57,5 @@ question2 image = all (sectionTests (length image) (numbersOf image))
 
 -- ---- questions 2 to 5 in order: the number of the first no, or the machine
 
-pub data Read : Type 0 where
-  Refused : ℕ → Read
-  Accepted : Machine → Read
-
--- 3 to 5
-unfoldable pub askMachine : Machine → Read
-askMachine m =
-    if not (question3 m) then Refused 3
-    else if not (question4 m) then Refused 4
-    else if not (question5 m) then Refused 5
-    else Accepted m
-
 unfoldable pub readImage : (image : List ℕ) → Read
 readImage image = if question2 image then askMachine (machineOf (numbersOf image)) else Refused 2
-
--- what reading says of an answer and of the machine read: 0 accepts it
-unfoldable pub readBy : (answer : ℕ) → Machine → Read
-readBy zero m = Accepted m
-readBy (suc n) m = Refused (suc n)

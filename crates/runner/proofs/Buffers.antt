@@ -9,8 +9,8 @@ use Rattle.codec.proofs.Laws.{length-numbersOf, take-over}
 use Rattle.machine.specs.Control.{reset}
 use Rattle.machine.specs.Words.{WORDS}
 use Rattle.image.specs.Image.{writeImage}
-use Rattle.image.proofs.Formed.{formed-counts}
-use Rattle.image.proofs.Image.{length-writeImage, reset-formed}
+use Rattle.formed.proofs.Formed.{formed-counts, reset-formed}
+use Rattle.image.proofs.Image.{length-writeImage}
 
 -- a list laid over another of its length
 over-whole : (front s : List ℕ) → length front ≡ length s → over front s ≡ front

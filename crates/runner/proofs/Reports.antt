@@ -14,11 +14,11 @@ use Rattle.machine.specs.Machine.{Machine}
 use Rattle.machine.specs.Control.{reset}
 use Rattle.machine.specs.Words.{POSITION, positionOf, machineOf}
 use Rattle.machine.proofs.Flat.{section-at}
-use Rattle.image.specs.Questions.{allBelow}
+use Rattle.formed.specs.Questions.{allBelow}
 use Rattle.image.specs.Image.{imageNumbers, writeImage}
-use Rattle.image.proofs.Formed.{WellFormed, formed-counts}
+use Rattle.formed.proofs.Formed.{WellFormed, formed-counts, reset-formed}
 use Rattle.image.proofs.Sections.{machineOf-imageNumbers, length-imageNumbers}
-use Rattle.image.proofs.Image.{length-writeImage, imageNumbers-below, reset-formed, reset-accepted}
+use Rattle.image.proofs.Image.{length-writeImage, imageNumbers-below, reset-accepted}
 use Rattle.emulator.specs.Run.{Outcome, outcome, runCall, Asked, No, Start, askCall, ask, stateOf, resultFrom}
 use Rattle.emulator.specs.Closure.{AllYes, Questions}
 use Rattle.emulator.specs.declared.Answer.{Answer}

@@ -11,7 +11,7 @@ use Rattle.machine.specs.Control.{controlAt, INT-VECTORS, INT-SERV, INT-PEND}
 use Rattle.machine.specs.Stack.{sourcesOf, serviceFlags, withStack}
 use Rattle.machine.specs.declared.Entry.{Entry}
 use Rattle.machine.proofs.Lists.{get-other}
-use Rattle.image.proofs.Formed.{stacked-distinct, WellFormed}
+use Rattle.formed.proofs.Formed.{stacked-distinct, WellFormed}
 use Rattle.step.specs.Interrupt.{withPending, servicePsr, entryFor, accept}
 
 module _ (m : Machine) (n pending : ℕ) {a : Machine} (stored : a ≡ withControl (set (m .control) INT-PEND pending) m) where

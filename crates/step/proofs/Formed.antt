@@ -17,7 +17,7 @@ use Rattle.machine.specs.Machine.{Machine, State, PSR, SPSR, LINK, SUPER, psr, 
 use Rattle.machine.specs.Control.{controlAt, registers, registerAt, holdsAs, INT-VECTORS, INT-MODE-IL, INT-MODE-UM, INT-PEND, SYSTEM-ADDR, EXCEP-ADDR, EXCEPTION-CS, EXCEPTION-PC, EXCEPTION-PSR}
 use Rattle.machine.proofs.Lists.{each-set}
 use Rattle.machine.proofs.Registers.{holds-small}
-use Rattle.image.proofs.Formed.{sized-set, StatusOk, registers-below, Stacked, pushed, stacked-depth, WellFormed}
+use Rattle.formed.proofs.Formed.{sized-set, StatusOk, registers-below, Stacked, pushed, stacked-depth, WellFormed}
 use Rattle.view.specs.View.{View, view}
 use Rattle.effect.specs.Apply.{writeRegister, writeFlags, unpacked, wordsOn, nextPc, advance, advanceHolding, jumpTo, raise, systemCall, userReturn, interruptReturn, enableInterrupts, switchWidth, selectSets, machineOnly, storeCell, apply}
 use Rattle.execute.specs.Decide.{decide}
@@ -26,9 +26,9 @@ use Rattle.step.specs.Step.{interruptOr, step}
 use Rattle.effect.specs.Effect.{Effect, Stopped, Raised, Next, Result, ResultFlags, ResultProduct, Compare, Conditions, StoreControl, StoreCell, Jump, JumpLink, EnableInterrupts, SwitchWidth, SystemCall, InterruptReturn, UserReturn, SelectSets}
 use Rattle.execute.proofs.Safe.{Safe, decide-safe}
 use Rattle.word.proofs.Tests.{if-holds}
-use Rattle.step.proofs.Stored.{control-of, control-put, control-stored, top-shown, rest-stacked}
+use Rattle.formed.proofs.Stored.{control-of, control-put, control-stored, top-shown, rest-stacked}
 use Rattle.step.proofs.Accepted.{Accepted, source-accepted}
-use Rattle.step.proofs.Parts.{second-of, second-set, set1-formed, set2-formed, psr-formed, conditions-formed, control-formed, position-formed, stack-formed, moved-formed}
+use Rattle.formed.proofs.Parts.{second-of, second-set, set1-formed, set2-formed, psr-formed, conditions-formed, control-formed, position-formed, stack-formed, moved-formed}
 
 -- ---- status: PSR
 

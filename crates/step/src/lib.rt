@@ -7,7 +7,7 @@ ghost use Rattle.word.specs.Flags.{isAmong};
 ghost use Rattle.machine.specs.Machine.{psr, widthOf, Memory, memoryOf};
 ghost use Rattle.machine.specs.Stack.{sourcesOf};
 ghost use Rattle.machine.specs.Words.{MachineWords, machineOf, stateOf};
-ghost use Rattle.image.specs.Questions.{wellFormed};
+ghost use Rattle.formed.specs.Questions.{wellFormed};
 ghost use Rattle.view.specs.View.{viewOf};
 ghost use Rattle.effect.specs.Apply.{reported, reportBy};
 ghost use Rattle.step.specs.Interrupt.{addRequests, priority, candidate, isMulhi, mayAccept, acceptedSource, servicePsr, entryFor, accept};

@@ -2,8 +2,7 @@
 use borrow.Author.Needs.{needs}
 use borrow.Author.Tests.{le-leb, lt-leb}
 use Rattle.word.specs.Choice.{if_then_else_}
-use Rattle.image.proofs.Formed.{stacked-depth}
-use Rattle.image.proofs.Image.{reset-formed}
+use Rattle.formed.proofs.Formed.{stacked-depth, reset-formed}
 use Rattle.emulator.specs.Reset.{resetCall}
 use Rattle.emulator.proofs.reset.Statement.{statement}
 use Rattle.emulator.proofs.reset.Tie as tie
