@@ -2,6 +2,7 @@
 use mathlib.Core.Bool.{Bool, true, _&&_}
 use mathlib.Core.List.{List, [], _∷_}
 use lib.Dec.{ltb}
+use Rattle.machine.specs.Words.{SOURCES}
 use Rattle.machine.specs.declared.Entry.{Entry}
 use Rattle.formed.specs.Questions.{setsFit}
 use Rattle.formed.specs.declared.Test.{Test}
@@ -11,7 +12,7 @@ use Rattle.formed.specs.declared.Test.the-variants.{Range, Mode, Source}
 unfoldable pub passes : Test → Entry → Bool
 passes Range e = ltb (e .psr) 32 && ltb (e .c0) 8
 passes Mode e = setsFit (e .psr)
-passes Source e = ltb (e .source) 12
+passes Source e = ltb (e .source) SOURCES
 
 unfoldable pub allPass : Test → List Entry → Bool
 allPass t [] = true

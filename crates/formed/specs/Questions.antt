@@ -8,6 +8,7 @@ use Rattle.word.specs.Choice.{if_then_else_}
 use Rattle.word.specs.Flags.{distinctBelow}
 use Rattle.machine.specs.Machine.{Machine, psr, userMode}
 use Rattle.machine.specs.Control.{controlAt, registerAt, canHold, INT-SERV, RETI-ADDR, RETI-PSR, RETI-CR0}
+use Rattle.machine.specs.Words.{REGISTERS, FLAGS, OFFSETS, SOURCES}
 use Rattle.machine.specs.Stack.{sourcesOf, serviceFlags, shownTop}
 use Rattle.machine.specs.declared.Position.{Position}
 use Rattle.machine.specs.declared.Entry.{Entry}
@@ -81,7 +82,7 @@ question4 m = setsFit (psr m) && modesFit (m .stack)
 
 unfoldable pub stackTests : Machine → List Bool
 stackTests m =
-    distinctBelow 12 (sourcesOf (m .stack)) ∷
+    distinctBelow SOURCES (sourcesOf (m .stack)) ∷
     eqb (controlAt m INT-SERV) (serviceFlags (m .stack)) ∷
     eqb (controlAt m RETI-ADDR) (shownTop (m .stack) .address) ∷
     eqb (controlAt m RETI-PSR) (shownTop (m .stack) .psr) ∷
@@ -95,10 +96,10 @@ question5 m = all (stackTests m)
 
 unfoldable pub formTests : Machine → List Bool
 formTests m =
-    eqb (length (m .set1)) 32 ∷
-    eqb (length (m .set2)) 32 ∷
-    eqb (length (m .conditions)) 8 ∷
-    eqb (length (m .control)) 45 ∷
+    eqb (length (m .set1)) REGISTERS ∷
+    eqb (length (m .set2)) REGISTERS ∷
+    eqb (length (m .conditions)) FLAGS ∷
+    eqb (length (m .control)) OFFSETS ∷
     question3 m ∷
     question4 m ∷
     question5 m ∷

@@ -6,7 +6,7 @@ ghost use lib.Dec.{eqb};
 ghost use lib.ListN.{length};
 ghost use Rattle.machine.specs.Control.{registerAt, canHold};
 ghost use Rattle.machine.specs.Stack.{serviceFlags};
-ghost use Rattle.machine.specs.Words.{MachineWords, ENTRIES, section, entryOf, machineOf};
+ghost use Rattle.machine.specs.Words.{OFFSETS, SOURCES, MachineWords, ENTRIES, section, entryOf, machineOf};
 ghost use Rattle.formed.specs.Questions.{all, implies, allBelow, allHeld, positionTests, setsFit, question3, question4, question5, askMachine, readBy};
 ghost use Rattle.formed.specs.Entries.{passes as passesOf, allPass};
 
@@ -30,10 +30,10 @@ pub enum Test {
 
 // Entry i of the stack, counted from the bottom.
 fn entry(w: &[u32], i: usize) -> machine::Entry
-    requires { ⌜ MachineWords (now w) × (i < 12) ⌝ }
+    requires { ⌜ MachineWords (now w) × (i < SOURCES) ⌝ }
     ensures { λ r. ⌜ r ≡ entryOf (section (ENTRIES + 4 * i) 4 (now (w .entry))) ⌝ }
 {
-    let at = 129 + 4 * i;
+    let at = machine::ENTRIES + 4 * i;
     machine::Entry {
         source: w[at],
         address: w[at + 1],
@@ -56,13 +56,13 @@ fn passes(t: Test, e: machine::Entry) -> bool
     match t {
         Test::Range => (e.psr < 32) & (e.c0 < 8),
         Test::Mode => sets_fit(e.psr),
-        Test::Source => e.source < 12,
+        Test::Source => e.source < machine::SOURCES,
     }
 }
 
 // Whether every entry of the stack passes a test.
 fn entries_pass(t: Test, w: &[u32]) -> bool
-    requires { ⌜ MachineWords (now w) × (length (machineOf (now w) .stack) ≤ 12) ⌝ }
+    requires { ⌜ MachineWords (now w) × (length (machineOf (now w) .stack) ≤ SOURCES) ⌝ }
     ensures { λ r. ⌜ r ≡ allPass t (machineOf (now (w .entry)) .stack) ⌝ }
 {
     let n = machine::depth(w) as usize;
@@ -108,7 +108,7 @@ fn position_fits(p: machine::Position) -> bool
 
 // Whether the control register at an offset can hold a number.
 fn can_hold(offset: u32, x: u32) -> bool
-    requires { ⌜ offset < 45 ⌝ }
+    requires { ⌜ offset < OFFSETS ⌝ }
     ensures { λ r. ⌜ r ≡ canHold (registerAt offset) x ⌝ }
 {
     match offset {
@@ -121,7 +121,7 @@ fn can_hold(offset: u32, x: u32) -> bool
 
 // Whether every control register can hold its number.
 fn all_held(registers: &[u32]) -> bool
-    requires { ⌜ length (now registers) ≤ 45 ⌝ }
+    requires { ⌜ length (now registers) ≤ OFFSETS ⌝ }
     ensures { λ r. ⌜ r ≡ allHeld 0 (now (registers .entry)) ⌝ }
 {
     let mut i = 0;
@@ -137,12 +137,15 @@ fn all_held(registers: &[u32]) -> bool
 
 // Whether every number is one that its register can hold.
 fn numbers_fit(w: &[u32]) -> bool
-    requires { ⌜ MachineWords (now w) × (length (machineOf (now w) .stack) ≤ 12) ⌝ }
+    requires { ⌜ MachineWords (now w) × (length (machineOf (now w) .stack) ≤ SOURCES) ⌝ }
     ensures { λ r. ⌜ r ≡ question3 (machineOf (now (w .entry))) ⌝ }
 {
     let status = machine::psr(w) < 32;
-    let conditions = all_below(&w[67..75], 8); // C0 to C7
-    let control = all_held(&w[76..121]); // the control block
+    let conditions = all_below(
+        &w[machine::CONDITIONS..machine::CONDITIONS + machine::FLAGS],
+        8,
+    ); // three bits each
+    let control = all_held(&w[machine::CONTROL..machine::CONTROL + machine::OFFSETS]);
     let position = position_fits(machine::position_of(w));
     let entries = entries_pass(Test::Range, w);
     status & conditions & control & position & entries
@@ -152,7 +155,7 @@ fn numbers_fit(w: &[u32]) -> bool
 
 // Whether every current or stacked status with UM 1 has both set bits 0.
 fn modes_fit(w: &[u32]) -> bool
-    requires { ⌜ MachineWords (now w) × (length (machineOf (now w) .stack) ≤ 12) ⌝ }
+    requires { ⌜ MachineWords (now w) × (length (machineOf (now w) .stack) ≤ SOURCES) ⌝ }
     ensures { λ r. ⌜ r ≡ question4 (machineOf (now (w .entry))) ⌝ }
 {
     sets_fit(machine::psr(w)) & entries_pass(Test::Mode, w)
@@ -162,7 +165,7 @@ fn modes_fit(w: &[u32]) -> bool
 
 // The flags of the sources on the stack.
 fn service_flags(w: &[u32]) -> u32
-    requires { ⌜ MachineWords (now w) × (length (machineOf (now w) .stack) ≤ 12) ⌝ }
+    requires { ⌜ MachineWords (now w) × (length (machineOf (now w) .stack) ≤ SOURCES) ⌝ }
     requires sources { ⌜ allPass Test.Source (machineOf (now w) .stack) ≡ true ⌝ }
     ensures { λ r. ⌜ r ≡ serviceFlags (machineOf (now (w .entry)) .stack) ⌝ }
 {
@@ -177,7 +180,7 @@ fn service_flags(w: &[u32]) -> u32
 
 // Whether the stack's sources are below 12, all different and those of INT_SERV, and RETI_ is its top.
 fn stack_fits(w: &[u32]) -> bool
-    requires { ⌜ MachineWords (now w) × (length (machineOf (now w) .stack) ≤ 12) ⌝ }
+    requires { ⌜ MachineWords (now w) × (length (machineOf (now w) .stack) ≤ SOURCES) ⌝ }
     ensures { λ r. ⌜ r ≡ question5 (machineOf (now (w .entry))) ⌝ }
 {
     if entries_pass(Test::Source, w) {
@@ -198,7 +201,7 @@ fn stack_fits(w: &[u32]) -> bool
 
 // The number of the first of questions 3 to 5 that says no, or 0.
 pub fn ask_machine(w: &[u32]) -> u32
-    requires { ⌜ MachineWords (now w) × (length (machineOf (now w) .stack) ≤ 12) ⌝ }
+    requires { ⌜ MachineWords (now w) × (length (machineOf (now w) .stack) ≤ SOURCES) ⌝ }
     ensures { λ r. ⌜ readBy r (machineOf (now (w .entry))) ≡ askMachine (machineOf (now (w .entry))) ⌝ }
 {
     let numbers = numbers_fit(w);

@@ -4,9 +4,36 @@ ghost use Prim.Native.Nat.{_≤_};
 ghost use lib.ListN.{length};
 ghost use Rattle.codec.specs.Number.{over};
 ghost use Rattle.machine.specs.Control.{reset as resetOf};
-ghost use Rattle.machine.specs.Words.{MachineWords, machineOf};
+ghost use Rattle.machine.specs.Words.{SOURCES, MachineWords, machineOf};
 ghost use Rattle.formed.specs.Questions.{readBy};
-ghost use Rattle.image.specs.Image.{question2, readImage, writeImage};
+ghost use Rattle.image.specs.Image.{imageBytes, question2, readImage, writeImage};
+
+// Bytes of an image with no stack entries, and of the longest.
+pub const SHORTEST: usize = 4 * machine::ENTRIES;
+
+pub const LONGEST: usize = 4 * machine::WORDS;
+
+// The sections' counts.
+const REGISTERS: u32 = machine::REGISTERS as u32;
+
+const FLAGS: u32 = machine::FLAGS as u32;
+
+const OFFSETS: u32 = machine::OFFSETS as u32;
+
+const PLACES: u32 = machine::PLACES as u32;
+
+// Where they stand among an image's numbers, and among the running words, which have the same order.
+const SET1: usize = machine::SET1 - 1;
+
+const SET2: usize = machine::SET2 - 1;
+
+const CONDITIONS: usize = machine::CONDITIONS - 1;
+
+const CONTROL: usize = machine::CONTROL - 1;
+
+const POSITION: usize = machine::POSITION - 1;
+
+const STACK: usize = machine::DEPTH;
 
 // ---- question 2
 
@@ -14,19 +41,19 @@ ghost use Rattle.image.specs.Image.{question2, readImage, writeImage};
 fn sections_fit(image: &[u8]) -> bool
     ensures { λ r. ⌜ r ≡ question2 (now (image .entry)) ⌝ }
 {
-    if image.len() < 516 {
+    if image.len() < SHORTEST {
         return false;
     }
-    let depth = codec::number_at(image, 512);
-    if 12 < depth {
+    let depth = codec::number_at(image, 4 * STACK);
+    if machine::SOURCES < depth {
         return false;
     }
-    let bytes = image.len() == 516 + 16 * (depth as usize);
-    let set1 = codec::number_at(image, 0) == 32;
-    let set2 = codec::number_at(image, 132) == 32;
-    let conditions = codec::number_at(image, 264) == 8;
-    let control = codec::number_at(image, 300) == 45;
-    let position = codec::number_at(image, 484) == 6;
+    let bytes = image.len() == SHORTEST + 16 * (depth as usize);
+    let set1 = codec::number_at(image, 4 * SET1) == REGISTERS;
+    let set2 = codec::number_at(image, 4 * SET2) == REGISTERS;
+    let conditions = codec::number_at(image, 4 * CONDITIONS) == FLAGS;
+    let control = codec::number_at(image, 4 * CONTROL) == OFFSETS;
+    let position = codec::number_at(image, 4 * POSITION) == PLACES;
     bytes & set1 & set2 & conditions & control & position
 }
 
@@ -47,24 +74,24 @@ pub fn read(image: &[u8], w: &mut [u32]) -> u32
 
 // ---- writing
 
-// Writes the machine's image to the front of a longer buffer, whose further bytes stay. The sections' counts go into the words first.
+// Writes the machine's image to the front of a buffer with room for it; the further bytes stay. The sections' counts go into the words first.
 pub fn write(w: &mut [u32], buffer: &mut [u8])
-    requires { ⌜ MachineWords (now w) × (length (machineOf (now w) .stack) ≤ 12) × (708 ≤ length (now buffer)) ⌝ }
+    requires { ⌜ MachineWords (now w) × (length (machineOf (now w) .stack) ≤ SOURCES) × (imageBytes (length (machineOf (now w) .stack)) ≤ length (now buffer)) ⌝ }
     ensures { λ _. ⌜ now (buffer .exit) ≡ over (writeImage (machineOf (now (w .entry)))) (now (buffer .entry)) ⌝ }
 {
-    let n = 129 + 4 * (machine::depth(w) as usize);
-    w[0] = 32;
-    w[33] = 32;
-    w[66] = 8;
-    w[75] = 45;
-    w[121] = 6;
+    let n = machine::ENTRIES + 4 * (machine::depth(w) as usize);
+    w[SET1] = REGISTERS;
+    w[SET2] = REGISTERS;
+    w[CONDITIONS] = FLAGS;
+    w[CONTROL] = OFFSETS;
+    w[POSITION] = PLACES;
     codec::write_numbers(&w[..n], buffer);
 }
 
 // ---- reset
 
 // The control registers at reset (002 section 2.9), by offset.
-const RESET: [u32; 45] = [
+const RESET: [u32; machine::OFFSETS] = [
     0x0001_0000, // CCB_BASE
     0x0001_0100, // PCB_BASE
     0x0001_01FF, // PCB_END
@@ -118,9 +145,12 @@ pub fn reset(w: &mut [u32])
     ensures { λ _. ⌜ machineOf (now (w .exit)) ≡ resetOf ⌝ }
 {
     let control = RESET;
-    let mut numbers = [0u32; 129];
-    numbers[63] = 0x0E; // PSR
-    numbers[64] = 9; // SPSR
-    codec::copy(&control, &mut numbers[76..121]);
-    codec::copy(&numbers, &mut w[..129]);
+    let mut numbers = [0u32; machine::ENTRIES];
+    numbers[machine::PSR] = 0x0E;
+    numbers[machine::SPSR] = 9;
+    codec::copy(
+        &control,
+        &mut numbers[machine::CONTROL..machine::CONTROL + machine::OFFSETS],
+    );
+    codec::copy(&numbers, &mut w[..machine::ENTRIES]);
 }

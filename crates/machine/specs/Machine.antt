@@ -24,6 +24,10 @@ pub record Machine : Type 0 where
 pub record Memory : Type 0 where
   pub cells : List ℕ
 
+-- bytes of the longest program, and cells of the largest data memory
+abbrev pub MOST-MEMORY : ℕ
+MOST-MEMORY = 65536
+
 abbrev pub memoryOf : (cells : List ℕ) → Memory
 memoryOf cells = record { cells = cells }
 

@@ -14,14 +14,14 @@ use Rattle.word.specs.Flags.{isAmong}
 use Rattle.word.proofs.Flags.{without-below}
 use Rattle.codec.proofs.Laws.{Below}
 use Rattle.machine.specs.Machine.{Machine, State, PSR, SPSR, LINK, SUPER, psr, userMode, writesSet2, wideWords, interruptsEnabled, withModes}
-use Rattle.machine.specs.Control.{controlAt, registers, registerAt, holdsAs, INT-VECTORS, INT-MODE-IL, INT-MODE-UM, INT-PEND, SYSTEM-ADDR, EXCEP-ADDR, EXCEPTION-CS, EXCEPTION-PC, EXCEPTION-PSR}
+use Rattle.machine.specs.Control.{controlAt, registers, registerAt, holdsAs, INT-VECTORS, INT-MODE-IL, INT-MODE-UM, INT-PEND, SYSTEM-ADDR, EXCEP-ADDR, EXCEPTION-CS, EXCEPTION-PC, EXCEPTION-PSR, withPending}
 use Rattle.machine.proofs.Lists.{each-set}
 use Rattle.machine.proofs.Registers.{holds-small}
 use Rattle.formed.proofs.Formed.{sized-set, StatusOk, registers-below, Stacked, pushed, stacked-depth, WellFormed}
 use Rattle.view.specs.View.{View, view}
 use Rattle.effect.specs.Apply.{writeRegister, writeFlags, unpacked, wordsOn, nextPc, advance, advanceHolding, jumpTo, raise, systemCall, userReturn, interruptReturn, enableInterrupts, switchWidth, selectSets, machineOnly, storeCell, apply}
 use Rattle.execute.specs.Decide.{decide}
-use Rattle.step.specs.Interrupt.{withPending, withRequests, acceptedSource, servicePsr, entryFor, accept}
+use Rattle.step.specs.Interrupt.{withRequests, acceptedSource, servicePsr, entryFor, accept}
 use Rattle.step.specs.Step.{interruptOr, step}
 use Rattle.effect.specs.Effect.{Effect, Stopped, Raised, Next, Result, ResultFlags, ResultProduct, Compare, Conditions, StoreControl, StoreCell, Jump, JumpLink, EnableInterrupts, SwitchWidth, SystemCall, InterruptReturn, UserReturn, SelectSets}
 use Rattle.execute.proofs.Safe.{Safe, decide-safe}

@@ -30,4 +30,4 @@ returns : tie.Need-returns
 returns c = by-set (c .args .second) (c .args .n)
 
 pub place-spec : {M : Type 1} → statement M
-place-spec = tie.close (tie.spec (λ c. search needs) mul-result add-result add-result-2 returns)
+place-spec = tie.close (tie.spec (λ c. search needs) (λ c. search needs) mul-result add-result add-result-2 returns)
