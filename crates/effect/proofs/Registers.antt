@@ -11,13 +11,6 @@ use Rattle.machine.specs.Machine.{Machine, PSR, psr, writesSet2, withSet1, with
 use Rattle.effect.specs.Apply.{writeRegister}
 
 module _ (m : Machine) (n x : ℕ) where
-  -- both sets by one test
-  written-by : (second : Bool)
-      → if_then_else_ second (if_then_else_ (eqb n PSR) m (withSet2 (set (m .set2) n x) m)) (withSet1 (set (m .set1) n x) m) ≡ written second n x m
-  unfolding written withRegister if_then_else_
-  written-by true = refl
-  written-by false = refl
-
   -- PSR stays
   psr-kept : (second : Bool) → psr (written second n x m) ≡ psr m
   unfolding written withRegister if_then_else_ psr withSet1 withSet2
@@ -39,14 +32,11 @@ module _ (m : Machine) (n x : ℕ) where
       go false = refl
 
 module _ (m : Machine) (d x : ℕ) where
-  -- a write by RSWR
-  pub write-by : writeRegister d x m ≡ written (writesSet2 (psr m)) (d % 32) (x % 2 ^ 32) m
-  unfolding writeRegister
-  write-by = written-by m (d % 32) (x % 2 ^ 32) (writesSet2 (psr m))
-
-  -- it leaves PSR and the position
+  -- a write leaves PSR and the position
   pub write-psr : psr (writeRegister d x m) ≡ psr m
-  write-psr = ap psr write-by ∙ psr-kept m (d % 32) (x % 2 ^ 32) (writesSet2 (psr m))
+  unfolding writeRegister
+  write-psr = psr-kept m (d % 32) (x % 2 ^ 32) (writesSet2 (psr m))
 
   pub write-position : writeRegister d x m .position ≡ m .position
-  write-position = ap (λ (k : Machine). k .position) write-by ∙ position-kept m (d % 32) (x % 2 ^ 32) (writesSet2 (psr m))
+  unfolding writeRegister
+  write-position = position-kept m (d % 32) (x % 2 ^ 32) (writesSet2 (psr m))

@@ -7,23 +7,24 @@ use lib.ListN.{getD, set}
 use lib.Dec.{eqb}
 use Rattle.word.specs.Choice.{if_then_else_}
 use Rattle.isa.specs.Decode.{wordBytes}
-use Rattle.machine.specs.Machine.{Machine, Memory, memoryOf, State, PSR, SPSR, LINK, SUPER, psr, writesSet2, wideWords, interruptsEnabled, widthOf, withModes, positionAt, withSet1, withSet2, withConditions, withControl, withPosition, withPsr}
-use Rattle.machine.specs.Control.{controlAt, storedControl, EXCEPTION-CS, EXCEPTION-PC, EXCEPTION-PSR, SYSTEM-ADDR, EXCEP-ADDR}
+use Rattle.machine.specs.Machine.{Machine, Memory, memoryOf, State, SPSR, LINK, SUPER, psr, userMode, readsSet2, writesSet2, wideWords, interruptsEnabled, widthOf, statusOf, positionAt, withSet2, written, withConditions, withControl, withPosition, withPsr}
+use Rattle.machine.specs.Control.{controlAt, storeControl, EXCEPTION-CS, EXCEPTION-PC, EXCEPTION-PSR, SYSTEM-ADDR, EXCEP-ADDR}
 use Rattle.machine.specs.Stack.{popped, shownTop, withStack}
 use Rattle.machine.specs.Words.{stateOf}
 use Rattle.machine.specs.declared.Position.{Position}
 use Rattle.machine.specs.declared.Entry.{Entry}
 use Rattle.effect.specs.Kind.{Kind}
 use Rattle.effect.specs.Kind as kind
-use Rattle.effect.specs.Effect.{Effect, Stopped, Raised, Next, Result, ResultFlags, ResultProduct, Compare, Conditions, StoreControl, StoreCell, Jump, JumpLink, EnableInterrupts, SwitchWidth, SystemCall, InterruptReturn, UserReturn, SelectSets}
+use Rattle.effect.specs.Update.{Update}
+use Rattle.effect.specs.Update as update
+use Rattle.effect.specs.Effect.{Effect, Stopped, Raised, SystemCall, InterruptReturn, StoreCell, Updates}
+use Rattle.word.specs.Word.{bitAt}
 
 -- ---- registers; numbers of registers have five bits, of condition registers three, and each keeps its low bits
 
--- register d of the set that RSWR names takes x; a write to PSR is ignored (002 section 2.4)
+-- register d of the set that RSWR names takes x
 unfoldable pub writeRegister : (d x : ℕ) → Machine → Machine
-writeRegister d x m =
-    if writesSet2 (psr m) then (if eqb (d % 32) PSR then m else withSet2 (set (m .set2) (d % 32) (x % 2 ^ 32)) m)
-    else withSet1 (set (m .set1) (d % 32) (x % 2 ^ 32)) m
+writeRegister d x m = written (writesSet2 (psr m)) (d % 32) (x % 2 ^ 32) m
 
 -- condition register c takes flags: Z × 4 + N × 2 + C (01 "Instruction words")
 unfoldable pub writeFlags : (c flags : ℕ) → Machine → Machine
@@ -73,11 +74,12 @@ systemCall m =
     (withPsr SUPER
     (withSet2 (set (set (m .set2) SPSR (psr m)) LINK (wordsOn 2 m)) m))
 
--- retu: PC from PR31; IE, bit 4, and IL, bit 3, from SPSR; user mode, set 1
+-- retu: PC from PR31; IE, IL from SPSR; user mode, set 1
 unfoldable pub userReturn : Machine → Machine
 userReturn m =
+    let saved = getD (m .set2) SPSR 0 in
     withPosition (positionAt (getD (m .set2) LINK 0))
-    (withPsr (getD (m .set2) SPSR 0 / 8 % 4 * 8 + 1) m)
+    (withPsr (statusOf true false false (wideWords saved) (interruptsEnabled saved)) m)
 
 -- reti pops: PC, PSR and C0 come back from the stack's top, and its source's flag is cleared
 unfoldable pub interruptReturn : Machine → Machine
@@ -90,15 +92,21 @@ interruptReturn m =
 
 -- di and ei: IE is 0 or 1
 unfoldable pub enableInterrupts : Bool → Machine → Machine
-enableInterrupts enabled m = withPsr (withModes (psr m) (wideWords (psr m)) enabled) (advance m)
+enableInterrupts enabled m =
+    let q = psr m in
+    withPsr (statusOf (userMode q) (readsSet2 q) (writesSet2 q) (wideWords q) enabled) (advance m)
 
 -- swm: IL is 0 or 1; goes on three old-width words later
 unfoldable pub switchWidth : (wide : Bool) → Machine → Machine
-switchWidth wide m = withPsr (withModes (psr m) wide (interruptsEnabled (psr m))) (withPosition (positionAt (wordsOn 3 m)) m)
+switchWidth wide m =
+    let q = psr m in
+    withPsr (statusOf (userMode q) (readsSet2 q) (writesSet2 q) wide (interruptsEnabled q)) (withPosition (positionAt (wordsOn 3 m)) m)
 
--- chrs: RSRD and RSWR, bits 1 and 2 of PSR, are the two bits of sets
+-- chrs: "bit 0 is RSRD and bit 1 RSWR"
 unfoldable pub selectSets : (sets : ℕ) → Machine → Machine
-selectSets sets m = withPsr (psr m % 2 + sets % 4 * 2 + psr m / 8 * 8) (advance m)
+selectSets sets m =
+    let q = psr m in
+    withPsr (statusOf (userMode q) (bitAt 0 sets) (bitAt 1 sets) (wideWords q) (interruptsEnabled q)) (advance m)
 
 -- ---- effects
 
@@ -115,26 +123,30 @@ machineOnly k f s = record { kind = k; after = record { machine = f (s .machine)
 unfoldable pub storeCell : (address x : ℕ) → State → Transition
 storeCell a x s = record { kind = kind.Ordinary; after = record { machine = advance (s .machine); memory = memoryOf (set (s .memory .cells) a (x % 2 ^ 32)) } }
 
--- an effect carried out; links are the address after the slot, two words on
+-- a plain update; links are the address after the slot, two words on
+unfoldable pub updated : Update → Machine → Machine
+updated update.Next m = advance m
+updated (update.Result d x) m = advance (writeRegister d x m)
+updated (update.ResultFlags d x f) m = advance (writeFlags 0 f (writeRegister d x m))
+updated (update.ResultProduct d h l) m = advanceHolding h l (writeRegister d l m)
+updated (update.Compare c f) m = advance (writeFlags c f m)
+updated (update.Conditions x) m = advance (withConditions (unpacked 8 x) m)
+updated (update.StoreControl n x) m = advance (storeControl n x m)
+updated (update.Jump t) m = jumpTo t m
+updated (update.JumpLink t) m = jumpTo t (writeRegister LINK (wordsOn 2 m) m)
+updated (update.EnableInterrupts e) m = enableInterrupts e m
+updated (update.SwitchWidth w) m = switchWidth w m
+updated update.UserReturn m = userReturn m
+updated (update.SelectSets n) m = selectSets n m
+
+-- an effect carried out
 unfoldable pub apply : Effect → State → Transition
 apply (Stopped n) s = record { kind = kind.Stop n; after = s }
 apply (Raised c) s = machineOnly (kind.Exception c) (raise c) s
-apply Next s = machineOnly kind.Ordinary advance s
-apply (Result d x) s = machineOnly kind.Ordinary (λ m. advance (writeRegister d x m)) s
-apply (ResultFlags d x f) s = machineOnly kind.Ordinary (λ m. advance (writeFlags 0 f (writeRegister d x m))) s
-apply (ResultProduct d h l) s = machineOnly kind.Ordinary (λ m. advanceHolding h l (writeRegister d l m)) s
-apply (Compare c f) s = machineOnly kind.Ordinary (λ m. advance (writeFlags c f m)) s
-apply (Conditions x) s = machineOnly kind.Ordinary (λ m. advance (withConditions (unpacked 8 x) m)) s
-apply (StoreControl n x) s = machineOnly kind.Ordinary (λ m. advance (withControl (storedControl n x (m .control)) m)) s
-apply (StoreCell a x) s = storeCell a x s
-apply (Jump t) s = machineOnly kind.Ordinary (jumpTo t) s
-apply (JumpLink t) s = machineOnly kind.Ordinary (λ m. jumpTo t (writeRegister LINK (wordsOn 2 m) m)) s
-apply (EnableInterrupts e) s = machineOnly kind.Ordinary (enableInterrupts e) s
-apply (SwitchWidth w) s = machineOnly kind.Ordinary (switchWidth w) s
 apply SystemCall s = machineOnly kind.SystemCall systemCall s
 apply InterruptReturn s = machineOnly kind.InterruptReturn interruptReturn s
-apply UserReturn s = machineOnly kind.Ordinary userReturn s
-apply (SelectSets n) s = machineOnly kind.Ordinary (selectSets n) s
+apply (StoreCell a x) s = storeCell a x s
+apply (Updates u) s = machineOnly kind.Ordinary (updated u) s
 
 -- ---- what the code reports of a transition
 

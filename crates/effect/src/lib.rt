@@ -4,35 +4,12 @@
 ghost use mathlib.Core.Path.{_≡_};
 ghost use Prim.Native.Nat.{_%_, _<_, _^_};
 ghost use lib.ListN.{set};
-ghost use Rattle.machine.specs.Machine.{withModes, positionAt, withConditions, withPosition, memoryOf};
+ghost use Rattle.machine.specs.Machine.{psr, userMode, readsSet2, writesSet2, statusOf, positionAt, withConditions, withPosition, memoryOf};
 ghost use Rattle.machine.specs.Stack.{popped, withStack, StackShown};
 ghost use Rattle.machine.specs.Words.{MachineWords, machineOf};
 ghost use Rattle.effect.specs.Effect.{Raised, Next, Result, ResultFlags, ResultProduct, Compare, Conditions, StoreControl, StoreCell, Jump, JumpLink, EnableInterrupts, SwitchWidth, SystemCall, InterruptReturn, UserReturn, SelectSets};
 ghost use Rattle.effect.specs.Apply.{writeRegister, writeFlags, unpacked, wordsOn, nextPc, advance, advanceHolding, jumpTo, reportBy, reportOn, Performs};
 use machine::Position;
-
-// Bits of PSR (002 section 2.4): registers written in set 2, 32-bit words, interrupts enabled.
-const RSWR: u32 = 2;
-
-const IL: u32 = 3;
-
-const IE: u32 = 4;
-// PSR of scall and of exceptions.
-const SUPER: u32 = 0x0E;
-// A register of set 2, and the link register of both sets.
-const SPSR: u32 = 30;
-
-const LINK: u32 = 31;
-// Offsets of the control block.
-const EXCEPTION_CS: u32 = 0x17;
-
-const EXCEPTION_PC: u32 = 0x18;
-
-const EXCEPTION_PSR: u32 = 0x19;
-
-const SYSTEM_ADDR: u32 = 0x1F;
-
-const EXCEP_ADDR: u32 = 0x20;
 
 // ---- registers
 
@@ -41,7 +18,7 @@ fn write_register(w: &mut [u32], d: u32, x: u32)
     requires { ⌜ MachineWords (now w) ⌝ }
     ensures { λ _. ⌜ machineOf (now (w .exit)) ≡ writeRegister d x (machineOf (now (w .entry))) ⌝ }
 {
-    let second = word::has_flag(machine::psr(w), RSWR);
+    let second = machine::writes_set2(w);
     machine::write_register(w, second, d % 32, x);
 }
 
@@ -75,7 +52,7 @@ fn words_on(w: &[u32], count: u32) -> u32
     requires { ⌜ MachineWords (now w) × (count < 4) ⌝ }
     ensures { λ r. ⌜ r ≡ wordsOn count (machineOf (now (w .entry))) ⌝ }
 {
-    if word::has_flag(machine::psr(w), IL) {
+    if machine::wide_words(w) {
         std::num::wrapping_add_u32(machine::pc(w), count * 4)
     } else {
         std::num::wrapping_add_u32(machine::pc(w), count * 2)
@@ -161,45 +138,47 @@ fn jump_to(w: &mut [u32], target: u32)
 
 // ---- changes of mode
 
-// An exception: code, address and PSR are shown; PC is EXCEP_ADDR.
+// An exception: code, address and PSR are shown; PC is machine::EXCEP_ADDR.
 pub fn raise(w: &mut [u32], code: u32) -> u32
     requires { ⌜ MachineWords (now w) ⌝ }
     ensures { λ r. ⌜ Performs (Raised code) r (now (w .entry)) (now (w .exit)) ⌝ }
 {
     let pc = machine::pc(w);
     let psr = machine::psr(w);
-    let handler = machine::control(w, EXCEP_ADDR);
-    machine::set_control(w, EXCEPTION_CS, code % 256);
-    machine::set_control(w, EXCEPTION_PC, pc);
-    machine::set_control(w, EXCEPTION_PSR, psr);
-    machine::set_psr(w, SUPER);
+    let handler = machine::control(w, machine::EXCEP_ADDR);
+    machine::set_control(w, machine::EXCEPTION_CS, code % 256);
+    machine::set_control(w, machine::EXCEPTION_PC, pc);
+    machine::set_control(w, machine::EXCEPTION_PSR, psr);
+    machine::set_psr(w, machine::super_status());
     go_to(w, handler);
     0
 }
 
-// scall: the link PR31 is two words on, SPSR takes PSR; PC is SYSTEM_ADDR.
+// scall: the link PR31 is two words on, machine::SPSR takes PSR; PC is machine::SYSTEM_ADDR.
 pub fn system_call(w: &mut [u32]) -> u32
     requires { ⌜ MachineWords (now w) ⌝ }
     ensures { λ r. ⌜ Performs SystemCall r (now (w .entry)) (now (w .exit)) ⌝ }
 {
     let link = words_on(w, 2);
     let psr = machine::psr(w);
-    let handler = machine::control(w, SYSTEM_ADDR);
-    machine::set_register(w, true, SPSR, psr);
-    machine::set_register(w, true, LINK, link);
-    machine::set_psr(w, SUPER);
+    let handler = machine::control(w, machine::SYSTEM_ADDR);
+    machine::set_register(w, true, machine::SPSR, psr);
+    machine::set_register(w, true, machine::LINK, link);
+    machine::set_psr(w, machine::super_status());
     go_to(w, handler);
     0
 }
 
-// retu: PC from PR31; IE and IL from SPSR; user mode, set 1.
+// retu: PC from PR31; IE and IL from machine::SPSR; user mode, set 1.
 pub fn user_return(w: &mut [u32]) -> u32
     requires { ⌜ MachineWords (now w) ⌝ }
     ensures { λ r. ⌜ Performs UserReturn r (now (w .entry)) (now (w .exit)) ⌝ }
 {
-    let pc = machine::register2(w, LINK);
-    let saved = machine::register2(w, SPSR);
-    machine::set_psr(w, saved / 8 % 4 * 8 + 1);
+    let pc = machine::register2(w, machine::LINK);
+    let saved = machine::register2(w, machine::SPSR);
+    let wide = word::has_flag(saved, 3);
+    let enabled = word::has_flag(saved, 4);
+    machine::set_psr(w, machine::status(true, false, false, wide, enabled));
     go_to(w, pc);
     0
 }
@@ -228,10 +207,17 @@ pub fn interrupt_return(w: &mut [u32]) -> u32
 }
 
 // PSR with IL and IE set anew.
-fn with_modes(psr: u32, wide: bool, enabled: bool) -> u32
-    ensures { λ r. ⌜ r ≡ withModes psr wide enabled ⌝ }
+fn status_with(w: &[u32], wide: bool, enabled: bool) -> u32
+    requires { ⌜ MachineWords (now w) ⌝ }
+    ensures { λ r. ⌜ r ≡ statusOf (userMode (psr (machineOf (now (w .entry))))) (readsSet2 (psr (machineOf (now (w .entry))))) (writesSet2 (psr (machineOf (now (w .entry))))) wide enabled ⌝ }
 {
-    psr % 8 + 8 * wide as u32 + 16 * enabled as u32
+    machine::status(
+        machine::user_mode(w),
+        machine::reads_set2(w),
+        machine::writes_set2(w),
+        wide,
+        enabled,
+    )
 }
 
 // di and ei: IE is 0 or 1.
@@ -239,9 +225,9 @@ pub fn enable_interrupts(w: &mut [u32], enabled: bool) -> u32
     requires { ⌜ MachineWords (now w) ⌝ }
     ensures { λ r. ⌜ Performs (EnableInterrupts enabled) r (now (w .entry)) (now (w .exit)) ⌝ }
 {
-    let psr = machine::psr(w);
+    let psr = status_with(w, machine::wide_words(w), enabled);
     advance(w);
-    machine::set_psr(w, with_modes(psr, word::has_flag(psr, IL), enabled));
+    machine::set_psr(w, psr);
     0
 }
 
@@ -250,10 +236,10 @@ pub fn switch_width(w: &mut [u32], wide: bool) -> u32
     requires { ⌜ MachineWords (now w) ⌝ }
     ensures { λ r. ⌜ Performs (SwitchWidth wide) r (now (w .entry)) (now (w .exit)) ⌝ }
 {
-    let psr = machine::psr(w);
+    let psr = status_with(w, wide, machine::interrupts_enabled(w));
     let pc = words_on(w, 3);
     go_to(w, pc);
-    machine::set_psr(w, with_modes(psr, wide, word::has_flag(psr, IE)));
+    machine::set_psr(w, psr);
     0
 }
 
@@ -262,9 +248,15 @@ pub fn select_sets(w: &mut [u32], sets: u32) -> u32
     requires { ⌜ MachineWords (now w) ⌝ }
     ensures { λ r. ⌜ Performs (SelectSets sets) r (now (w .entry)) (now (w .exit)) ⌝ }
 {
-    let psr = machine::psr(w);
+    let psr = machine::status(
+        machine::user_mode(w),
+        word::has_flag(sets, 0),
+        word::has_flag(sets, 1),
+        machine::wide_words(w),
+        machine::interrupts_enabled(w),
+    );
     advance(w);
-    machine::set_psr(w, psr % 2 + sets % 4 * 2 + psr / 8 * 8);
+    machine::set_psr(w, psr);
     0
 }
 
@@ -383,7 +375,7 @@ pub fn jump_link(w: &mut [u32], target: u32) -> u32
     ensures { λ r. ⌜ Performs (JumpLink target) r (now (w .entry)) (now (w .exit)) ⌝ }
 {
     let after_slot = words_on(w, 2);
-    write_register(w, LINK, after_slot);
+    write_register(w, machine::LINK, after_slot);
     jump_to(w, target);
     0
 }

@@ -3,8 +3,7 @@ use Rattle.image.specs.Computed.{images}
 use Rattle.step.specs.Computed.{steps}
 use Rattle.emulator.specs.Run.{run, resultOf, resultFrom, askCall, ask, askedBy, calledBy, called, runCall, transitions}
 use Rattle.emulator.specs.Closure.{final}
-use Rattle.emulator.specs.Isolation.{transition, isExit, isPreemption, segment}
 
 unfoldable pub runs : Unit {0}
-unfolding images steps run resultOf resultFrom askCall ask askedBy calledBy called runCall transitions final transition isExit isPreemption segment
+unfolding images steps run resultOf resultFrom askCall ask askedBy calledBy called runCall transitions final
 runs = tt

@@ -1,6 +1,5 @@
--- The run call and lists of run calls (Run), the image at reset (Reset), what a call leaves (Closure), the isolation of user mode (Isolation).
+-- The run call and lists of run calls (Run), the image at reset (Reset), what a call leaves (Closure).
 pub mod Run
 pub mod Reset
 pub mod Closure
-pub mod Isolation
 pub mod Computed

@@ -24,28 +24,34 @@ use Rattle.view.specs.declared.Fetched.{Fetched}
 use Rattle.view.specs.declared.Fetched.the-variants.{Word, Fault, Absent}
 use Rattle.view.specs.declared.Place.{Place}
 use Rattle.view.specs.declared.Place.the-variants.{Block, Cell, Denied, Missing}
-use Rattle.effect.specs.Effect.{Effect, Stopped, Raised, Next, Result, ResultFlags, ResultProduct, Compare, Conditions, StoreControl, StoreCell, Jump, JumpLink, EnableInterrupts, SwitchWidth, SystemCall, InterruptReturn, UserReturn, SelectSets}
+use Rattle.effect.specs.Update.{Update}
+use Rattle.effect.specs.Update as update
+use Rattle.effect.specs.Effect.{Effect, Stopped, Raised, SystemCall, InterruptReturn, StoreCell, Updates, Jump, JumpLink}
 
--- what a view allows
+-- what a view allows of the plain updates: a store to a register of the block that passed the data tests, and what is super user's in that mode
+abbrev pub SafeUpdate : View → Update → Type 0
+SafeUpdate v (update.StoreControl n x) = Reached v (Block n)
+SafeUpdate v update.UserReturn = userMode (v .status) ≡ false
+SafeUpdate v (update.SelectSets n) = userMode (v .status) ≡ false
+SafeUpdate v update.Next = Unit {0}
+SafeUpdate v (update.Result d x) = Unit {0}
+SafeUpdate v (update.ResultFlags d x f) = Unit {0}
+SafeUpdate v (update.ResultProduct d h l) = Unit {0}
+SafeUpdate v (update.Compare c f) = Unit {0}
+SafeUpdate v (update.Conditions x) = Unit {0}
+SafeUpdate v (update.Jump t) = Unit {0}
+SafeUpdate v (update.JumpLink t) = Unit {0}
+SafeUpdate v (update.EnableInterrupts e) = Unit {0}
+SafeUpdate v (update.SwitchWidth w) = Unit {0}
+
+-- and of effects
 abbrev pub Safe : View → Effect → Type 0
 Safe v (Stopped n) = (11 ≤ n) × (n ≤ 15)
 Safe v (Raised c) = Unit {0}
-Safe v Next = Unit {0}
-Safe v (Result d x) = Unit {0}
-Safe v (ResultFlags d x f) = Unit {0}
-Safe v (ResultProduct d h l) = Unit {0}
-Safe v (Compare c f) = Unit {0}
-Safe v (Conditions x) = Unit {0}
-Safe v (StoreControl n x) = Reached v (Block n)
-Safe v (StoreCell a x) = Reached v (Cell a)
-Safe v (Jump t) = Unit {0}
-Safe v (JumpLink t) = Unit {0}
-Safe v (EnableInterrupts e) = Unit {0}
-Safe v (SwitchWidth w) = Unit {0}
 Safe v SystemCall = Unit {0}
 Safe v InterruptReturn = v .nested ≡ true
-Safe v UserReturn = userMode (v .status) ≡ false
-Safe v (SelectSets n) = userMode (v .status) ≡ false
+Safe v (StoreCell a x) = Reached v (Cell a)
+Safe v (Updates u) = SafeUpdate v u
 
 -- ---- the parts that operations share
 

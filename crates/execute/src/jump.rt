@@ -9,8 +9,6 @@ ghost use Rattle.effect.specs.Effect.{Jump, JumpLink};
 ghost use Rattle.execute.specs.Execute.{jumped, execute};
 ghost use Rattle.execute.specs.Jumps.{taken, targetOf};
 ghost use Rattle.execute.specs.Promises.{PerformsSeen};
-use crate::IL;
-use crate::UM;
 use isa::Instruction;
 
 // A taken jump, with or without a link: 04h, 03h, 09h, or to the target after the slot.
@@ -18,15 +16,14 @@ fn jumped(w: &mut [u32], target: i64, link: bool) -> u32
     requires { ⌜ MachineWords (now w) ⌝ }
     ensures { λ r. ⌜ PerformsSeen (λ v. jumped v target (if link then JumpLink else Jump)) r (now (w .entry)) (now (w .exit)) ⌝ }
 {
-    let psr = machine::psr(w);
-    let wide = word::has_flag(psr, IL);
+    let wide = machine::wide_words(w);
     let n = view::word_bytes(wide);
     let t = word::low_word(target);
     if !word::is_address(target) {
         effect::raise(w, 0x04)
     } else if view::misaligned(wide, t) {
         effect::raise(w, 0x03)
-    } else if view::closed(w, word::has_flag(psr, UM), t, n) {
+    } else if view::closed(w, machine::user_mode(w), t, n) {
         effect::raise(w, 0x09)
     } else if link {
         effect::jump_link(w, t)
@@ -57,7 +54,7 @@ fn target(w: &[u32], i: Instruction, x: u32) -> i64
     if (38 <= op) & (op <= 39) {
         x as i64
     } else {
-        let n = view::word_bytes(word::has_flag(machine::psr(w), IL));
+        let n = view::word_bytes(machine::wide_words(w));
         word::jump_target(machine::pc(w) + n, i.immediate)
     }
 }

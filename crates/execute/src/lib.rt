@@ -6,7 +6,7 @@ ghost use lib.ListN.{length};
 ghost use Rattle.word.specs.Word.{wordOf};
 ghost use Rattle.isa.specs.Operation.{operationOf, Properties, properties, unavailable, codeOf};
 ghost use Rattle.isa.specs.Decode.{opcodeOf};
-ghost use Rattle.machine.specs.Machine.{psr, userMode, wideWords, widthOf, memoryOf};
+ghost use Rattle.machine.specs.Machine.{psr, userMode, widthOf, memoryOf};
 ghost use Rattle.machine.specs.Words.{MachineWords, machineOf};
 ghost use Rattle.view.specs.View.{viewOf};
 ghost use Rattle.view.specs.declared.Fetched.the-variants.{Word};
@@ -26,17 +26,13 @@ use arithmetic::registers;
 use effect::next;
 use isa::Instruction;
 use jump::jumps;
+use machine::wide_words;
 use memory::access;
 use moves::moves;
 use system::system;
 use view::Fetched;
 use view::condition_false;
 use view::source;
-
-// Bits of PSR (002 section 2.4): user mode, 32-bit words.
-const UM: u32 = 0;
-
-const IL: u32 = 3;
 
 // An instruction's immediate as a word.
 fn immediate_value(i: Instruction) -> u32
@@ -45,20 +41,12 @@ fn immediate_value(i: Instruction) -> u32
     word::word(i.immediate)
 }
 
-// Whether words have 32 bits.
-fn wide_words(w: &[u32]) -> bool
-    requires { ⌜ MachineWords (now w) ⌝ }
-    ensures { λ r. ⌜ r ≡ wideWords (psr (machineOf (now (w .entry)))) ⌝ }
-{
-    word::has_flag(machine::psr(w), IL)
-}
-
 // The code of the exception where an operation may not be used, by the width and the mode; 0 where it may.
 fn unavailability(w: &[u32], op: u32) -> u32
     requires { ⌜ MachineWords (now w) ⌝ }
     ensures { λ r. ⌜ r ≡ codeOf (unavailable (properties (operationOf op) .availability) (widthOf (psr (machineOf (now (w .entry))))) (userMode (psr (machineOf (now (w .entry)))))) ⌝ }
 {
-    isa::unavailability(op, wide_words(w), word::has_flag(machine::psr(w), UM))
+    isa::unavailability(op, wide_words(w), machine::user_mode(w))
 }
 
 // Words of operations 1 to 17: add to sext.

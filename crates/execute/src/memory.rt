@@ -5,7 +5,6 @@ ghost use Rattle.isa.specs.Operation.{operationOf};
 ghost use Rattle.machine.specs.Words.{MachineWords};
 ghost use Rattle.execute.specs.Execute.{execute};
 ghost use Rattle.execute.specs.Promises.{PerformsStoring};
-use crate::UM;
 use isa::Instruction;
 use view::Place;
 
@@ -20,8 +19,7 @@ pub fn access(w: &mut [u32], cells: &mut [u32], i: Instruction, x: u32) -> u32
     let op = i.opcode;
     let d = i.dreg;
     let address = word::offset_by(x, i.immediate);
-    let user = word::has_flag(machine::psr(w), UM);
-    let place = view::place_at(w, user, cells.len(), address);
+    let place = view::place_at(w, cells, address);
     match place {
         Place::Block(n) => {
             if op == LD {

@@ -8,11 +8,13 @@ use lib.ListN.{getD, set}
 use lib.Seq.{getD-set-same, getD-set-other}
 use lib.Dec.{lit<}
 use Rattle.machine.specs.Machine.{Machine, PSR, psr, positionAt, withSet1, withSet2, withConditions, withControl, withPosition, withPsr}
+use Rattle.machine.specs.Control.{registerAt, isWritable, storeControl}
 use Rattle.machine.specs.Stack.{withStack}
+use Rattle.word.proofs.Tests.{if-holds}
 use Rattle.machine.specs.declared.Position.{Position}
 use Rattle.machine.specs.declared.Entry.{Entry}
 use Rattle.formed.proofs.Formed.{Sized, sized-set, StatusOk, Placed, Stacked, WellFormed}
-use Rattle.formed.proofs.Stored.{Control, control-of, control-shown}
+use Rattle.formed.proofs.Stored.{Control, control-of, control-kept, control-shown}
 
 -- ---- register set 2, which has PSR
 
@@ -74,6 +76,10 @@ module _ {m : Machine} where
   pub control-formed : {l : List ℕ} → Control (m .stack) l → WellFormed m → WellFormed (withControl l m)
   unfolding withControl
   control-formed {l} k f = formed (withControl l m) (f .set1) (second-of f) (f .conditions) k (f .position) (f .stack)
+
+  pub stored-formed : (n x : ℕ) → WellFormed m → WellFormed (storeControl n x m)
+  unfolding storeControl
+  stored-formed n x f = if-holds WellFormed (isWritable (registerAt n .access)) (λ e. control-formed (control-kept n x e (control-of f)) f) (λ _. f)
 
   pub position-formed : {q : Position} → Placed q → WellFormed m → WellFormed (withPosition q m)
   unfolding withPosition

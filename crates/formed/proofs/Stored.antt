@@ -9,13 +9,12 @@ use lib.Seq.{getD-set-other}
 use lib.Dec.{lit<}
 use Rattle.word.specs.Flags.{isAmong}
 use Rattle.machine.specs.Machine.{Machine, userMode}
-use Rattle.machine.specs.Control.{registers, registerAt, holdsAs, canHold, keptBy, isWritable, storedControl, INT-SERV, RETI-ADDR, RETI-PSR, RETI-CR0}
+use Rattle.machine.specs.Control.{registers, registerAt, holdsAs, canHold, keptBy, isWritable, INT-SERV, RETI-ADDR, RETI-PSR, RETI-CR0}
 use Rattle.machine.specs.Stack.{popped, serviceFlags, shownTop, showStack}
 use Rattle.machine.specs.declared.Entry.{Entry}
 use Rattle.machine.proofs.Registers.{plain-holds, kept-holds}
 use Rattle.machine.proofs.Stack.{shown-flags, shown-address, shown-psr, shown-c0}
 use Rattle.formed.proofs.Formed.{Registers, registers-set, StatusOk, Stacked, empty, pushed, stacked-flags, WellFormed}
-use Rattle.word.proofs.Tests.{if-holds}
 
 -- a control block that shows a stack
 pub record Control (es : List Entry) (l : List ℕ) : Type 0 where
@@ -63,14 +62,11 @@ unfolding isAmong
 control-put i x n z a h =
     control-set (λ j. isAmong j (INT-SERV ∷ RETI-ADDR ∷ RETI-PSR ∷ RETI-CR0 ∷ [])) i x (refl, refl, refl, refl) n (plain-holds (registerAt i) x z a h)
 
--- a store
-pub control-stored : {es : List Entry} {l : List ℕ} (n x : ℕ) → Control es l → Control es (storedControl n x l)
-unfolding storedControl registerAt registers isWritable
-control-stored {es} n x c =
-    let w = isWritable (registerAt n .access) in
-    if-holds (Control es) w
-    (λ e. control-set (λ j. not (isWritable (registerAt j .access))) n (keptBy (registerAt n) x) (refl, refl, refl, refl) (ap not e) (kept-holds (registerAt n) x e) c)
-    (λ _. c)
+-- a store to a writable register
+pub control-kept : {es : List Entry} {l : List ℕ} (n x : ℕ) → isWritable (registerAt n .access) ≡ true → Control es l → Control es (set l n (keptBy (registerAt n) x))
+unfolding registerAt registers isWritable
+control-kept n x e c =
+    control-set (λ j. not (isWritable (registerAt j .access))) n (keptBy (registerAt n) x) (refl, refl, refl, refl) (ap not e) (kept-holds (registerAt n) x e) c
 
 -- ---- the stack shown
 

@@ -10,15 +10,6 @@ ghost use Rattle.machine.specs.Words.{OFFSETS, SOURCES, MachineWords, ENTRIES, 
 ghost use Rattle.formed.specs.Questions.{all, implies, allBelow, allHeld, positionTests, setsFit, question3, question4, question5, askMachine, readBy};
 ghost use Rattle.formed.specs.Entries.{passes as passesOf, allPass};
 
-// Offsets of control registers.
-const INT_SERV: u32 = 0x13;
-
-const RETI_ADDR: u32 = 0x28;
-
-const RETI_PSR: u32 = 0x29;
-
-const RETI_CR0: u32 = 0x2A;
-
 // What questions 3, 4 and 5 ask of a stack entry.
 pub enum Test {
     Range,
@@ -186,11 +177,11 @@ fn stack_fits(w: &[u32]) -> bool
     if entries_pass(Test::Source, w) {
         let flags = service_flags(w);
         let different = word::ones(flags) == machine::depth(w);
-        let served = machine::control(w, INT_SERV) == flags;
+        let served = machine::control(w, machine::INT_SERV) == flags;
         let top = machine::top(w);
-        let address = machine::control(w, RETI_ADDR) == top.address;
-        let psr = machine::control(w, RETI_PSR) == top.psr;
-        let c0 = machine::control(w, RETI_CR0) == top.c0;
+        let address = machine::control(w, machine::RETI_ADDR) == top.address;
+        let psr = machine::control(w, machine::RETI_PSR) == top.psr;
+        let c0 = machine::control(w, machine::RETI_CR0) == top.c0;
         different & served & address & psr & c0
     } else {
         false

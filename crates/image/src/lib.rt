@@ -139,6 +139,9 @@ const RESET: [u32; machine::OFFSETS] = [
     1, // CORE_VER_ID
 ];
 
+// Where SPSR lies.
+const SPSR: usize = machine::SET2 + machine::SPSR as usize;
+
 // Puts the machine at reset into its words.
 pub fn reset(w: &mut [u32])
     requires { ⌜ MachineWords (now w) ⌝ }
@@ -147,7 +150,7 @@ pub fn reset(w: &mut [u32])
     let control = RESET;
     let mut numbers = [0u32; machine::ENTRIES];
     numbers[machine::PSR] = 0x0E;
-    numbers[machine::SPSR] = 9;
+    numbers[SPSR] = 9;
     codec::copy(
         &control,
         &mut numbers[machine::CONTROL..machine::CONTROL + machine::OFFSETS],

@@ -4,4 +4,5 @@ pub mod Registers
 pub mod Stack
 pub mod Flat
 pub mod Widths
+pub mod Bits
 pub mod Service

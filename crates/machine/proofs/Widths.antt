@@ -12,7 +12,8 @@ use lib.Bits.{bitAnd, and-mask}
 use borrow.Author.Tests.{ltb-true, ltb-false, eqb-true, le-leb, lt-leb, le-ltb, ne-eqb}
 use Rattle.word.specs.Choice.{if_then_else_}
 use Rattle.word.specs.Flags.{isAmong}
-use Rattle.machine.specs.Control.{Register, registers, registerAt, largest, holdsAs, keptBy, isWritable, storedControl}
+use Rattle.machine.specs.Control.{Register, registers, registerAt, largest, holdsAs, keptBy, isWritable, storeControl}
+use Rattle.machine.specs.Machine.{Machine, withControl}
 
 -- ---- a test of the numbers below k
 
@@ -114,13 +115,14 @@ writable-small n h = go (ltb n 45) refl
     go true p = ltb-true n 45 p
     go false p = absurd (let z : _≡_ {A = ℕ} 0 1 = cc (rw (beyond n (ltb-false n 45 p)) at h) in omega arith)
 
-pub stored-writable : (n x : ℕ) (l : List ℕ) → isWritable (registerAt n .access) ≡ true → storedControl n x l ≡ set l n (keptBy (registerAt n) x)
-unfolding storedControl if_then_else_
-stored-writable n x l h = rw h
+pub stored-writable : (n x : ℕ) (m : Machine) → isWritable (registerAt n .access) ≡ true
+    → storeControl n x m ≡ withControl (set (m .control) n (keptBy (registerAt n) x)) m
+unfolding storeControl if_then_else_
+stored-writable n x m h = rw h
 
-pub stored-ignored : (n x : ℕ) (l : List ℕ) → isWritable (registerAt n .access) ≡ false → storedControl n x l ≡ l
-unfolding storedControl if_then_else_
-stored-ignored n x l h = rw h
+pub stored-ignored : (n x : ℕ) (m : Machine) → isWritable (registerAt n .access) ≡ false → storeControl n x m ≡ m
+unfolding storeControl if_then_else_
+stored-ignored n x m h = rw h
 
 -- ---- question 3
 

@@ -116,10 +116,10 @@ interruptsEnabled q = bitAt 4 q
 unfoldable pub widthOf : (psr : ℕ) → Width
 widthOf q = widthBy (wideWords q)
 
--- PSR with IL and IE set anew
-unfoldable pub withModes : (psr : ℕ) (wide enabled : Bool) → ℕ
-withModes q wide enabled = q % 8 + 8 * bitOf wide + 16 * bitOf enabled
+-- PSR by its bits: UM, RSRD, RSWR, IL, IE
+unfoldable pub statusOf : (user read write wide enabled : Bool) → ℕ
+statusOf user read write wide enabled = bitOf user + 2 * bitOf read + 4 * bitOf write + 8 * bitOf wide + 16 * bitOf enabled
 
--- PSR of scall and of exceptions, and at reset: super user, set 2, 32-bit words, interrupts disabled
+-- PSR of scall and of exceptions, and at reset, 0Eh: super user, set 2, 32-bit words, interrupts disabled
 abbrev pub SUPER : ℕ
-SUPER = 0x0E
+SUPER = statusOf false true true true false

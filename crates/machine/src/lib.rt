@@ -6,10 +6,11 @@ ghost use mathlib.Core.List.{_∷_};
 ghost use Prim.Native.Nat.{_+_, _<_, _≤_};
 ghost use lib.ListN.{length, getD, set};
 ghost use Rattle.word.specs.Flags.{distinctBelow};
-ghost use Rattle.machine.specs.Machine.{psr, setBy, withRegister, written, withPsr, withConditions, withControl, withPosition};
-ghost use Rattle.machine.specs.Control.{registerAt, controlAt, largest, keptBy, isWritable, storedControl, within, INT-SERV};
+ghost use Rattle.machine.specs.Machine.{psr, userMode, readsSet2, writesSet2, wideWords, interruptsEnabled, statusOf, SUPER, setBy, withRegister, written, withPsr, withConditions, withControl, withPosition};
+ghost use Rattle.machine.specs.Control.{registerAt, controlAt, largest, keptBy, isWritable, storeControl, within, INT-SERV};
 ghost use Rattle.machine.specs.Stack.{popped, sourcesOf, serviceFlags, shownTop, showTop, withStack};
 ghost use Rattle.machine.specs.Words.{REGISTERS, FLAGS, OFFSETS, SOURCES, MachineWords, startBy, machineOf};
+use word::has_flag;
 use word::with_flag;
 use word::without_flag;
 
@@ -49,12 +50,10 @@ pub const SOURCES: u32 = 12;
 // Where the sections' numbers begin among the words, each after a word for its count. Register set 1:
 pub const SET1: usize = 1;
 
-// Register set 2, and its PSR and SPSR:
+// Register set 2, and its PSR:
 pub const SET2: usize = SET1 + REGISTERS + 1;
 
 pub const PSR: usize = SET2 + 29;
-
-pub const SPSR: usize = SET2 + 30;
 
 // Condition registers:
 pub const CONDITIONS: usize = SET2 + REGISTERS + 1;
@@ -62,13 +61,13 @@ pub const CONDITIONS: usize = SET2 + REGISTERS + 1;
 // The control block, and the registers of it that show the stack:
 pub const CONTROL: usize = CONDITIONS + FLAGS + 1;
 
-const INT_SERV: usize = CONTROL + 0x13;
+const SERVED: usize = CONTROL + INT_SERV as usize;
 
-const RETI_ADDR: usize = CONTROL + 0x28;
+const RETURN_ADDRESS: usize = CONTROL + RETI_ADDR as usize;
 
-const RETI_PSR: usize = CONTROL + 0x29;
+const RETURN_STATUS: usize = CONTROL + RETI_PSR as usize;
 
-const RETI_CR0: usize = CONTROL + 0x2A;
+const RETURN_FLAGS: usize = CONTROL + RETI_CR0 as usize;
 
 // The program position:
 pub const POSITION: usize = CONTROL + OFFSETS + 1;
@@ -92,6 +91,54 @@ pub const ENTRIES: usize = DEPTH + 1;
 
 // Words for a full stack.
 pub const WORDS: usize = ENTRIES + 4 * SOURCES as usize;
+
+// The offsets of control registers (002 section 2.9); the vectors of the 12 sources follow each other.
+pub const CCB_BASE: u32 = 0x00;
+
+pub const INT_VECTORS: u32 = 0x04;
+
+pub const INT_MODE_IL: u32 = 0x10;
+
+pub const INT_MODE_UM: u32 = 0x11;
+
+pub const INT_MASK: u32 = 0x12;
+
+pub const INT_SERV: u32 = 0x13;
+
+pub const INT_PEND: u32 = 0x14;
+
+pub const EXT_INT_PRI: u32 = 0x15;
+
+pub const COP_INT_PRI: u32 = 0x16;
+
+pub const EXCEPTION_CS: u32 = 0x17;
+
+pub const EXCEPTION_PC: u32 = 0x18;
+
+pub const EXCEPTION_PSR: u32 = 0x19;
+
+pub const DMEM_BOUND_LO: u32 = 0x1A;
+
+pub const DMEM_BOUND_HI: u32 = 0x1B;
+
+pub const IMEM_BOUND_LO: u32 = 0x1C;
+
+pub const IMEM_BOUND_HI: u32 = 0x1D;
+
+pub const SYSTEM_ADDR: u32 = 0x1F;
+
+pub const EXCEP_ADDR: u32 = 0x20;
+
+pub const RETI_ADDR: u32 = 0x28;
+
+pub const RETI_PSR: u32 = 0x29;
+
+pub const RETI_CR0: u32 = 0x2A;
+
+// Special registers of set 2, and the link register of both sets.
+pub const SPSR: u32 = 30;
+
+pub const LINK: u32 = 31;
 
 // ---- registers
 
@@ -134,6 +181,64 @@ pub fn psr(w: &[u32]) -> u32
 {
     w[PSR]
 }
+
+// ---- the status, by its bits
+
+// UM: user mode.
+pub fn user_mode(w: &[u32]) -> bool
+    requires { ⌜ MachineWords (now w) ⌝ }
+    ensures { λ r. ⌜ r ≡ userMode (psr (machineOf (now (w .entry)))) ⌝ }
+{
+    has_flag(psr(w), 0)
+}
+
+// RSRD: registers are read from set 2.
+pub fn reads_set2(w: &[u32]) -> bool
+    requires { ⌜ MachineWords (now w) ⌝ }
+    ensures { λ r. ⌜ r ≡ readsSet2 (psr (machineOf (now (w .entry)))) ⌝ }
+{
+    has_flag(psr(w), 1)
+}
+
+// RSWR: registers are written in set 2.
+pub fn writes_set2(w: &[u32]) -> bool
+    requires { ⌜ MachineWords (now w) ⌝ }
+    ensures { λ r. ⌜ r ≡ writesSet2 (psr (machineOf (now (w .entry)))) ⌝ }
+{
+    has_flag(psr(w), 2)
+}
+
+// IL: words have 32 bits.
+pub fn wide_words(w: &[u32]) -> bool
+    requires { ⌜ MachineWords (now w) ⌝ }
+    ensures { λ r. ⌜ r ≡ wideWords (psr (machineOf (now (w .entry)))) ⌝ }
+{
+    has_flag(psr(w), 3)
+}
+
+// IE: interrupts are enabled.
+pub fn interrupts_enabled(w: &[u32]) -> bool
+    requires { ⌜ MachineWords (now w) ⌝ }
+    ensures { λ r. ⌜ r ≡ interruptsEnabled (psr (machineOf (now (w .entry)))) ⌝ }
+{
+    has_flag(psr(w), 4)
+}
+
+// A status by its bits.
+pub fn status(user: bool, read: bool, write: bool, wide: bool, enabled: bool) -> u32
+    ensures { λ r. ⌜ r ≡ statusOf user read write wide enabled ⌝ }
+{
+    user as u32 + 2 * read as u32 + 4 * write as u32 + 8 * wide as u32 + 16 * enabled as u32
+}
+
+// The status of scall and of exceptions: super user, set 2, 32-bit words, interrupts disabled.
+pub fn super_status() -> u32
+    ensures { λ r. ⌜ r ≡ SUPER ⌝ }
+{
+    status(false, true, true, true, false)
+}
+
+// ---- condition registers
 
 // Condition register n.
 pub fn condition(w: &[u32], n: u32) -> u32
@@ -255,7 +360,7 @@ pub fn kept(offset: u32, x: u32) -> u32
 // A store of x to the control block at an offset.
 pub fn store_control(w: &mut [u32], offset: u32, x: u32)
     requires { ⌜ MachineWords (now w) ⌝ }
-    ensures { λ _. ⌜ machineOf (now (w .exit)) ≡ withControl (storedControl offset x (machineOf (now (w .entry)) .control)) (machineOf (now (w .entry))) ⌝ }
+    ensures { λ _. ⌜ machineOf (now (w .exit)) ≡ storeControl offset x (machineOf (now (w .entry))) ⌝ }
 {
     if writable(offset) {
         set_control(w, offset, kept(offset, x));
@@ -386,10 +491,10 @@ fn show(w: &mut [u32], flags: u32, e: Entry)
     requires { ⌜ MachineWords (now w) ⌝ }
     ensures { λ _. ⌜ machineOf (now (w .exit)) ≡ withControl (showTop flags e (machineOf (now (w .entry)) .control)) (machineOf (now (w .entry))) ⌝ }
 {
-    w[INT_SERV] = flags;
-    w[RETI_ADDR] = e.address;
-    w[RETI_PSR] = e.psr;
-    w[RETI_CR0] = e.c0;
+    w[SERVED] = flags;
+    w[RETURN_ADDRESS] = e.address;
+    w[RETURN_STATUS] = e.psr;
+    w[RETURN_FLAGS] = e.c0;
 }
 
 // An entry goes on the stack, and the control block shows it.
@@ -400,7 +505,7 @@ pub fn push(w: &mut [u32], e: Entry)
     ensures { λ _. ⌜ machineOf (now (w .exit)) ≡ withStack (e ∷ machineOf (now (w .entry)) .stack) (machineOf (now (w .entry))) ⌝ }
 {
     let n = depth(w);
-    let flags = with_flag(w[INT_SERV], e.source);
+    let flags = with_flag(w[SERVED], e.source);
     let at = ENTRIES + 4 * n as usize;
     w[at] = e.source;
     w[at + 1] = e.address;
@@ -420,7 +525,7 @@ pub fn pop(w: &mut [u32])
 {
     let n = depth(w);
     let e = top(w);
-    let flags = without_flag(w[INT_SERV], e.source);
+    let flags = without_flag(w[SERVED], e.source);
     w[DEPTH] = n - 1;
     let rest = top(w);
     show(w, flags, rest);

@@ -9,73 +9,67 @@ use native.Mathlib.Nat.{mod-lt}
 use lib.ListN.{length, getD, set, length-set}
 use lib.Dec.{eqb, lit<}
 use borrow.Author.Tests.{eqb-false}
-use Rattle.word.specs.Word.{bitAt, bitOf}
+use Rattle.word.specs.Choice.{if_then_else_}
+use Rattle.word.specs.Word.{bitOf}
 use Rattle.word.specs.Flags.{isAmong}
 use Rattle.word.proofs.Flags.{without-below}
 use Rattle.codec.proofs.Laws.{Below}
-use Rattle.machine.specs.Machine.{Machine, State, PSR, SPSR, LINK, SUPER, psr, userMode, writesSet2, wideWords, interruptsEnabled, withModes}
+use Rattle.machine.specs.Machine.{Machine, State, PSR, SPSR, LINK, SUPER, psr, userMode, readsSet2, writesSet2, wideWords, interruptsEnabled, statusOf, withRegister, written}
 use Rattle.machine.specs.Control.{controlAt, registers, registerAt, holdsAs, INT-VECTORS, INT-MODE-IL, INT-MODE-UM, INT-PEND, SYSTEM-ADDR, EXCEP-ADDR, EXCEPTION-CS, EXCEPTION-PC, EXCEPTION-PSR, withPending}
 use Rattle.machine.proofs.Lists.{each-set}
+use Rattle.machine.proofs.Bits.{status-small, status-low, status-user, status-kept}
 use Rattle.machine.proofs.Registers.{holds-small}
 use Rattle.formed.proofs.Formed.{sized-set, StatusOk, registers-below, Stacked, pushed, stacked-depth, WellFormed}
 use Rattle.view.specs.View.{View, view}
-use Rattle.effect.specs.Apply.{writeRegister, writeFlags, unpacked, wordsOn, nextPc, advance, advanceHolding, jumpTo, raise, systemCall, userReturn, interruptReturn, enableInterrupts, switchWidth, selectSets, machineOnly, storeCell, apply}
+use Rattle.effect.specs.Apply.{writeRegister, writeFlags, unpacked, wordsOn, nextPc, advance, advanceHolding, jumpTo, raise, systemCall, userReturn, interruptReturn, enableInterrupts, switchWidth, selectSets, machineOnly, storeCell, updated, apply}
 use Rattle.execute.specs.Decide.{decide}
 use Rattle.step.specs.Interrupt.{withRequests, acceptedSource, servicePsr, entryFor, accept}
 use Rattle.step.specs.Step.{interruptOr, step}
-use Rattle.effect.specs.Effect.{Effect, Stopped, Raised, Next, Result, ResultFlags, ResultProduct, Compare, Conditions, StoreControl, StoreCell, Jump, JumpLink, EnableInterrupts, SwitchWidth, SystemCall, InterruptReturn, UserReturn, SelectSets}
-use Rattle.execute.proofs.Safe.{Safe, decide-safe}
+use Rattle.effect.specs.Update.{Update}
+use Rattle.effect.specs.Update as update
+use Rattle.effect.specs.Effect.{Effect, Stopped, Raised, SystemCall, InterruptReturn, StoreCell, Updates}
+use Rattle.execute.proofs.Safe.{SafeUpdate, Safe, decide-safe}
 use Rattle.word.proofs.Tests.{if-holds}
-use Rattle.formed.proofs.Stored.{control-of, control-put, control-stored, top-shown, rest-stacked}
+use Rattle.formed.proofs.Stored.{control-of, control-put, top-shown, rest-stacked}
 use Rattle.step.proofs.Accepted.{Accepted, source-accepted}
-use Rattle.formed.proofs.Parts.{second-of, second-set, set1-formed, set2-formed, psr-formed, conditions-formed, control-formed, position-formed, stack-formed, moved-formed}
+use Rattle.formed.proofs.Parts.{second-of, second-set, set1-formed, set2-formed, psr-formed, conditions-formed, control-formed, stored-formed, position-formed, stack-formed, moved-formed}
 
 -- ---- status: PSR
 
-pub bit-small : (b : Bool) → bitOf b < 2
-bit-small true = lit< tt
-bit-small false = lit< tt
-
--- in super user mode any set bits are good
-super-status : (q : ℕ) → q < 32 → userMode q ≡ false → StatusOk q
-super-status q h u = record { small = h; sets = λ e. absurd (true≢false (sym e ∙ u)) }
+-- in super user mode any set bits are good, and in user mode those of set 1
+status-formed : (user read write wide enabled : Bool) → (user ≡ true → bitOf read + bitOf write ≡ 0) → StatusOk (statusOf user read write wide enabled)
+status-formed user read write wide enabled h =
+    record {
+      small = status-small user read write wide enabled;
+      sets = λ e.
+          let u : user ≡ true = sym (status-user user read write wide enabled) ∙ e in
+          let none = h u in
+          status-low user read write wide enabled ∙ rw u (omega arith);
+    }
 
 -- IL and IE set anew: UM and the set bits are as before
-modes-status : (q : ℕ) (wide enabled : Bool) → StatusOk q → StatusOk (withModes q wide enabled)
-unfolding userMode withModes
-modes-status q w n s =
-    let i : bitOf w < 2 = bit-small w in
-    let j : bitOf n < 2 = bit-small n in
-    let same : (q % 8 + 8 * bitOf w + 16 * bitOf n) / 2 ^ 0 % 2 ≡ q / 2 ^ 0 % 2 = omega arith in
-    record { small = omega arith; sets = λ e. let f : q % 8 ≡ 1 = s .sets (rw same at e) in omega arith }
-
-user-status : (x : ℕ) → StatusOk (x / 8 % 4 * 8 + 1)
-user-status x = record { small = omega arith; sets = λ e. omega arith }
-
-sets-status : (q n : ℕ) → StatusOk q → userMode q ≡ false → StatusOk (q % 2 + n % 4 * 2 + q / 8 * 8)
-unfolding userMode
-sets-status q n s u =
-    let small : q < 32 = s .small in
-    let two : n % 4 < 4 = mod-lt n (lit< tt) in
-    let one : q % 2 < 2 = mod-lt q (lit< tt) in
-    let same : (q % 2 + n % 4 * 2 + q / 8 * 8) / 2 ^ 0 % 2 ≡ q / 2 ^ 0 % 2 = omega arith in
-    super-status (q % 2 + n % 4 * 2 + q / 8 * 8) (omega arith) (rw same u)
+kept-formed : (q : ℕ) (wide enabled : Bool) → StatusOk q → StatusOk (statusOf (userMode q) (readsSet2 q) (writesSet2 q) wide enabled)
+kept-formed q wide enabled s =
+    record {
+      small = status-small _ _ _ wide enabled;
+      sets = λ e. status-kept q wide enabled ∙ s .sets (sym (status-user _ _ _ wide enabled) ∙ e);
+    }
 
 SUPER-status : StatusOk SUPER
-unfolding userMode
-SUPER-status = super-status SUPER (lit< tt) refl
+SUPER-status = status-formed false true true true false (λ e. absurd (true≢false (sym e)))
 
 -- ---- registers
 
 module _ {m : Machine} where
+  written-formed : (second : Bool) (n x : ℕ) → x < 2 ^ 32 → WellFormed m → WellFormed (written second n x m)
+  unfolding written withRegister if_then_else_
+  written-formed false n x h f = set1-formed (sized-set n x (f .set1) h) f
+  written-formed true n x h f =
+      if-holds WellFormed (eqb n PSR) (λ _. f) (λ e. set2-formed (second-set n x (λ q. eqb-false n PSR e (sym q)) h (second-of f)) f)
+
   pub register-formed : (d x : ℕ) → WellFormed m → WellFormed (writeRegister d x m)
   unfolding writeRegister
-  register-formed d x f =
-      let h : x % 2 ^ 32 < 2 ^ 32 = mod-lt x (lit< tt) in
-      if-holds WellFormed (writesSet2 (psr m))
-      (λ _. if-holds WellFormed (eqb (d % 32) PSR) (λ _. f)
-      (λ e. set2-formed (second-set (d % 32) (x % 2 ^ 32) (λ q. eqb-false (d % 32) PSR e (sym q)) h (second-of f)) f))
-      (λ _. set1-formed (sized-set (d % 32) (x % 2 ^ 32) (f .set1) h) f)
+  register-formed d x f = written-formed (writesSet2 (psr m)) (d % 32) (x % 2 ^ 32) (mod-lt x (lit< tt)) f
 
   pub flags-formed : (c x : ℕ) → WellFormed m → WellFormed (writeFlags c x m)
   unfolding writeFlags
@@ -159,7 +153,7 @@ module _ {m : Machine} where
 
   pub user-formed : WellFormed m → WellFormed (userReturn m)
   unfolding userReturn
-  user-formed f = moved-formed (f .set2 .range LINK) (psr-formed (user-status (getD (m .set2) SPSR 0)) f)
+  user-formed f = moved-formed (f .set2 .range LINK) (psr-formed (status-formed true false false _ _ (λ _. refl)) f)
 
   pub return-formed : WellFormed m → WellFormed (interruptReturn m)
   unfolding interruptReturn
@@ -170,39 +164,43 @@ module _ {m : Machine} where
 
   pub enable-formed : (enabled : Bool) → WellFormed m → WellFormed (enableInterrupts enabled m)
   unfolding enableInterrupts
-  enable-formed enabled f = psr-formed (modes-status (psr m) (wideWords (psr m)) enabled (f .status)) (advance-formed f)
+  enable-formed enabled f = psr-formed (kept-formed (psr m) (wideWords (psr m)) enabled (f .status)) (advance-formed f)
 
   pub width-formed : (wide : Bool) → WellFormed m → WellFormed (switchWidth wide m)
   unfolding switchWidth
   width-formed wide f =
-      psr-formed (modes-status (psr m) wide (interruptsEnabled (psr m)) (f .status)) (moved-formed (words-small 3 m) f)
+      psr-formed (kept-formed (psr m) wide (interruptsEnabled (psr m)) (f .status)) (moved-formed (words-small 3 m) f)
 
   pub sets-formed : (sets : ℕ) → userMode (psr m) ≡ false → WellFormed m → WellFormed (selectSets sets m)
   unfolding selectSets
-  sets-formed sets u f = psr-formed (sets-status (psr m) sets (f .status) u) (advance-formed f)
+  sets-formed sets u f = psr-formed (status-formed _ _ _ _ _ (λ e. absurd (true≢false (sym e ∙ u)))) (advance-formed f)
 
 -- ---- effects
 
+pub updated-formed : (program : List ℕ) (s : State) (u : Update) → SafeUpdate (view program s) u → WellFormed (s .machine) → WellFormed (updated u (s .machine))
+unfolding updated view
+updated-formed p s update.Next h f = advance-formed f
+updated-formed p s (update.Result d x) h f = advance-formed (register-formed d x f)
+updated-formed p s (update.ResultFlags d x c) h f = advance-formed (flags-formed 0 c (register-formed d x f))
+updated-formed p s (update.ResultProduct d x y) h f = holding-formed x y (register-formed d y f)
+updated-formed p s (update.Compare c x) h f = advance-formed (flags-formed c x f)
+updated-formed p s (update.Conditions x) h f = advance-formed (conditions-formed record { count = unpacked-count 8 x; range = unpacked-small 8 x } f)
+updated-formed p s (update.StoreControl n x) h f = advance-formed (stored-formed n x f)
+updated-formed p s (update.Jump t) h f = jump-formed t f
+updated-formed p s (update.JumpLink t) h f = jump-formed t (register-formed LINK (wordsOn 2 (s .machine)) f)
+updated-formed p s (update.EnableInterrupts e) h f = enable-formed e f
+updated-formed p s (update.SwitchWidth w) h f = width-formed w f
+updated-formed p s update.UserReturn h f = user-formed f
+updated-formed p s (update.SelectSets n) h f = sets-formed n h f
+
 pub apply-formed : (program : List ℕ) (s : State) (e : Effect) → Safe (view program s) e → WellFormed (s .machine) → WellFormed (apply e s .after .machine)
-unfolding apply machineOnly storeCell view
+unfolding apply machineOnly storeCell
 apply-formed p s (Stopped n) h f = f
 apply-formed p s (Raised c) h f = raise-formed c f
-apply-formed p s Next h f = advance-formed f
-apply-formed p s (Result d x) h f = advance-formed (register-formed d x f)
-apply-formed p s (ResultFlags d x c) h f = advance-formed (flags-formed 0 c (register-formed d x f))
-apply-formed p s (ResultProduct d x y) h f = holding-formed x y (register-formed d y f)
-apply-formed p s (Compare c x) h f = advance-formed (flags-formed c x f)
-apply-formed p s (Conditions x) h f = advance-formed (conditions-formed record { count = unpacked-count 8 x; range = unpacked-small 8 x } f)
-apply-formed p s (StoreControl n x) h f = advance-formed (control-formed (control-stored n x (control-of f)) f)
-apply-formed p s (StoreCell a x) h f = advance-formed f
-apply-formed p s (Jump t) h f = jump-formed t f
-apply-formed p s (JumpLink t) h f = jump-formed t (register-formed LINK (wordsOn 2 (s .machine)) f)
-apply-formed p s (EnableInterrupts e) h f = enable-formed e f
-apply-formed p s (SwitchWidth w) h f = width-formed w f
 apply-formed p s SystemCall h f = call-formed f
 apply-formed p s InterruptReturn h f = return-formed f
-apply-formed p s UserReturn h f = user-formed f
-apply-formed p s (SelectSets n) h f = sets-formed n h f
+apply-formed p s (StoreCell a x) h f = advance-formed f
+apply-formed p s (Updates u) h f = updated-formed p s u h f
 
 -- ---- interrupts
 
@@ -216,13 +214,8 @@ requests-formed s requests f = pending-formed (mod-lt _ (lit< tt)) f
 
 -- PSR of a service routine
 pub service-status : (n : ℕ) (m : Machine) → StatusOk (servicePsr n m)
-unfolding servicePsr userMode
-service-status n m =
-    let i = bitAt n (controlAt m INT-MODE-IL) in
-    let h : bitOf i < 2 = bit-small i in
-    if-holds (λ q. StatusOk (q + 8 * bitOf i)) (bitAt n (controlAt m INT-MODE-UM))
-    (λ _. record { small = omega arith; sets = λ _. omega arith })
-    (λ _. super-status (6 + 8 * bitOf i) (omega arith) (let even : (6 + 8 * bitOf i) / 2 ^ 0 % 2 ≡ 0 = omega arith in rw even))
+unfolding servicePsr
+service-status n m = status-formed _ _ _ _ _ (λ e. rw e)
 
 -- an accepted source goes on the stack
 pub accepted-stacked : {m : Machine} {n : ℕ} → Accepted m n → WellFormed m → Stacked (entryFor n m ∷ m .stack)
@@ -277,22 +270,10 @@ module _ (P : List ℕ → Type 0) (more : (l : List ℕ) (a x : ℕ) → P l �
   unfolding apply machineOnly storeCell
   apply-cells (Stopped n) s h = h
   apply-cells (Raised c) s h = h
-  apply-cells Next s h = h
-  apply-cells (Result d x) s h = h
-  apply-cells (ResultFlags d x c) s h = h
-  apply-cells (ResultProduct d x y) s h = h
-  apply-cells (Compare c x) s h = h
-  apply-cells (Conditions x) s h = h
-  apply-cells (StoreControl n x) s h = h
-  apply-cells (StoreCell a x) s h = more (s .memory .cells) a x h
-  apply-cells (Jump t) s h = h
-  apply-cells (JumpLink t) s h = h
-  apply-cells (EnableInterrupts e) s h = h
-  apply-cells (SwitchWidth w) s h = h
   apply-cells SystemCall s h = h
   apply-cells InterruptReturn s h = h
-  apply-cells UserReturn s h = h
-  apply-cells (SelectSets n) s h = h
+  apply-cells (StoreCell a x) s h = more (s .memory .cells) a x h
+  apply-cells (Updates u) s h = h
 
   pub step-cells : (program : List ℕ) (s : State) (requests : ℕ) → P (s .memory .cells) → P (step program s requests .after .memory .cells)
   unfolding withRequests

@@ -9,7 +9,7 @@ use Rattle.word.proofs.Tests.{false-unless}
 use Rattle.machine.specs.Machine.{State}
 use Rattle.view.specs.View.{View, view}
 use Rattle.execute.specs.Decide.{decide}
-use Rattle.effect.specs.Effect.{Effect, Stopped, Raised, Next, Result, ResultFlags, ResultProduct, Compare, Conditions, StoreControl, StoreCell, Jump, JumpLink, EnableInterrupts, SwitchWidth, SystemCall, InterruptReturn, UserReturn, SelectSets}
+use Rattle.effect.specs.Effect.{Effect, Stopped, Raised, SystemCall, InterruptReturn, StoreCell, Updates}
 use Rattle.effect.specs.Apply.{Transition, machineOnly, storeCell, apply, stopNumber}
 use Rattle.effect.specs.Kind.{Kind}
 use Rattle.effect.specs.Kind as kind
@@ -42,24 +42,12 @@ effect-numbered : (v : View) (s : State) (e : Effect) → Safe v e → Numbered 
 unfolding apply machineOnly storeCell isStop stopNumber
 effect-numbered v s (Stopped n) h e = h
 effect-numbered v s (Raised c) h e = none-stops e
-effect-numbered v s Next h e = none-stops e
-effect-numbered v s (Result d x) h e = none-stops e
-effect-numbered v s (ResultFlags d x f) h e = none-stops e
-effect-numbered v s (ResultProduct d x y) h e = none-stops e
-effect-numbered v s (Compare c f) h e = none-stops e
-effect-numbered v s (Conditions x) h e = none-stops e
-effect-numbered v s (StoreControl n x) h e = none-stops e
-effect-numbered v s (StoreCell a x) h e = none-stops e
-effect-numbered v s (Jump t) h e = none-stops e
-effect-numbered v s (JumpLink t) h e = none-stops e
-effect-numbered v s (EnableInterrupts b) h e = none-stops e
-effect-numbered v s (SwitchWidth w) h e = none-stops e
 effect-numbered v s SystemCall h e = none-stops e
 effect-numbered v s InterruptReturn h e = none-stops e
-effect-numbered v s UserReturn h e = none-stops e
-effect-numbered v s (SelectSets n) h e = none-stops e
+effect-numbered v s (StoreCell a x) h e = none-stops e
+effect-numbered v s (Updates u) h e = none-stops e
 
--- what an instruction tells
+-- what an instruction reports
 pub instruction-numbered : (v : View) (s : State) → Numbered (apply (decide v) s .kind)
 instruction-numbered v s = effect-numbered v s (decide v) (decide-safe v)
 
@@ -68,7 +56,7 @@ unfolding interruptOr machineOnly isStop stopNumber
 taken-numbered v none s = instruction-numbered v s
 taken-numbered v (some n) s = none-stops
 
--- what a step tells
+-- what a step reports
 pub stop-number : (p : List ℕ) (s : State) (q : ℕ) → Numbered (step p s q .kind)
 unfolding step
 stop-number p s q = let r = withRequests q s in taken-numbered (view p r) (acceptedSource (view p r) (r .machine)) r

@@ -10,7 +10,7 @@ use Rattle.machine.specs.Machine.{State}
 use Rattle.machine.specs.Control.{controlAt, INT-PEND, withPending}
 use Rattle.view.specs.View.{view}
 use Rattle.execute.specs.Decide.{decide}
-use Rattle.effect.specs.Effect.{Effect, Stopped, Raised, Next, Result, ResultFlags, ResultProduct, Compare, Conditions, StoreControl, StoreCell, Jump, JumpLink, EnableInterrupts, SwitchWidth, SystemCall, InterruptReturn, UserReturn, SelectSets}
+use Rattle.effect.specs.Effect.{Effect, Stopped, Raised, SystemCall, InterruptReturn, StoreCell, Updates}
 use Rattle.effect.specs.Apply.{Transition, machineOnly, storeCell, apply, stopNumber, Report, reported}
 use Rattle.step.specs.Interrupt.{withRequests, acceptedSource, accept}
 use Rattle.step.specs.Step.{isStop, interruptOr, step}
@@ -22,22 +22,10 @@ pub stopped-same : (e : Effect) (s : State) → isStop (apply e s .kind) ≡ tru
 unfolding apply machineOnly storeCell isStop
 stopped-same (Stopped n) s h = refl
 stopped-same (Raised c) s h = absurd (true≢false (sym h))
-stopped-same Next s h = absurd (true≢false (sym h))
-stopped-same (Result d x) s h = absurd (true≢false (sym h))
-stopped-same (ResultFlags d x f) s h = absurd (true≢false (sym h))
-stopped-same (ResultProduct d x y) s h = absurd (true≢false (sym h))
-stopped-same (Compare c f) s h = absurd (true≢false (sym h))
-stopped-same (Conditions x) s h = absurd (true≢false (sym h))
-stopped-same (StoreControl n x) s h = absurd (true≢false (sym h))
-stopped-same (StoreCell a x) s h = absurd (true≢false (sym h))
-stopped-same (Jump t) s h = absurd (true≢false (sym h))
-stopped-same (JumpLink t) s h = absurd (true≢false (sym h))
-stopped-same (EnableInterrupts e) s h = absurd (true≢false (sym h))
-stopped-same (SwitchWidth w) s h = absurd (true≢false (sym h))
 stopped-same SystemCall s h = absurd (true≢false (sym h))
 stopped-same InterruptReturn s h = absurd (true≢false (sym h))
-stopped-same UserReturn s h = absurd (true≢false (sym h))
-stopped-same (SelectSets n) s h = absurd (true≢false (sym h))
+stopped-same (StoreCell a x) s h = absurd (true≢false (sym h))
+stopped-same (Updates u) s h = absurd (true≢false (sym h))
 
 requests-back : (requests : ℕ) (s : State)
     → record { machine = withPending (controlAt (s .machine) INT-PEND) (withRequests requests s .machine); memory = withRequests requests s .memory } ≡ s

@@ -6,12 +6,12 @@ use Prim.Native.Nat.{ℕ, zero, suc, _+_, _-_, _*_, _%_, _^_}
 use lib.ListN.{getD}
 use lib.Dec.{ltb, eqb}
 use Rattle.word.specs.Choice.{if_then_else_}
-use Rattle.word.specs.Word.{bitAt, bitOf, Field, fieldOf}
+use Rattle.word.specs.Word.{bitAt, Field, fieldOf}
 use Rattle.word.specs.Arithmetic.{orOf}
 use Rattle.word.specs.Flags.{withoutFlag}
 use Rattle.isa.specs.Operation.{mulhi, Properties, properties, Width}
 use Rattle.isa.specs.Decode.{opcodeOf}
-use Rattle.machine.specs.Machine.{Machine, State, psr, interruptsEnabled, widthOf, positionAt, withPosition, withPsr}
+use Rattle.machine.specs.Machine.{Machine, State, psr, interruptsEnabled, widthOf, statusOf, positionAt, withPosition, withPsr}
 use Rattle.machine.specs.Control.{controlAt, withPending, INT-VECTORS, INT-MODE-IL, INT-MODE-UM, INT-MASK, INT-PEND, EXT-INT-PRI, COP-INT-PRI}
 use Rattle.machine.specs.Stack.{withStack}
 use Rattle.machine.specs.declared.Position.{Position}
@@ -79,7 +79,9 @@ acceptedSource v m = if mayAccept v then candidate m 12 else none
 
 -- IE 0; IL and UM by the mode registers (UM bit 1 is user); both set bits are 1 for super user, else 0
 unfoldable pub servicePsr : (source : ℕ) → Machine → ℕ
-servicePsr n m = (if bitAt n (controlAt m INT-MODE-UM) then 1 else 6) + 8 * bitOf (bitAt n (controlAt m INT-MODE-IL))
+servicePsr n m =
+    let user = bitAt n (controlAt m INT-MODE-UM) in
+    statusOf user (not user) (not user) (bitAt n (controlAt m INT-MODE-IL)) false
 
 -- PC, PSR and C0 as they go on the stack
 unfoldable pub entryFor : (source : ℕ) → Machine → Entry

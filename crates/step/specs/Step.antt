@@ -24,10 +24,14 @@ unfoldable pub interruptOr : View → (source : Option ℕ) → State → Transi
 interruptOr v (some n) s = machineOnly Interrupt (accept n) s
 interruptOr v none s = apply (decide v) s
 
--- with the requests added; a stop leaves everything, requests included, as before it
-unfoldable pub step : (program : List ℕ) → State → (requests : ℕ) → Transition
-step program s requests =
+-- with the requests added, and the instruction seeing what `see` shows of the state; a stop leaves everything, requests included, as before it
+abbrev pub stepSeeing : (see : State → View) → State → (requests : ℕ) → Transition
+stepSeeing see s requests =
     let r = withRequests requests s in
-    let v = view program r in
+    let v = see r in
     let t = interruptOr v (acceptedSource v (r .machine)) r in
     record { kind = t .kind; after = if isStop (t .kind) then s else t .after }
+
+-- one step of a program
+unfoldable pub step : (program : List ℕ) → State → (requests : ℕ) → Transition
+step program = stepSeeing (view program)

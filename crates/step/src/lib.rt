@@ -17,30 +17,8 @@ use machine::Entry;
 use machine::Position;
 use view::Fetched;
 
-// Bits of PSR (002 section 2.4): 32-bit words, interrupts enabled.
-const IL: u32 = 3;
-
-const IE: u32 = 4;
-
 // The operation mulhi.
 const MULHI: u32 = 31;
-
-// The control registers that a step names, by their offsets.
-const INT_VECTORS: u32 = 0x04;
-
-const INT_MODE_IL: u32 = 0x10;
-
-const INT_MODE_UM: u32 = 0x11;
-
-const INT_MASK: u32 = 0x12;
-
-const INT_SERV: u32 = 0x13;
-
-const INT_PEND: u32 = 0x14;
-
-const EXT_INT_PRI: u32 = 0x15;
-
-const COP_INT_PRI: u32 = 0x16;
 
 // The number of interrupt sources, and by it none of them.
 const SOURCES: u32 = 12;
@@ -52,8 +30,8 @@ fn add_requests(w: &mut [u32], requests: u32)
     requires { ⌜ MachineWords (now w) × (wellFormed (machineOf (now w)) ≡ true) ⌝ }
     ensures { λ _. ⌜ machineOf (now (w .exit)) ≡ addRequests requests (machineOf (now (w .entry))) ⌝ }
 {
-    let flags = word::or(machine::control(w, INT_PEND), requests);
-    machine::set_control(w, INT_PEND, flags % 4096);
+    let flags = word::or(machine::control(w, machine::INT_PEND), requests);
+    machine::set_control(w, machine::INT_PEND, flags % 4096);
 }
 
 // ---- which source is accepted
@@ -64,9 +42,9 @@ fn priority(w: &[u32], n: u32) -> u32
     ensures { λ r. ⌜ r ≡ priority (machineOf (now (w .entry))) n ⌝ }
 {
     if n < 4 {
-        word::field(machine::control(w, COP_INT_PRI), 4 * n, 4)
+        word::field(machine::control(w, machine::COP_INT_PRI), 4 * n, 4)
     } else {
-        word::field(machine::control(w, EXT_INT_PRI), 4 * (n - 4), 4)
+        word::field(machine::control(w, machine::EXT_INT_PRI), 4 * (n - 4), 4)
     }
 }
 
@@ -97,7 +75,7 @@ fn service_floor(w: &[u32]) -> u32
     requires { ⌜ MachineWords (now w) ⌝ }
     ensures { λ r. ⌜ r ≡ serviceFloor (machineOf (now (w .entry))) ⌝ }
 {
-    let n = most_urgent(w, machine::control(w, INT_SERV), 16);
+    let n = most_urgent(w, machine::control(w, machine::INT_SERV), 16);
     if n < SOURCES { priority(w, n) } else { 16 }
 }
 
@@ -106,7 +84,7 @@ fn waiting(w: &[u32]) -> u32
     requires { ⌜ MachineWords (now w) ⌝ }
     ensures { λ r. ⌜ r ≡ waiting (machineOf (now (w .entry))) ⌝ }
 {
-    word::and(machine::control(w, INT_PEND), machine::control(w, INT_MASK))
+    word::and(machine::control(w, machine::INT_PEND), machine::control(w, machine::INT_MASK))
 }
 
 // The source to accept: pending, INT_MASK 1, a priority number below all in service; smallest number first, ties to the lower source.
@@ -126,7 +104,7 @@ fn next_is_mulhi(program: &[u8], w: &[u32]) -> bool
 {
     let fetched = view::fetch(program, w);
     match fetched {
-        Fetched::Word(word) => isa::opcode(word, word::has_flag(machine::psr(w), IL)) == MULHI,
+        Fetched::Word(word) => isa::opcode(word, machine::wide_words(w)) == MULHI,
         Fetched::Fault(_) => false,
         Fetched::Absent => false,
     }
@@ -137,7 +115,7 @@ fn may_accept(program: &[u8], w: &[u32]) -> bool
     requires { ⌜ MachineWords (now w) ⌝ }
     ensures { λ r. ⌜ ((memory : Memory) → r ≡ mayAccept (viewOf (now (program .entry)) (now (w .entry)) memory)) ⌝ }
 {
-    if word::has_flag(machine::psr(w), IE) & (machine::slot(w) != 1) {
+    if machine::interrupts_enabled(w) & (machine::slot(w) != 1) {
         if machine::held(w) == 1 {
             !next_is_mulhi(program, w)
         } else {
@@ -169,12 +147,9 @@ fn service_psr(w: &[u32], n: u32) -> u32
     requires { ⌜ MachineWords (now w) × (n < 12) ⌝ }
     ensures { λ r. ⌜ r ≡ servicePsr n (machineOf (now (w .entry))) ⌝ }
 {
-    let wide = word::has_flag(machine::control(w, INT_MODE_IL), n) as u32;
-    if word::has_flag(machine::control(w, INT_MODE_UM), n) {
-        1 + 8 * wide
-    } else {
-        6 + 8 * wide
-    }
+    let wide = word::has_flag(machine::control(w, machine::INT_MODE_IL), n);
+    let user = word::has_flag(machine::control(w, machine::INT_MODE_UM), n);
+    machine::status(user, !user, !user, wide, false)
 }
 
 // PC, PSR and C0 as they go on the stack.
@@ -198,9 +173,9 @@ fn accept(w: &mut [u32], n: u32)
 {
     let entry = entry_for(w, n);
     let psr = service_psr(w, n);
-    let vector = machine::control(w, INT_VECTORS + n);
-    let pending = word::without_flag(machine::control(w, INT_PEND), n);
-    machine::set_control(w, INT_PEND, pending);
+    let vector = machine::control(w, machine::INT_VECTORS + n);
+    let pending = word::without_flag(machine::control(w, machine::INT_PEND), n);
+    machine::set_control(w, machine::INT_PEND, pending);
     machine::push(w, entry);
     machine::set_psr(w, psr);
     machine::set_position(
@@ -223,7 +198,7 @@ pub fn step(program: &[u8], w: &mut [u32], cells: &mut [u32], requests: u32) -> 
     requires { ⌜ MachineWords (now w) × (length (now program) ≤ MOST-MEMORY) × (wellFormed (machineOf (now w)) ≡ true) ⌝ }
     ensures { λ r. ⌜ reportBy r (now (w .exit)) (memoryOf (now (cells .exit))) ≡ reported (step (now (program .entry)) (stateOf (now (w .entry)) (memoryOf (now (cells .entry)))) requests) ⌝ }
 {
-    let pending = machine::control(w, INT_PEND);
+    let pending = machine::control(w, machine::INT_PEND);
     add_requests(w, requests);
     let n = accepted_source(program, w);
     if n < SOURCES {
@@ -232,7 +207,7 @@ pub fn step(program: &[u8], w: &mut [u32], cells: &mut [u32], requests: u32) -> 
     }
     let stop = execute::execute(program, w, cells);
     if stop != 0 {
-        machine::set_control(w, INT_PEND, pending);
+        machine::set_control(w, machine::INT_PEND, pending);
     }
     stop
 }

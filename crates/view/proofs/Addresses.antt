@@ -12,8 +12,8 @@ use Rattle.word.specs.Word.{wordOf, isAddress}
 use Rattle.word.proofs.Tests.{and-parts}
 use Rattle.word.proofs.Bounds.{word-below}
 use Rattle.machine.specs.Machine.{State, psr, userMode}
-use Rattle.machine.specs.Control.{controlAt, within, CCB-BASE, DMEM-BOUND-LO, DMEM-BOUND-HI}
-use Rattle.view.specs.View.{View, inBlock, placeAt, view}
+use Rattle.machine.specs.Control.{controlAt, protectedCell, CCB-BASE}
+use Rattle.view.specs.View.{View, inBlock, foundAt, placeAt, view}
 use Rattle.view.specs.declared.Place.{Place}
 use Rattle.view.specs.declared.Place.the-variants.{Block, Cell, Denied, Missing}
 use Rattle.word.proofs.Tests.{if-holds}
@@ -26,68 +26,68 @@ open-in : (user b : Bool) → user && b ≡ false → user ≡ true → b ≡ fa
 open-in true b e u = e
 open-in false b e u = absurd (true≢false (sym u))
 
-pub record IsCell (user : Bool) (low high base count a : ℕ) : Type 0 where
-  pub there : a < count
+-- a data cell that an access reaches
+pub record CellOf (s : State) (a : ℕ) : Type 0 where
+  pub there : a < length (s .memory .cells)
   pub address : a < 2 ^ 32
-  pub outside : inBlock base a ≡ false
-  pub unprotected : user ≡ true → within low high a ≡ false
+  pub outside : inBlock (controlAt (s .machine) CCB-BASE) a ≡ false
+  pub unprotected : userMode (psr (s .machine)) ≡ true → protectedCell (s .machine) a ≡ false
 
 -- a register of the control block, by its offset
-pub record IsBlock (user : Bool) (low high base n : ℕ) : Type 0 where
+pub record BlockOf (s : State) (n : ℕ) : Type 0 where
   pub offset : n ≤ 255
-  pub address : base + n < 2 ^ 32
-  pub unprotected : user ≡ true → within low high (base + n) ≡ false
+  pub address : controlAt (s .machine) CCB-BASE + n < 2 ^ 32
+  pub unprotected : userMode (psr (s .machine)) ≡ true → protectedCell (s .machine) (controlAt (s .machine) CCB-BASE + n) ≡ false
 
-module _ (user : Bool) (low high base count : ℕ) where
+module _ (s : State) where
   abbrev Meant : Place → Type 0
-  Meant (Block n) = IsBlock user low high base n
-  Meant (Cell a) = IsCell user low high base count a
+  Meant (Block n) = BlockOf s n
+  Meant (Cell a) = CellOf s a
   Meant (Denied c) = Unit {0}
   Meant Missing = Unit {0}
 
-  block-meant : (a : ℕ) → a < 2 ^ 32 → (user ≡ true → within low high a ≡ false) → inBlock base a ≡ true → IsBlock user low high base (a - base)
+  abbrev Open : ℕ → Type 0
+  Open a = userMode (psr (s .machine)) ≡ true → protectedCell (s .machine) a ≡ false
+
+  block-meant : (a : ℕ) → a < 2 ^ 32 → Open a → inBlock (controlAt (s .machine) CCB-BASE) a ≡ true → BlockOf s (a - controlAt (s .machine) CCB-BASE)
   unfolding inBlock
   block-meant a w u b =
+      let base = controlAt (s .machine) CCB-BASE in
       let t = and-parts (leb base a) (leb a (base + 255)) b in
       let low-end : base ≤ a = leb-true base a (t .0) in
       let high-end : a ≤ base + 255 = leb-true a (base + 255) (t .1) in
       let again : a ≡ base + (a - base) = omega arith in
-      record { offset = omega arith; address = omega arith; unprotected = λ e. ap (within low high) (sym again) ∙ u e }
+      record { offset = omega arith; address = omega arith; unprotected = λ e. ap (protectedCell (s .machine)) (sym again) ∙ u e }
 
-  place-meant : (z : ℤ) → Meant (placeAt user low high base count z)
+  found-meant : (a : ℕ) → a < 2 ^ 32 → Open a → Meant (foundAt s a)
+  unfolding foundAt
+  found-meant a w u =
+      if-holds Meant (inBlock (controlAt (s .machine) CCB-BASE) a) (block-meant a w u) (λ o.
+      if-holds Meant (ltb a (length (s .memory .cells)))
+      (λ t. record { there = ltb-true a (length (s .memory .cells)) t; address = w; outside = o; unprotected = u })
+      (λ _. tt))
+
+  place-meant : (z : ℤ) → Meant (placeAt s z)
   unfolding placeAt
   place-meant z =
       let a = wordOf 32 z in
       if-holds Meant (not (isAddress z)) (λ _. tt) (λ _.
-      if-holds Meant (user && within low high a) (λ _. tt) (λ p.
-      if-holds Meant (inBlock base a) (block-meant a (word-below 32 z) (open-in user (within low high a) p)) (λ o.
-      if-holds Meant (ltb a count)
-      (λ t. record { there = ltb-true a count t; address = word-below 32 z; outside = o; unprotected = open-in user (within low high a) p })
-      (λ _. tt))))
+      if-holds Meant (userMode (psr (s .machine)) && protectedCell (s .machine) a) (λ _. tt) (λ p.
+      found-meant a (word-below 32 z) (open-in _ _ p)))
 
-  pub place-cell : (z : ℤ) (a : ℕ) → placeAt user low high base count z ≡ Cell a → IsCell user low high base count a
+  pub place-cell : (z : ℤ) (a : ℕ) → placeAt s z ≡ Cell a → CellOf s a
   place-cell z a e = rw e at (place-meant z)
 
-  pub place-block : (z : ℤ) (n : ℕ) → placeAt user low high base count z ≡ Block n → IsBlock user low high base n
+  pub place-block : (z : ℤ) (n : ℕ) → placeAt s z ≡ Block n → BlockOf s n
   place-block z n e = rw e at (place-meant z)
 
 -- ---- what a state's view reaches
 
-abbrev pub CellOf : State → (address : ℕ) → Type 0
-CellOf s a =
-    let m = s .machine in
-    IsCell (userMode (psr m)) (controlAt m DMEM-BOUND-LO) (controlAt m DMEM-BOUND-HI) (controlAt m CCB-BASE) (length (s .memory .cells)) a
-
-abbrev pub BlockOf : State → (offset : ℕ) → Type 0
-BlockOf s n =
-    let m = s .machine in
-    IsBlock (userMode (psr m)) (controlAt m DMEM-BOUND-LO) (controlAt m DMEM-BOUND-HI) (controlAt m CCB-BASE) n
-
 module _ (program : List ℕ) (s : State) where
   pub reached-cell : (a : ℕ) → Reached (view program s) (Cell a) → CellOf s a
   unfolding view
-  reached-cell a r = place-cell _ _ _ _ _ (r .0) a (r .1)
+  reached-cell a r = place-cell s (r .0) a (r .1)
 
   pub reached-block : (n : ℕ) → Reached (view program s) (Block n) → BlockOf s n
   unfolding view
-  reached-block n r = place-block _ _ _ _ _ (r .0) n (r .1)
+  reached-block n r = place-block s (r .0) n (r .1)

@@ -14,7 +14,7 @@ use Rattle.isa.specs.Condition.{conditionOf, holds}
 use Rattle.isa.specs.declared.Instruction.{Instruction}
 use Rattle.isa.specs.Decode.{wordBytes}
 use Rattle.machine.specs.Machine.{Machine, Memory, State, psr, userMode, readsSet2, writesSet2, widthOf, setBy}
-use Rattle.machine.specs.Control.{controlAt, within, CCB-BASE, DMEM-BOUND-LO, DMEM-BOUND-HI, IMEM-BOUND-LO, IMEM-BOUND-HI}
+use Rattle.machine.specs.Control.{controlAt, within, protectedCell, CCB-BASE, IMEM-BOUND-LO, IMEM-BOUND-HI}
 use Rattle.machine.specs.Words.{stateOf}
 use Rattle.machine.specs.declared.Position.{Position}
 use Rattle.view.specs.declared.Fetched.{Fetched}
@@ -53,16 +53,22 @@ fetchAt program low high user n pc =
 unfoldable pub inBlock : (base a : ℕ) → Bool
 inBlock base a = leb base a && leb a (base + 255)
 
--- what a data address names: outside 32 bits (08h); user and protected (07h), the block's addresses like the cells'; the block first,
--- then the cells; or neither (01 "Data tests", "Data address order")
-unfoldable pub placeAt : (user : Bool) (low high base count : ℕ) (address : ℤ) → Place
-placeAt user low high base count address =
+-- what is at a data address: the block first, then the cells; or neither (01 "Data address order")
+unfoldable pub foundAt : State → (a : ℕ) → Place
+foundAt s a =
+    let base = controlAt (s .machine) CCB-BASE in
+    if inBlock base a then Block (a - base)
+    else if ltb a (length (s .memory .cells)) then Cell a
+    else Missing
+
+-- what an access of a data address reaches: outside 32 bits (08h); user and protected (07h), the block's addresses like the cells'; then what
+-- is there (01 "Data tests")
+unfoldable pub placeAt : State → (address : ℤ) → Place
+placeAt s address =
     let a = wordOf 32 address in
     if not (isAddress address) then Denied 0x08
-    else if user && within low high a then Denied 0x07
-    else if inBlock base a then Block (a - base)
-    else if ltb a count then Cell a
-    else Missing
+    else if userMode (psr (s .machine)) && protectedCell (s .machine) a then Denied 0x07
+    else foundAt s a
 
 -- what a load of a place gives; a refused or missing one gives nothing, here 0
 unfoldable pub heldAt : State → Place → ℕ
@@ -97,7 +103,6 @@ view program s =
     let m = s .machine in
     let q = psr m in
     let n = wordBytes (widthOf q) in
-    let place = placeAt (userMode q) (controlAt m DMEM-BOUND-LO) (controlAt m DMEM-BOUND-HI) (controlAt m CCB-BASE) (length (s .memory .cells)) in
     record {
       status = q;
       position = m .position;
@@ -106,8 +111,8 @@ view program s =
       fetched = fetchAt program (controlAt m IMEM-BOUND-LO) (controlAt m IMEM-BOUND-HI) (userMode q) n (m .position .pc);
       source = λ r. getD (setBy (readsSet2 q) m) r 0;
       target = λ r. getD (setBy (writesSet2 q) m) r 0;
-      place = place;
-      load = λ a. heldAt s (place a);
+      place = placeAt s;
+      load = λ a. heldAt s (placeAt s a);
       closed = λ a. userMode q && anyWithin (controlAt m IMEM-BOUND-LO) (controlAt m IMEM-BOUND-HI) a n;
     }
 

@@ -2,8 +2,7 @@
 ghost use mathlib.Core.Path.{_≡_};
 ghost use Prim.Native.Nat.{_<_};
 ghost use Rattle.machine.specs.Words.{MachineWords};
-ghost use Rattle.view.specs.View.{View, Shows};
-ghost use Rattle.view.specs.View.{conditionFalse};
+ghost use Rattle.view.specs.View.{View, Shows, conditionFalse};
 
 mod memory;
 mod program;
@@ -15,15 +14,6 @@ pub use program::closed;
 pub use program::fetch;
 pub use program::misaligned;
 pub use program::word_bytes;
-
-// Bits of PSR (002 section 2.4): user mode, registers read from set 2, registers written in set 2, 32-bit words.
-const UM: u32 = 0;
-
-const RSRD: u32 = 1;
-
-const RSWR: u32 = 2;
-
-const IL: u32 = 3;
 
 // What a fetch gives.
 pub enum Fetched {
@@ -52,7 +42,7 @@ pub fn source(w: &[u32], n: u32) -> u32
     requires { ⌜ MachineWords (now w) × (n < 32) ⌝ }
     ensures { λ r. ⌜ Shows (λ v. v .source n) r (now (w .entry)) ⌝ }
 {
-    machine::register(w, word::has_flag(machine::psr(w), RSRD), n)
+    machine::register(w, machine::reads_set2(w), n)
 }
 
 // A register of the set that is written.
@@ -60,7 +50,7 @@ pub fn target(w: &[u32], n: u32) -> u32
     requires { ⌜ MachineWords (now w) × (n < 32) ⌝ }
     ensures { λ r. ⌜ Shows (λ v. v .target n) r (now (w .entry)) ⌝ }
 {
-    machine::register(w, word::has_flag(machine::psr(w), RSWR), n)
+    machine::register(w, machine::writes_set2(w), n)
 }
 
 // Whether the instruction is conditional and its condition false.

@@ -2,26 +2,20 @@
 ghost use mathlib.Core.Path.{_≡_};
 ghost use mathlib.Core.Bool.{_&&_};
 ghost use lib.ListN.{getD};
-ghost use Rattle.machine.specs.Control.{controlAt, within, CCB-BASE, DMEM-BOUND-LO, DMEM-BOUND-HI};
-ghost use Rattle.machine.specs.Words.{MachineWords, machineOf};
-ghost use Rattle.view.specs.View.{inBlock, placeAt};
+ghost use Rattle.machine.specs.Machine.{psr, userMode, memoryOf};
+ghost use Rattle.machine.specs.Control.{protectedCell};
+ghost use Rattle.machine.specs.Words.{MachineWords, machineOf, stateOf};
+ghost use Rattle.view.specs.View.{inBlock, foundAt, placeAt};
 use crate::Place;
 
-// Offsets in the control block: its own base, and the bounds.
-const CCB_BASE: u32 = 0x00;
-
-const DMEM_BOUND_LO: u32 = 0x1A;
-
-const DMEM_BOUND_HI: u32 = 0x1B;
-
 // Whether the data address a is protected from the mode.
-fn guarded(w: &[u32], user: bool, a: u32) -> bool
+fn guarded(w: &[u32], a: u32) -> bool
     requires { ⌜ MachineWords (now w) ⌝ }
-    ensures { λ r. ⌜ r ≡ user && within (controlAt (machineOf (now (w .entry))) DMEM-BOUND-LO) (controlAt (machineOf (now (w .entry))) DMEM-BOUND-HI) a ⌝ }
+    ensures { λ r. ⌜ r ≡ userMode (psr (machineOf (now (w .entry)))) && protectedCell (machineOf (now (w .entry))) a ⌝ }
 {
-    let low = machine::control(w, DMEM_BOUND_LO);
-    let high = machine::control(w, DMEM_BOUND_HI);
-    user & machine::protected(low, high, a)
+    let low = machine::control(w, machine::DMEM_BOUND_LO);
+    let high = machine::control(w, machine::DMEM_BOUND_HI);
+    machine::user_mode(w) & machine::protected(low, high, a)
 }
 
 // Whether a is one of the control block's 256 addresses.
@@ -31,23 +25,33 @@ fn in_block(base: u32, a: u32) -> bool
     if base <= a { a - base <= 255 } else { false }
 }
 
-// What a data address names: 08h, 07h, the control block, a cell, or nothing.
-pub fn place(w: &[u32], user: bool, count: usize, address: i64) -> Place
+// What is at a data address: the control block, a cell, or nothing.
+fn found(w: &[u32], cells: &[u32], a: u32) -> Place
     requires { ⌜ MachineWords (now w) ⌝ }
-    ensures { λ r. ⌜ r ≡ placeAt user (controlAt (machineOf (now (w .entry))) DMEM-BOUND-LO) (controlAt (machineOf (now (w .entry))) DMEM-BOUND-HI) (controlAt (machineOf (now (w .entry))) CCB-BASE) count address ⌝ }
+    ensures { λ r. ⌜ r ≡ foundAt (stateOf (now (w .entry)) (memoryOf (now (cells .entry)))) a ⌝ }
 {
-    let a = word::low_word(address);
-    let base = machine::control(w, CCB_BASE);
-    if !word::is_address(address) {
-        Place::Denied(0x08)
-    } else if guarded(w, user, a) {
-        Place::Denied(0x07)
-    } else if in_block(base, a) {
+    let base = machine::control(w, machine::CCB_BASE);
+    if in_block(base, a) {
         Place::Block(a - base)
-    } else if (a as usize) < count {
+    } else if (a as usize) < cells.len() {
         Place::Cell(a)
     } else {
         Place::Missing
+    }
+}
+
+// What an access of a data address reaches: 08h, 07h, or what is there.
+pub fn place(w: &[u32], cells: &[u32], address: i64) -> Place
+    requires { ⌜ MachineWords (now w) ⌝ }
+    ensures { λ r. ⌜ r ≡ placeAt (stateOf (now (w .entry)) (memoryOf (now (cells .entry)))) address ⌝ }
+{
+    let a = word::low_word(address);
+    if !word::is_address(address) {
+        Place::Denied(0x08)
+    } else if guarded(w, a) {
+        Place::Denied(0x07)
+    } else {
+        found(w, cells, a)
     }
 }
 

@@ -11,13 +11,6 @@ ghost use Rattle.machine.specs.Words.{MachineWords, machineOf};
 ghost use Rattle.view.specs.View.{View, anyWithin, bytesAt, viewOf};
 ghost use Rattle.machine.specs.Machine.{Memory};
 use crate::Fetched;
-use crate::IL;
-use crate::UM;
-
-// Offsets of the bounds in the control block.
-const IMEM_BOUND_LO: u32 = 0x1C;
-
-const IMEM_BOUND_HI: u32 = 0x1D;
 
 // The length in bytes of an instruction word.
 pub fn word_bytes(wide: bool) -> u32
@@ -31,8 +24,8 @@ pub fn closed(w: &[u32], user: bool, a: u32, n: u32) -> bool
     requires { ⌜ MachineWords (now w) × (0 < n) × (a + n ≤ 2 ^ 32) ⌝ }
     ensures { λ r. ⌜ r ≡ user && anyWithin (controlAt (machineOf (now (w .entry))) IMEM-BOUND-LO) (controlAt (machineOf (now (w .entry))) IMEM-BOUND-HI) a n ⌝ }
 {
-    let low = machine::control(w, IMEM_BOUND_LO);
-    let high = machine::control(w, IMEM_BOUND_HI);
+    let low = machine::control(w, machine::IMEM_BOUND_LO);
+    let high = machine::control(w, machine::IMEM_BOUND_HI);
     if a <= high {
         user & (low <= a + (n - 1)) & (low <= high)
     } else {
@@ -70,13 +63,12 @@ pub fn fetch(program: &[u8], w: &[u32]) -> Fetched
     requires { ⌜ MachineWords (now w) ⌝ }
     ensures { λ r. ⌜ ((memory : Memory) → r ≡ viewOf (now (program .entry)) (now (w .entry)) memory .fetched) ⌝ }
 {
-    let psr = machine::psr(w);
     let pc = machine::pc(w);
-    let wide = word::has_flag(psr, IL);
+    let wide = machine::wide_words(w);
     let n = word_bytes(wide);
     if misaligned(wide, pc) {
         Fetched::Fault(0x05)
-    } else if closed(w, word::has_flag(psr, UM), pc, n) {
+    } else if closed(w, machine::user_mode(w), pc, n) {
         Fetched::Fault(0x00)
     } else {
         word_at(program, wide, pc)

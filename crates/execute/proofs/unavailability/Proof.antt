@@ -5,8 +5,12 @@ use Rattle.execute.proofs.unavailability.Statement.{statement}
 use Rattle.execute.proofs.unavailability.Tie as tie
 
 returns : tie.Need-returns
-unfolding userMode widthOf
-returns c = rw (c .unavailability .ensures, c .before .has-flag .ensures, c .before .before .psr .ensures, c .before .before .before .wide-words .ensures)
+unfolding widthOf
+returns c = rw (c .unavailability .ensures, c .before .user-mode .ensures, c .before .before .wide-words .ensures)
 
 pub unavailability-spec : {M : Type 1} → statement M
-unavailability-spec = tie.close (tie.spec (λ c κs. search needs) (λ c κs. search needs) (λ c κs. search needs) (λ c κs. search needs) returns)
+unavailability-spec =
+    tie.close
+    (tie.spec
+    (λ c κs. search needs) (λ c κs. search needs) (λ c κs. search needs)
+    returns)

@@ -1,7 +1,6 @@
 -- `machine::store_control` meets its contract: a writable register keeps what it can hold, and any other stays. Assumes nothing.
 use mathlib.Core.Path.{_≡_, sym, _∙_}
 use mathlib.Core.Bool.{true}
-use Rattle.machine.specs.Machine.{withControl}
 use Rattle.machine.specs.Control.{registerAt, isWritable}
 use Rattle.machine.proofs.Widths.{writable-small, stored-writable, stored-ignored}
 use borrow.Author.Needs.{needs}
@@ -20,7 +19,6 @@ returns c =
     (c .before .before .set-control .ensures)
 
 returns-2 : tie.Need-returns-2
-unfolding withControl
 returns-2 c = rw (stored-ignored _ _ _ (sym (c .before .writable .ensures) ∙ c .if1 .left))
 
 pub store-control-spec : {M : Type 1} → statement M

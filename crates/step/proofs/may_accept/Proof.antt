@@ -5,7 +5,7 @@ use mathlib.Core.List.{List}
 use Prim.Native.Nat.{ℕ}
 use lib.Dec.{eqb}
 use borrow.Author.Tests.{eq-eqb, ne-eqb}
-use Rattle.machine.specs.Machine.{psr, interruptsEnabled, widthOf, Memory}
+use Rattle.machine.specs.Machine.{widthOf, Memory}
 use Rattle.machine.specs.Words.{machineOf}
 use Rattle.view.specs.View.{View, view, viewOf}
 use Rattle.step.specs.Interrupt.{isMulhi, mayAccept}
@@ -19,15 +19,15 @@ joined false b c t e = rw (← e)
 
 -- IE and the slot are asked as one
 abbrev entry : tie.After-slot → tie.Start
-entry c = c .before .before .before .before .before
+entry c = c .before .before .before .before
 
 abbrev seen : tie.After-slot → Memory → View
 seen c memory = viewOf (entry c .args .program .now) (entry c .args .w .now) memory
 
-first-two : (c : tie.After-slot) (memory : Memory) (t : Bool) → c .before .has-flag .result && not (eqb (c .slot .result) 1) ≡ t
+first-two : (c : tie.After-slot) (memory : Memory) (t : Bool) → c .before .interrupts-enabled .result && not (eqb (c .slot .result) 1) ≡ t
     → t && not (eqb (machineOf (entry c .args .w .now) .position .held) 1 && isMulhi (widthOf (seen c memory .status)) (seen c memory .fetched)) ≡ mayAccept (seen c memory)
-unfolding mayAccept view interruptsEnabled
-first-two c memory t e = rw (← (c .before .before .psr .ensures), ← (c .before .has-flag .ensures), ← (c .slot .ensures)) (joined (c .before .has-flag .result) (not (eqb (c .slot .result) 1)) _ t e)
+unfolding mayAccept view
+first-two c memory t e = rw (← (c .before .interrupts-enabled .ensures), ← (c .slot .ensures)) (joined (c .before .interrupts-enabled .result) (not (eqb (c .slot .result) 1)) _ t e)
 
 returns : tie.Need-returns
 unfolding view
@@ -47,7 +47,7 @@ pub may-accept-spec : {M : Type 1} → statement M
 may-accept-spec =
     tie.close
     (tie.spec
-    (λ c κs. search needs) (λ c κs. search needs) (λ c κs. search needs) (λ c κs. search needs) (λ c κs. search needs)
+    (λ c κs. search needs) (λ c κs. search needs) (λ c κs. search needs) (λ c κs. search needs)
     returns
     returns-2
     returns-3)

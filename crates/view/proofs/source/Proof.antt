@@ -1,13 +1,12 @@
--- `view::source` meets its contract: by the set that is read from. Assumes nothing.
+-- `view::source` meets its contract: in the set that PSR names. Assumes nothing.
+use Rattle.view.specs.View.{view}
 use borrow.Author.Needs.{needs}
-use Rattle.machine.specs.Machine.{readsSet2}
-use Rattle.view.specs.View.{View, view}
 use Rattle.view.proofs.source.Statement.{statement}
 use Rattle.view.proofs.source.Tie as tie
 
 returns : tie.Need-returns
-unfolding readsSet2 view
-returns c p memory = rw (c .register .ensures, c .before .has-flag .ensures, c .before .before .psr .ensures)
+unfolding view
+returns c p memory = rw (c .register .ensures, c .before .reads-set2 .ensures)
 
 pub source-spec : {M : Type 1} → statement M
-source-spec = tie.close (tie.spec (λ c κs. search needs) (λ c κs. search needs) (λ c κs. search needs) returns)
+source-spec = tie.close (tie.spec (λ c κs. search needs) (λ c κs. search needs) returns)

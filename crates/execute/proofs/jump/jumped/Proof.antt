@@ -18,26 +18,25 @@ use Rattle.execute.proofs.jump.jumped.Statement.{statement}
 use Rattle.execute.proofs.jump.jumped.Tie as tie
 
 -- the target's low word, and whether it has 32 bits
-word-is : (c : tie.After-low-word) → c .low-word .result ≡ wordOf 32 (c .before .before .before .before .before .before .args .target)
-word-is c = handed (wordOf 32) (c .before .before .before .before .before .before .fits .target) (c .low-word .ensures)
+word-is : (c : tie.After-low-word) → c .low-word .result ≡ wordOf 32 (c .before .before .before .before .before .args .target)
+word-is c = handed (wordOf 32) (c .before .before .before .before .before .fits .target) (c .low-word .ensures)
 
-address-is : (c : tie.After-is-address) → c .is-address .result ≡ isAddress (c .before .before .before .before .before .before .before .args .target)
-address-is c = handed isAddress (c .before .before .before .before .before .before .before .fits .target) (c .is-address .ensures)
+address-is : (c : tie.After-is-address) → c .is-address .result ≡ isAddress (c .before .before .before .before .before .before .args .target)
+address-is c = handed isAddress (c .before .before .before .before .before .before .fits .target) (c .is-address .ensures)
 
 -- past the first two tests only protection is asked
 aligned : (c : tie.After-closed) (p : List ℕ) (memory : Memory) (taken : ℕ → Effect)
-    → let s = c .before .before .before .before .before .before .before .before .before .before .before .before .before in
+    → let s = c .before .before .before .before .before .before .before .before .before .before .before .before in
     jumped (viewOf p (now (s .args .w)) memory) (s .args .target) taken ≡ if c .closed .result then Raised 0x09 else taken (c .before .before .before .before .before .before .before .low-word .result)
-unfolding userMode wideWords widthOf if_then_else_ view jumped
+unfolding widthOf if_then_else_ view jumped
 aligned c p memory taken =
     rw (
       ← (address-is (c .before .before .before .before .before .before)),
       ← (word-is (c .before .before .before .before .before .before .before)),
-      ← (c .before .before .before .before .before .before .before .before .before .before .psr .ensures),
-      ← (c .before .before .before .before .before .before .before .before .before .has-flag .ensures),
+      ← (c .before .before .before .before .before .before .before .before .before .wide-words .ensures),
       ← (c .before .before .before .before .misaligned .ensures),
       ← (c .before .before .before .before .before .before .before .before .word-bytes .ensures),
-      ← (c .before .has-flag2 .ensures),
+      ← (c .before .user-mode .ensures),
       ← (c .closed .ensures),
       c .before .before .before .before .before .if1 .left,
       c .before .before .before .if2 .left,
@@ -47,7 +46,7 @@ closed-requires : tie.Need-closed-requires
 closed-requires c κs =
     let tested = c .before .before .before in
     let bytes = tested .before .before .before .before .word-bytes in
-    let wide = widthBy (tested .before .before .before .before .before .has-flag .result) in
+    let wide = widthBy (tested .before .before .before .before .before .wide-words .result) in
     let even = aligned-at _ _ _ (tested .misaligned .ensures) (c .before .before .if2 .left) in
     (search needs, rw (bytes .ensures) (bytes-positive wide), aligned-fits wide _ _ (bytes .ensures) (omega arith) (rw (bytes .ensures) even))
 
@@ -56,13 +55,12 @@ unfolding if_then_else_ jumped
 returns c p memory = rw (← (address-is (c .before .before .before .before .before)), c .before .before .before .before .if1 .taken) (c .before .before .raise .ensures memory)
 
 returns-2 : tie.Need-returns-2
-unfolding wideWords widthOf if_then_else_ view jumped
+unfolding widthOf if_then_else_ view jumped
 returns-2 c p memory =
     rw (
       ← (address-is (c .before .before .before .before .before .before .before)),
       ← (word-is (c .before .before .before .before .before .before .before .before)),
-      ← (c .before .before .before .before .before .before .before .before .before .before .before .psr .ensures),
-      ← (c .before .before .before .before .before .before .before .before .before .before .has-flag .ensures),
+      ← (c .before .before .before .before .before .before .before .before .before .before .wide-words .ensures),
       ← (c .before .before .before .before .before .misaligned .ensures),
       c .before .before .before .before .before .before .if1 .left,
       c .before .before .before .before .if2 .taken,
@@ -86,4 +84,18 @@ returns-5 c p memory =
     (c .before .before .jump .ensures memory)
 
 pub jumped-spec : {M : Type 1} → statement M
-jumped-spec = tie.close (tie.spec (λ c κs. search needs) (λ c κs. search needs) (λ c κs. search needs) (λ c κs. search needs) (λ c κs. search needs) (λ c κs. search needs) (λ c κs. search needs) (λ c κs. search needs) (λ c κs. search needs) closed-requires (λ c κs. search needs) (λ c κs. search needs) (λ c κs. search needs) (λ c. search needs) returns (λ c. search needs) returns-2 (λ c. search needs) returns-3 (λ c. search needs) returns-4 (λ c. search needs) returns-5)
+jumped-spec =
+    tie.close
+    (tie.spec
+    (λ c κs. search needs) (λ c κs. search needs) (λ c κs. search needs) (λ c κs. search needs) (λ c κs. search needs) (λ c κs. search needs) (λ c κs. search needs) (λ c κs. search needs)
+    closed-requires
+    (λ c κs. search needs) (λ c κs. search needs) (λ c κs. search needs) (λ c. search needs)
+    returns
+    (λ c. search needs)
+    returns-2
+    (λ c. search needs)
+    returns-3
+    (λ c. search needs)
+    returns-4
+    (λ c. search needs)
+    returns-5)

@@ -30,12 +30,10 @@ address c =
 
 -- the place that it names
 named : (c : tie.After-place) (p : List ℕ)
-    → let a = c .before .before .before .before .before .before .before .before .before .args in
+    → let a = c .before .before .before .before .before .before .before .args in
     viewOf p (now (a .w)) (memoryOf (now (a .cells))) .place (pos (a .x) +ℤ a .i .immediate) ≡ c .place .result
-unfolding userMode view
-named c p =
-    let d = c .before .before in
-    rw (c .place .ensures, address (d .before .before .before), d .has-flag .ensures, d .before .psr .ensures)
+unfolding view
+named c p = rw (c .place .ensures, address (c .before .before .before))
 
 -- what is not ld is st
 store : {op : ℕ} → 27 ≤ op → op ≤ 28 → (op ≡ 27 → ⊥) → op ≡ 28
@@ -58,7 +56,7 @@ returns-2 c y p =
     let d = b .before .before in
     let t = d .before .before in
     let e = t .before .before in
-    let s = e .before .before .before .before .before .before .before .before .before .before .before in
+    let s = e .before .before .before .before .before .before .before .before .before in
     rw (
       store (s .pre .2) (s .pre .3) (t .if1 .left),
       named (e .before .before) p ∙ e .place2 .given .1,
@@ -82,7 +80,7 @@ returns-4 c y p =
     let d = b .before .before .before in
     let t = d .before .before in
     let e = t .before .before in
-    let s = e .before .before .before .before .before .before .before .before .before .before .before in
+    let s = e .before .before .before .before .before .before .before .before .before in
     rw (
       store (s .pre .2) (s .pre .3) (t .if2 .left),
       named (e .before .before) p ∙ e .place3 .given .1,
@@ -94,7 +92,7 @@ returns-5 : tie.Need-returns-5
 returns-5 c y p =
     let b = c .before .before in
     let e = b .before .before .before in
-    let s = e .before .before .before .before .before .before .before .before .before .before .before in
+    let s = e .before .before .before .before .before .before .before .before .before in
     let a = s .args in
     let here = named (e .before .before) p ∙ e .place4 .given .1 in
     rw (access-refused (viewOf p (now (a .w)) (memoryOf (now (a .cells)))) (a .i) (a .x) y (a .i .opcode) _ here (s .pre .2) (s .pre .3))
@@ -103,7 +101,7 @@ returns-5 c y p =
 returns-6 : tie.Need-returns-6
 unfolding apply stopNumber reported reportOn
 returns-6 c y p =
-    let s = c .before .before .before .before .before .before .before .before .before .before .before in
+    let s = c .before .before .before .before .before .before .before .before .before in
     let a = s .args in
     let here = named (c .before .before) p ∙ c .enum-told .given .1 in
     rw (access-missing (viewOf p (now (a .w)) (memoryOf (now (a .cells)))) (a .i) (a .x) y (a .i .opcode) here (s .pre .2) (s .pre .3))
@@ -112,15 +110,15 @@ pub access-spec : {M : Type 1} → statement M
 access-spec =
     tie.close
     (tie.spec
-    (λ c κs. search needs) (λ c κs. search needs) (λ c κs. search needs) (λ c κs. search needs) (λ c. search needs) (λ c κs. search needs) (λ c κs. search needs) (λ c κs. search needs) (λ c κs. search needs) (λ c. search needs) (λ c κs. search needs) (λ c κs. search needs) (λ c κs. search needs) (λ c κs. search needs) (λ c. search needs) (λ c κs. search needs) (λ c. search needs) (λ c. search needs)
+    (λ c κs. search needs) (λ c κs. search needs) (λ c. search needs) (λ c κs. search needs) (λ c κs. search needs) (λ c κs. search needs) (λ c κs. search needs) (λ c. search needs) (λ c κs. search needs) (λ c κs. search needs) (λ c κs. search needs) (λ c κs. search needs) (λ c. search needs) (λ c κs. search needs) (λ c. search needs) (λ c. search needs) (λ c. search needs)
     returns
-    (λ c. search needs)
+    (λ c. search needs) (λ c. search needs)
     returns-2
     (λ c. search needs) (λ c. search needs)
     returns-3
     (λ c. search needs) (λ c. search needs)
     returns-4
-    (λ c. search needs)
+    (λ c. search needs) (λ c. search needs)
     returns-5
-    (λ c. search needs)
+    (λ c. search needs) (λ c. search needs)
     returns-6)

@@ -11,8 +11,8 @@ use Rattle.machine.specs.Control.{controlAt, protectedCell, CCB-BASE, INT-PEND,
 use Rattle.machine.proofs.Lists.{at-set-other, same-getD}
 use Rattle.view.specs.View.{nestedBy}
 use Rattle.step.specs.Interrupt.{withRequests}
-use Rattle.emulator.specs.Isolation.{Kept, SameShown}
-use Rattle.emulator.proofs.User.{User, Alike, Guarded, user-bit}
+use Rattle.isolation.specs.Isolation.{Kept, SameShown}
+use Rattle.isolation.proofs.User.{User, Alike, Guarded, user-bit}
 
 -- in user mode, the control block wholly protected
 pub record Mode (s : State) : Type 0 where

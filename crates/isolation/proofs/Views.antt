@@ -5,21 +5,22 @@ use mathlib.Core.List.{List}
 use Prim.Native.Nat.{ℕ, zero, suc, _+_, _*_, _≤_}
 use native.Mathlib.Omega.{arith}
 use lib.ListN.{length, getD, getElem?}
-use lib.Dec.{leb}
+use lib.Dec.{leb, ltb}
 use lib.IntN.{ℤ}
 use borrow.Author.Tests.{le-leb, leb-true}
+use Rattle.word.specs.Choice.{if_then_else_}
 use Rattle.word.specs.Word.{wordOf}
 use Rattle.word.proofs.Tests.{and-parts, and-both, or-parts, false-unless, if-false, if-else}
 use Rattle.isa.specs.Decode.{wordBytes}
 use Rattle.machine.specs.Machine.{Machine, State, psr, userMode, widthOf, setBy}
-use Rattle.machine.specs.Control.{controlAt, within, CCB-BASE, DMEM-BOUND-LO, DMEM-BOUND-HI, IMEM-BOUND-LO, IMEM-BOUND-HI}
+use Rattle.machine.specs.Control.{controlAt, within, protectedCell, CCB-BASE, DMEM-BOUND-LO, DMEM-BOUND-HI, IMEM-BOUND-LO, IMEM-BOUND-HI}
 use Rattle.machine.proofs.Lists.{same-getD}
-use Rattle.view.specs.View.{anyWithin, byteThen, bytesAt, fetchAt, inBlock, placeAt, heldAt, view}
+use Rattle.view.specs.View.{anyWithin, byteThen, bytesAt, fetchAt, inBlock, foundAt, placeAt, heldAt, view}
 use Rattle.view.specs.declared.Place.{Place}
 use Rattle.view.specs.declared.Place.the-variants.{Block, Cell, Denied, Missing}
 use Rattle.view.proofs.Addresses.{place-cell, place-block}
-use Rattle.emulator.proofs.User.{read-bit, write-bit}
-use Rattle.emulator.proofs.States.{Mode, Low, mode-user}
+use Rattle.isolation.proofs.User.{read-bit, write-bit}
+use Rattle.isolation.proofs.States.{Mode, Low, mode-user}
 
 -- ---- program memory
 
@@ -52,13 +53,27 @@ outside-block low high base a l h e =
     let below : a ≤ base + 255 = leb-true a (base + 255) (b .1) in
     true≢false (sym (and-both (leb low a) (leb a high) (le-leb low a (omega arith)) (le-leb a high (omega arith))) ∙ e))
 
-place-same : (low high base base′ count : ℕ) → low ≤ base → base + 255 ≤ high → low ≤ base′ → base′ + 255 ≤ high → (z : ℤ)
-    → placeAt true low high base count z ≡ placeAt true low high base′ count z
+-- outside of the bounds both find the same: a cell, or nothing
+found-same : (s t : State) → Mode s → Mode t → Low s t → (a : ℕ) → protectedCell (s .machine) a ≡ false → foundAt s a ≡ foundAt t a
+unfolding foundAt
+found-same s t i j l a e =
+    let m = s .machine in
+    let n = t .machine in
+    let low : controlAt m DMEM-BOUND-LO ≤ controlAt n CCB-BASE = rw (l .dmemLow) (j .blockLow) in
+    let high : controlAt n CCB-BASE + 255 ≤ controlAt m DMEM-BOUND-HI = rw (l .dmemHigh) (j .blockHigh) in
+    if-false _ _ _ (outside-block _ _ (controlAt m CCB-BASE) a (i .blockLow) (i .blockHigh) e)
+    ∙ ap (λ count. if_then_else_ (ltb a count) (Cell a) Missing) (l .dataSize)
+    ∙ sym (if-false _ _ _ (outside-block _ _ (controlAt n CCB-BASE) a low high e))
+
+place-same : (s t : State) → Mode s → Mode t → Low s t → (z : ℤ) → placeAt s z ≡ placeAt t z
 unfolding placeAt
-place-same low high base base′ count b₁ b₂ c₁ c₂ z =
+place-same s t i j l z =
     let a = wordOf 32 z in
-    if-else _ _ _ _ (λ _. if-else _ _ _ _ (λ e.
-    if-false _ _ _ (outside-block low high base a b₁ b₂ e) ∙ sym (if-false _ _ _ (outside-block low high base′ a c₁ c₂ e))))
+    let guard : userMode (psr (s .machine)) && protectedCell (s .machine) a ≡ userMode (psr (t .machine)) && protectedCell (t .machine) a =
+    cc (l .shown .status, l .dmemLow, l .dmemHigh) in
+    rw (← guard)
+    (if-else _ _ _ _ (λ _. if-else _ _ _ _ (λ e.
+    found-same s t i j l a (rw (mode-user i) at e))))
 
 -- no register of such a block is unprotected
 pub no-block : (low high base n : ℕ) → low ≤ base → base + 255 ≤ high → n ≤ 255 → within low high (base + n) ≡ false → ⊥
@@ -66,18 +81,16 @@ unfolding within
 no-block low high base n l h b e =
     true≢false (sym (and-both _ _ (le-leb low (base + n) (omega arith)) (le-leb (base + n) high (omega arith))) ∙ e)
 
-held-same : (s t : State) → Mode s → Low s t → (count : ℕ) (z : ℤ) (p : Place)
-    → placeAt true (controlAt (s .machine) DMEM-BOUND-LO) (controlAt (s .machine) DMEM-BOUND-HI) (controlAt (s .machine) CCB-BASE) count z ≡ p
-    → heldAt s p ≡ heldAt t p
+held-same : (s t : State) → Mode s → Low s t → (z : ℤ) (p : Place) → placeAt s z ≡ p → heldAt s p ≡ heldAt t p
 unfolding heldAt
-held-same s t i l count z (Block n) e =
-    let b = place-block true _ _ _ count z n e in
-    absurd (no-block _ _ _ n (i .blockLow) (i .blockHigh) (b .offset) (b .unprotected refl))
-held-same s t i l count z (Cell a) e =
-    let c = place-cell true _ _ _ count z a e in
-    same-getD (s .memory .cells) (t .memory .cells) a 0 (l .shown .cells a (c .unprotected refl))
-held-same s t i l count z (Denied c) e = refl
-held-same s t i l count z Missing e = refl
+held-same s t i l z (Block n) e =
+    let b = place-block s z n e in
+    absurd (no-block _ _ _ n (i .blockLow) (i .blockHigh) (b .offset) (b .unprotected (mode-user i)))
+held-same s t i l z (Cell a) e =
+    let c = place-cell s z a e in
+    same-getD (s .memory .cells) (t .memory .cells) a 0 (l .shown .cells a (c .unprotected (mode-user i)))
+held-same s t i l z (Denied c) e = refl
+held-same s t i l z Missing e = refl
 
 -- ---- registers
 
@@ -101,12 +114,8 @@ view-same p q s t i j l h =
     ap (λ r. getD r x 0) (set1-used _ m (read-bit (psr m) (i .user .status)) ∙ l .shown .set1 ∙ sym (set1-used _ n (read-bit (psr n) (j .user .status)))) in
     let target : (x : ℕ) → view p s .target x ≡ view q t .target x = λ x.
     ap (λ r. getD r x 0) (set1-used _ m (write-bit (psr m) (i .user .status)) ∙ l .shown .set1 ∙ sym (set1-used _ n (write-bit (psr n) (j .user .status)))) in
-    let low : controlAt m DMEM-BOUND-LO ≤ controlAt n CCB-BASE = rw (l .dmemLow) (j .blockLow) in
-    let high : controlAt n CCB-BASE + 255 ≤ controlAt m DMEM-BOUND-HI = rw (l .dmemHigh) (j .blockHigh) in
-    let place : (z : ℤ) → view p s .place z ≡ view q t .place z = λ z.
-    cc (place-same _ _ (controlAt m CCB-BASE) (controlAt n CCB-BASE) (length (s .memory .cells)) (i .blockLow) (i .blockHigh) low high z, um, un, l .dmemLow, l .dmemHigh, l .dataSize) in
-    let load : (z : ℤ) → view p s .load z ≡ view q t .load z = λ z.
-    cc (held-same s t i l (length (s .memory .cells)) z _ refl, place z, um) in
+    let place : (z : ℤ) → view p s .place z ≡ view q t .place z = place-same s t i j l in
+    let load : (z : ℤ) → view p s .load z ≡ view q t .load z = λ z. cc (held-same s t i l z _ refl, place z) in
     let closed : (x : ℕ) → view p s .closed x ≡ view q t .closed x = λ x. cc (l .shown .status, l .imemLow, l .imemHigh) in
     λ d. record {
       status = l .shown .status d;

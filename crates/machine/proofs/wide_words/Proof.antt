@@ -1,8 +1,8 @@
--- `execute::wide_words` meets its contract. Assumes nothing.
+-- `machine::wide_words` meets its contract: a bit of PSR. Assumes nothing.
+use Rattle.machine.specs.Machine.{wideWords}
 use borrow.Author.Needs.{needs}
-use Rattle.machine.specs.Machine.{wideWords}
-use Rattle.execute.proofs.wide_words.Statement.{statement}
-use Rattle.execute.proofs.wide_words.Tie as tie
+use Rattle.machine.proofs.wide_words.Statement.{statement}
+use Rattle.machine.proofs.wide_words.Tie as tie
 
 returns : tie.Need-returns
 unfolding wideWords

@@ -15,12 +15,12 @@ use Rattle.machine.specs.Control.{controlAt, IMEM-BOUND-LO, IMEM-BOUND-HI}
 use Rattle.image.proofs.Image.{accepted-formed}
 use Rattle.effect.specs.Apply.{Transition}
 use Rattle.step.specs.Step.{step}
 use Rattle.emulator.specs.Closure.{Steps, Continuity}
-use Rattle.emulator.specs.Isolation.{transition, isExit, isPreemption, segment, InSegment, Session, startOf, transitionsOf, UserStart, Kept, Integrity, SameStart, SameTransition, bothGoOn, bothExit, Confidentiality, Isolation}
-use Rattle.emulator.proofs.States.{Mode, Low, kept-control, kept-trans}
-use Rattle.emulator.proofs.Views.{SameBytes}
-use Rattle.emulator.proofs.Unwinding.{On, Agree, goOn, exit, step-kept, step-agree}
+use Rattle.isolation.specs.Isolation.{transition, isExit, isPreemption, segment, InSegment, Session, startOf, transitionsOf, UserStart, Kept, Integrity, SameStart, SameTransition, bothGoOn, bothExit, Confidentiality, Isolation}
+use Rattle.isolation.proofs.States.{Mode, Low, kept-control, kept-trans}
+use Rattle.isolation.proofs.Views.{SameBytes}
+use Rattle.isolation.proofs.Unwinding.{On, Agree, goOn, exit, step-kept, step-agree}
 use Rattle.emulator.proofs.Closed.{continuity}
 
 -- ---- the segment
 

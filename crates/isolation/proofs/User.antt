@@ -7,9 +7,10 @@ use Prim.Native.Nat.{ℕ, _/_, _%_, _^_, _<_}
 use native.Mathlib.Omega.{arith}
 use lib.ListN.{length, set, getElem?, length-set}
 use lib.Seq.{getD-set-same}
-use Rattle.machine.specs.Machine.{Machine, PSR, psr, userMode, readsSet2, writesSet2, wideWords, interruptsEnabled, withModes, positionAt, withSet1, withSet2, withConditions, withPosition, withPsr}
+use Rattle.machine.specs.Machine.{Machine, PSR, psr, userMode, readsSet2, writesSet2, wideWords, interruptsEnabled, statusOf, withRegister, written, positionAt, withSet1, withSet2, withConditions, withPosition, withPsr}
 use Rattle.machine.specs.declared.Position.{Position}
-use Rattle.word.proofs.Tests.{if-false}
+use Rattle.word.specs.Choice.{if_then_else_}
+use Rattle.machine.proofs.Bits.{status-kept}
 use Rattle.machine.proofs.Lists.{at-set-other}
 use Rattle.effect.specs.Apply.{writeRegister, writeFlags, wordsOn, nextPc, advance, advanceHolding, jumpTo, enableInterrupts, switchWidth}
 
@@ -26,11 +27,6 @@ read-bit q h = let e : q / 2 ^ 1 % 2 ≡ 0 = omega arith in rw e
 pub write-bit : (q : ℕ) → q % 8 ≡ 1 → writesSet2 q ≡ false
 unfolding writesSet2
 write-bit q h = let e : q / 2 ^ 2 % 2 ≡ 0 = omega arith in rw e
-
--- IL and IE are no part of it
-modes-low : (q : ℕ) (wide enabled : Bool) → withModes q wide enabled % 8 ≡ q % 8
-unfolding withModes
-modes-low q w e = omega arith
 
 -- a machine in user mode, PSR being one of its registers
 pub record User (m : Machine) : Type 0 where
@@ -132,10 +128,15 @@ confined-as e c =
       alike = λ m n u v a. rw (e m u, e n v) (c .alike m n u v a);
     }
 
+-- a register is written in set 1
+in-set1 : (n x : ℕ) (m : Machine) (second : Bool) → second ≡ false → written second n x m ≡ withSet1 (set (m .set1) n x) m
+unfolding written withRegister if_then_else_
+in-set1 n x m second e = rw e
+
 pub register-confined : (d : ℕ) (x : Machine → ℕ) → Public x → Confined (λ m. writeRegister d (x m) m)
 unfolding writeRegister
 register-confined d x p =
-    confined-as (λ m u. if-false _ _ _ (write-bit (psr m) (u .status)))
+    confined-as (λ m u. in-set1 (d % 32) (x m % 2 ^ 32) m _ (write-bit (psr m) (u .status)))
     (confined-set1 (λ m. set (m .set1) (d % 32) (x m % 2 ^ 32)) (λ m n u v a. cc (a .set1, p m n u v a)))
 
 pub result-confined : (d x : ℕ) → Confined (writeRegister d x)
@@ -170,10 +171,11 @@ jump-confined target =
     (λ m n u v a. ap (λ pc. record { pc = pc; slot = 1; target = target % 2 ^ 32; held = 0; high = 0; low = 0 }) (next-public m n u v a))
 
 -- the status with IL and IE set anew
-modes-confined : (wide enabled : ℕ → Bool) → Confined (λ m. withPsr (withModes (psr m) (wide (psr m)) (enabled (psr m))) m)
+modes-confined : (wide enabled : ℕ → Bool)
+    → Confined (λ m. withPsr (statusOf (userMode (psr m)) (readsSet2 (psr m)) (writesSet2 (psr m)) (wide (psr m)) (enabled (psr m))) m)
 modes-confined wide enabled =
-    confined-psr (λ m. withModes (psr m) (wide (psr m)) (enabled (psr m))) (λ m. modes-low (psr m) (wide (psr m)) (enabled (psr m)))
-    (λ m n u v a. ap (λ q. withModes q (wide q) (enabled q)) (a .status))
+    confined-psr _ (λ m. status-kept (psr m) (wide (psr m)) (enabled (psr m)))
+    (λ m n u v a. ap (λ q. statusOf (userMode q) (readsSet2 q) (writesSet2 q) (wide q) (enabled q)) (a .status))
 
 pub enable-confined : (enabled : Bool) → Confined (enableInterrupts enabled)
 unfolding enableInterrupts advance withPosition psr

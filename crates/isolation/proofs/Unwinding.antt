@@ -13,18 +13,20 @@ use Rattle.machine.specs.Control.{controlAt, within, protectedCell, DMEM-BOUND-
 use Rattle.machine.proofs.Lists.{at-set-other, at-set-same}
 use Rattle.view.specs.View.{View, view}
 use Rattle.execute.specs.Decide.{decide}
-use Rattle.effect.specs.Effect.{Effect, Stopped, Raised, Next, Result, ResultFlags, ResultProduct, Compare, Conditions, StoreControl, StoreCell, Jump, JumpLink, EnableInterrupts, SwitchWidth, SystemCall, InterruptReturn, UserReturn, SelectSets}
-use Rattle.execute.proofs.Safe.{Safe, decide-safe}
+use Rattle.effect.specs.Update.{Update}
+use Rattle.effect.specs.Update as update
+use Rattle.effect.specs.Effect.{Effect, Stopped, Raised, SystemCall, InterruptReturn, StoreCell, Updates}
+use Rattle.execute.proofs.Safe.{SafeUpdate, Safe, decide-safe}
 use Rattle.view.proofs.Addresses.{reached-cell, reached-block}
-use Rattle.effect.specs.Apply.{wordsOn, Transition, machineOnly, storeCell, apply, unpacked}
+use Rattle.effect.specs.Apply.{wordsOn, Transition, machineOnly, storeCell, updated, apply, unpacked}
 use Rattle.effect.specs.Kind.{Kind}
 use Rattle.effect.specs.Kind as kind
 use Rattle.step.specs.Interrupt.{withRequests, acceptedSource}
 use Rattle.step.specs.Step.{isStop, interruptOr, step}
-use Rattle.emulator.specs.Isolation.{Kept, isExit, isPreemption}
-use Rattle.emulator.proofs.User.{Confined, confined-then, confined-conditions, register-confined, result-confined, flags-confined, words-public, advance-confined, holding-confined, jump-confined, enable-confined, switch-confined}
-use Rattle.emulator.proofs.States.{Mode, Low, mode-user, kept-control, kept-trans, guarded-kept, mode-later, low-alike, low-later, requests-kept, requests-mode, requests-low}
-use Rattle.emulator.proofs.Views.{SameBytes, no-block, view-same}
+use Rattle.isolation.specs.Isolation.{Kept, isExit, isPreemption}
+use Rattle.isolation.proofs.User.{Confined, confined-then, confined-conditions, register-confined, result-confined, flags-confined, words-public, advance-confined, holding-confined, jump-confined, enable-confined, switch-confined}
+use Rattle.isolation.proofs.States.{Mode, Low, mode-user, kept-control, kept-trans, guarded-kept, mode-later, low-alike, low-later, requests-kept, requests-mode, requests-low}
+use Rattle.isolation.proofs.Views.{SameBytes, no-block, view-same}
 
 -- ---- what an effect is in user mode
 
@@ -38,30 +40,33 @@ no-super : (p : List ℕ) (s : State) → Mode s → userMode (view p s .status)
 unfolding view
 no-super p s i e = true≢false (sym (mode-user i) ∙ e)
 
+-- a plain update
+course-updated : (p : List ℕ) (s : State) → Mode s → (u : Update) → SafeUpdate (view p s) u → Confined (updated u)
+unfolding updated
+course-updated p s i update.Next h = advance-confined
+course-updated p s i (update.Result d x) h = confined-then (result-confined d x) advance-confined
+course-updated p s i (update.ResultFlags d x f) h = confined-then (confined-then (result-confined d x) (flags-confined 0 f)) advance-confined
+course-updated p s i (update.ResultProduct d hi lo) h = confined-then (result-confined d lo) (holding-confined hi lo)
+course-updated p s i (update.Compare c f) h = confined-then (flags-confined c f) advance-confined
+course-updated p s i (update.Conditions x) h = confined-then (confined-conditions (λ m. unpacked 8 x) (λ m n u v a. refl)) advance-confined
+course-updated p s i (update.StoreControl n x) h =
+    let b = reached-block p s n h in
+    absurd (no-block _ _ _ n (i .blockLow) (i .blockHigh) (b .offset) (b .unprotected (mode-user i)))
+course-updated p s i (update.Jump t) h = jump-confined t
+course-updated p s i (update.JumpLink t) h = confined-then (register-confined LINK (wordsOn 2) (words-public 2)) (jump-confined t)
+course-updated p s i (update.EnableInterrupts e) h = enable-confined e
+course-updated p s i (update.SwitchWidth w) h = switch-confined w
+course-updated p s i update.UserReturn h = absurd (no-super p s i h)
+course-updated p s i (update.SelectSets n) h = absurd (no-super p s i h)
+
 course : (p : List ℕ) (s : State) → Mode s → (e : Effect) → Safe (view p s) e → Course (controlAt (s .machine) DMEM-BOUND-LO) (controlAt (s .machine) DMEM-BOUND-HI) e
 unfolding apply isExit machineOnly
 course p s i (Stopped n) h = exits (kind.Stop n) refl (λ s. refl)
 course p s i (Raised c) h = exits (kind.Exception c) refl (λ s. refl)
-course p s i Next h = updates advance-confined (λ s. refl)
-course p s i (Result d x) h = updates (confined-then (result-confined d x) advance-confined) (λ s. refl)
-course p s i (ResultFlags d x f) h =
-    updates (confined-then (confined-then (result-confined d x) (flags-confined 0 f)) advance-confined) (λ s. refl)
-course p s i (ResultProduct d hi lo) h = updates (confined-then (result-confined d lo) (holding-confined hi lo)) (λ s. refl)
-course p s i (Compare c f) h = updates (confined-then (flags-confined c f) advance-confined) (λ s. refl)
-course p s i (Conditions x) h = updates (confined-then (confined-conditions (λ m. unpacked 8 x) (λ m n u v a. refl)) advance-confined) (λ s. refl)
-course p s i (StoreControl n x) h =
-    let b = reached-block p s n h in
-    absurd (no-block _ _ _ n (i .blockLow) (i .blockHigh) (b .offset) (b .unprotected (mode-user i)))
-course p s i (StoreCell a x) h =
-    stores a x (reached-cell p s a h .unprotected (mode-user i)) (λ s. refl)
-course p s i (Jump t) h = updates (jump-confined t) (λ s. refl)
-course p s i (JumpLink t) h = updates (confined-then (register-confined LINK (wordsOn 2) (words-public 2)) (jump-confined t)) (λ s. refl)
-course p s i (EnableInterrupts e) h = updates (enable-confined e) (λ s. refl)
-course p s i (SwitchWidth w) h = updates (switch-confined w) (λ s. refl)
 course p s i SystemCall h = exits kind.SystemCall refl (λ s. refl)
 course p s i InterruptReturn h = exits kind.InterruptReturn refl (λ s. refl)
-course p s i UserReturn h = absurd (no-super p s i h)
-course p s i (SelectSets n) h = absurd (no-super p s i h)
+course p s i (StoreCell a x) h = stores a x (reached-cell p s a h .unprotected (mode-user i)) (λ s. refl)
+course p s i (Updates u) h = updates (course-updated p s i u h) (λ s. refl)
 
 -- ---- what is protected stays
 

@@ -20,10 +20,10 @@ use Rattle.machine.proofs.Lists.{at-set-other}
 use Rattle.image.specs.Image.{writeImage}
 use Rattle.effect.specs.Apply.{Transition}
 use Rattle.effect.specs.Kind.{Kind, Ordinary, Exception}
 use Rattle.emulator.specs.Run.{Call}
-use Rattle.emulator.specs.Isolation.{transition, isPreemption, segment, Session, startOf, transitionsOf, UserStart, Integrity, SameStart, SameTransition, Confidentiality, Isolation}
-use Rattle.emulator.specs.Computed.{runs}
-use Rattle.emulator.proofs.Isolation.{isolated}
+use Rattle.isolation.specs.Isolation.{transition, isPreemption, segment, Session, startOf, transitionsOf, UserStart, Integrity, SameStart, SameTransition, Confidentiality, Isolation}
+use Rattle.isolation.specs.Computed.{sessions}
+use Rattle.isolation.proofs.Isolation.{isolated}
 
 -- ---- the two machines
 
@@ -94,33 +94,33 @@ kind-of : Transition → Kind
 kind-of t = t .kind
 
 left-kinds : map kind-of (transitionsOf left) ≡ kinds
-unfolding runs left call entry program cells machine kind-of kinds
+unfolding sessions left call entry program cells machine kind-of kinds
 left-kinds = refl
 
 right-kinds : map kind-of (transitionsOf right) ≡ kinds
-unfolding runs right call entry program cells machine kind-of kinds
+unfolding sessions right call entry program cells machine kind-of kinds
 right-kinds = refl
 
 left-segment : length (segment (transitionsOf left)) ≡ 3
-unfolding runs left call entry program cells machine
+unfolding sessions left call entry program cells machine
 left-segment = refl
 
 right-segment : length (segment (transitionsOf right)) ≡ 3
-unfolding runs right call entry program cells machine
+unfolding sessions right call entry program cells machine
 right-segment = refl
 
 -- ---- the premises
 
 left-start : UserStart left
-unfolding runs left entry machine
+unfolding sessions left entry machine
 left-start = record { read = refl; user = refl; blockLow = lit≤ tt; blockHigh = lit≤ tt }
 
 right-start : UserStart right
-unfolding runs right entry machine
+unfolding sessions right entry machine
 right-start = record { read = refl; user = refl; blockLow = lit≤ tt; blockHigh = lit≤ tt }
 
 same : SameStart left right
-unfolding runs left right entry machine
+unfolding sessions left right entry machine
 same =
     record {
       shown = record {
