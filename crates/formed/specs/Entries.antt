@@ -17,3 +17,8 @@ passes Source e = ltb (e .source) SOURCES
 unfoldable pub allPass : Test → List Entry → Bool
 allPass t [] = true
 allPass t (e ∷ es) = passes t e && allPass t es
+
+-- to unfold `entryTests` is to unfold all definitions of this file
+unfoldable pub entryTests : Unit {0}
+unfolding passes allPass
+entryTests = tt

@@ -125,3 +125,8 @@ askMachine m =
 unfoldable pub readBy : (answer : ℕ) → Machine → Read
 readBy zero m = Accepted m
 readBy (suc n) m = Refused (suc n)
+
+-- to unfold `questions` is to unfold all definitions of this file
+unfoldable pub questions : Unit {0}
+unfolding implies all allBelow allHeld entriesFit positionTests numberTests question3 setsFit modesFit question4 stackTests question5 formTests wellFormed askMachine readBy
+questions = tt

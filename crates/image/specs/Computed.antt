@@ -1,8 +1,8 @@
--- To unfold `images` is to unfold all definitions of this crate and of `formed`.
+-- To unfold `images` is to unfold all definitions of this crate and of `formed`, and the bytes of numbers.
 use Rattle.codec.specs.Number.{numbersOf, bytesOf}
 use Rattle.formed.specs.Computed.{forms}
-use Rattle.image.specs.Image.{positionNumbers, entryNumbers, imageNumbers, writeImage, machineIn, sectionTests, question2, readImage}
+use Rattle.image.specs.Image.{sections}
 
 unfoldable pub images : Unit {0}
-unfolding forms numbersOf bytesOf positionNumbers entryNumbers imageNumbers writeImage machineIn sectionTests question2 readImage
+unfolding numbersOf bytesOf forms sections
 images = tt

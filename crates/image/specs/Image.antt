@@ -103,3 +103,8 @@ question2 image = all (sectionTests (length image) (numbersOf image))
 
 unfoldable pub readImage : (image : List ℕ) → Read
 readImage image = if question2 image then askMachine (machineIn (numbersOf image)) else Refused 2
+
+-- to unfold `sections` is to unfold all definitions of this file
+unfoldable pub sections : Unit {0}
+unfolding positionNumbers entryNumbers imageNumbers writeImage machineIn sectionTests question2 readImage
+sections = tt

@@ -123,3 +123,8 @@ statusOf user read write wide enabled = bitOf user + 2 * bitOf read + 4 * bitOf 
 -- PSR of scall and of exceptions, and at reset, 0Eh: super user, set 2, 32-bit words, interrupts disabled
 abbrev pub SUPER : ℕ
 SUPER = statusOf false true true true false
+
+-- to unfold `states` is to unfold all definitions of this file
+unfoldable pub states : Unit {0}
+unfolding positionAt withSet1 withSet2 withConditions withControl withPosition setBy withRegister psr withPsr written userMode readsSet2 writesSet2 wideWords interruptsEnabled widthOf statusOf
+states = tt

@@ -45,3 +45,8 @@ withStack es m = record { set1 = m .set1; set2 = m .set2; conditions = m .condit
 pub record StackShown (m : Machine) : Type 0 where
   pub shown : showStack (m .stack) (m .control) ≡ m .control
   pub distinct : distinctBelow SOURCES (sourcesOf (m .stack)) ≡ true
+
+-- to unfold `stacks` is to unfold all definitions of this file
+unfoldable pub stacks : Unit {0}
+unfolding popped sourcesOf serviceFlags shownTop showStack withStack
+stacks = tt

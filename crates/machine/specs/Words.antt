@@ -90,3 +90,8 @@ machineOf ws =
 -- the state that words and a memory hold
 abbrev pub stateOf : (words : List ℕ) → Memory → State
 stateOf words memory = record { machine = machineOf words; memory = memory }
+
+-- to unfold `layout` is to unfold all definitions of this file
+unfoldable pub layout : Unit {0}
+unfolding positionOf entriesOf machineOf
+layout = tt
