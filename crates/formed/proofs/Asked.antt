@@ -2,14 +2,13 @@
 use mathlib.Core.Path.{_≡_, refl, sym, ap, _∙_}
 use mathlib.Core.Bool.{Bool, true, false, not, _&&_, and-true, and-assoc}
 use mathlib.Core.List.{List, [], _∷_}
-use Prim.Native.Nat.{ℕ, zero, suc, _+_, _-_, _*_, _%_, _^_, _<_}
+use Prim.Native.Nat.{ℕ, zero, suc, _+_, _*_, _%_, _^_, _<_}
 use native.Mathlib.Omega.{arith}
 use native.Mathlib.Nat.{mod-one}
-use lib.Pow.{pow-pos}
 use lib.Dec.{ltb, leb, eqb, lit<}
 use lib.ListN.{length, getD, take, drop, length-map}
 use lib.Seq.{getD-drop}
-use borrow.Author.Tests.{lt-ltb, le-leb, lt-leb, ltb-true, ltb-false}
+use borrow.Author.Tests.{lt-ltb}
 use Rattle.word.specs.Choice.{if_then_else_}
 use Rattle.word.specs.Flags.{onesOf, distinctBelow}
 use Rattle.codec.proofs.Laws.{Below}
@@ -19,7 +18,7 @@ use Rattle.machine.specs.Stack.{sourcesOf, serviceFlags, shownTop}
 use Rattle.machine.specs.Words.{SET1, SET2, DEPTH, ENTRIES, section, entriesOf, machineOf}
 use Rattle.machine.specs.declared.Position.{Position}
 use Rattle.machine.specs.declared.Entry.{Entry}
-use Rattle.machine.proofs.Widths.{no-zeros, not-constant}
+use Rattle.machine.proofs.Widths.{no-zeros, not-constant, limit-below}
 use Rattle.machine.proofs.Flat.{section-at, stackOf, stack-top}
 use Rattle.formed.specs.Questions.{implies, all, allBelow, allHeld, entriesFit, positionTests, numberTests, question3, setsFit, modesFit, question4, stackTests, question5, Read, Refused, Accepted, askMachine, readBy}
 use Rattle.formed.specs.Entries.{passes, allPass}
@@ -64,14 +63,6 @@ unfolding question3 numberTests all machineOf
 numbers-words w h =
     simp (below-section SET1 32 w h, below-section SET2 32 w h, range-entries w (getD w DEPTH 0) h, and-assoc, and-true)
 
--- the largest number of a register's bits
-leb-largest : (x m : ℕ) → 0 < m → leb x (m - 1) ≡ ltb x m
-leb-largest x m p = go (ltb x m) refl
-  where
-    go : (b : Bool) → ltb x m ≡ b → leb x (m - 1) ≡ b
-    go true e = le-leb x (m - 1) (omega (arith, ltb-true x m e))
-    go false e = lt-leb x (m - 1) (omega (arith, ltb-false x m e))
-
 -- CCB_BASE's low byte is 0, FPU_STATUS is 0, CORE_VER_ID 1, and the others hold what has their bits
 module _ (x : ℕ) (h : x < 2 ^ 32) where
   pub held-base : eqb (x % 256) 0 ≡ held 0x00 x
@@ -87,10 +78,10 @@ module _ (x : ℕ) (h : x < 2 ^ 32) where
   held-version = simp (lt-ltb x (2 ^ 32) h, mod-one x)
 
 pub held-others : (n x : ℕ) → n < 45 → (n ≡ 0x00 → ⊥) → (n ≡ 0x2B → ⊥) → (n ≡ 0x2C → ⊥) → leb x (largest (registerAt n)) ≡ held n x
-unfolding canHold largest
+unfolding canHold
 held-others n x l z s v =
     let h : n < 0x2B = omega arith in
-    leb-largest x (2 ^ registerAt n .width) (pow-pos (registerAt n .width))
+    limit-below (registerAt n) x
     ∙ sym (rw (no-zeros n z, not-constant n x h, mod-one x) (and-true (ltb x (2 ^ registerAt n .width))))
 
 -- ---- question 4

@@ -10,7 +10,7 @@ use lib.ListN.{length}
 use borrow.Author.Tests.{ltb-true, ne-eqb}
 use Rattle.word.specs.Word.{bitAt}
 use Rattle.word.specs.Flags.{onesOf, withFlag, flagsAt, isAmong, distinctBelow}
-use Rattle.word.proofs.Tests.{and-parts}
+use Rattle.word.proofs.Tests.{and-parts, test-cases}
 use Rattle.word.proofs.Flags.{with-set, with-below, ones-zero, ones-with, flags-at}
 use Rattle.formed.specs.Questions.{allBelow}
 
@@ -36,11 +36,10 @@ module _ (k : ℕ) where
   ones-fewer [] b = rw (ones-zero k) (omega arith)
   ones-fewer (n ∷ ns) b =
       let h = and-parts (ltb n k) (allBelow k ns) b in
-      go (bitAt n (flagsAt ns)) refl (ltb-true n k (h .0)) (ones-fewer ns (h .1))
-    where
-      go : (t : Bool) → bitAt n (flagsAt ns) ≡ t → n < k → onesOf k (flagsAt ns) ≤ length ns → onesOf k (withFlag n (flagsAt ns)) ≤ suc (length ns)
-      go true e h l = rw (ones-again n (flagsAt ns) e) (omega arith)
-      go false e h l = rw (ones-new n (flagsAt ns) h e) (omega arith)
+      let l = ones-fewer ns (h .1) in
+      test-cases (bitAt n (flagsAt ns))
+      (λ e. rw (ones-again n (flagsAt ns) e) (omega arith))
+      (λ e. rw (ones-new n (flagsAt ns) (ltb-true n k (h .0)) e) (omega arith))
 
   pub distinct-counted : (ns : List ℕ) → distinctBelow k ns ≡ allBelow k ns && eqb (onesOf k (flagsAt ns)) (length ns)
   unfolding distinctBelow allBelow flagsAt

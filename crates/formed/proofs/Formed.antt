@@ -143,12 +143,6 @@ pub data Stacked : List Entry → Type 0 where
   empty : Stacked []
   pushed : {e : Entry} {es : List Entry} → EntryOk e → isAmong (e .source) (sourcesOf es) ≡ false → Stacked es → Stacked (e ∷ es)
 
-pub top-ok : {e : Entry} {es : List Entry} → Stacked (e ∷ es) → EntryOk e
-top-ok (pushed k n s) = k
-
-pub rest-ok : {e : Entry} {es : List Entry} → Stacked (e ∷ es) → Stacked es
-rest-ok (pushed k n s) = s
-
 stacked-fit : {es : List Entry} → Stacked es → entriesFit es ≡ true
 unfolding entriesFit
 stacked-fit empty = refl

@@ -10,7 +10,7 @@ use lib.ListN.{length, getD, drop, drop-of-length-le}
 use lib.Seq.{drop-cons}
 use borrow.Author.Tests.{ltb-true, ltb-false}
 use Rattle.word.specs.Flags.{withFlag, flagsAt}
-use Rattle.word.proofs.Tests.{and-parts}
+use Rattle.word.proofs.Tests.{and-parts, test-cases}
 use Rattle.machine.specs.Control.{registerAt, canHold}
 use Rattle.machine.specs.Stack.{sourcesOf, serviceFlags}
 use Rattle.machine.specs.Words.{ENTRIES, section, entryOf, entriesOf, machineOf}
@@ -87,12 +87,7 @@ module _ (t : Test) (w : List ℕ) where
   pass-at zero i e h = absurd (omega arith)
   pass-at (suc n) i e h =
       let p = and-parts (passes t (entryOf (entryWords n w))) (allPass t (stackOf n w)) (rw (stack-top n w) at e) in
-      go (ltb i n) refl (p .0) (pass-at n i (p .1))
-    where
-      go : (b : Bool) → ltb i n ≡ b → passes t (entryOf (entryWords n w)) ≡ true → (i < n → passes t (entryOf (entryWords i w)) ≡ true)
-          → passes t (entryOf (entryWords i w)) ≡ true
-      go true q first rest = rest (ltb-true i n q)
-      go false q first rest = let s : i ≡ n = omega (arith, ltb-false i n q) in rw s first
+      test-cases (ltb i n) (λ q. pass-at n i (p .1) (ltb-true i n q)) (λ q. let s : i ≡ n = omega (arith, ltb-false i n q) in rw s (p .0))
 
 pub source-small : (e : Entry) → passes Source e ≡ true → e .source < 12
 unfolding passes

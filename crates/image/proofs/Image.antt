@@ -4,14 +4,14 @@ use mathlib.Core.Bool.{Bool, true, false}
 use mathlib.Core.List.{List, [], _∷_, _++_, reverseAux}
 use Prim.Native.Nat.{ℕ, zero, suc, _+_, _*_, _^_, _≤_, _<_}
 use native.Mathlib.Omega.{arith}
-use lib.ListN.{length, getD}
+use lib.ListN.{length}
 use lib.Seq.{take-all}
 use native.Mathlib.Nat.{lt-of-lt-of-le, lt-of-le-of-lt}
 use lib.Dec.{lit<, lit≤}
 use borrow.Author.Tests.{leb-true, eqb-true, eq-eqb, le-leb}
 use Rattle.word.specs.Choice.{if_then_else_}
 use Rattle.codec.specs.Number.{numbersOf, bytesOf}
-use Rattle.codec.proofs.Laws.{Below, numbersOf-bytesOf, bytesOf-numbersOf, length-bytesOf, length-numbersOf, bytesOf-lt}
+use Rattle.codec.proofs.Laws.{Below, numbersOf-bytesOf, bytesOf-numbersOf, length-bytesOf, length-numbersOf}
 use Rattle.machine.specs.Machine.{Machine}
 use Rattle.machine.specs.Control.{reset}
 use Rattle.machine.specs.Words.{SOURCES}
@@ -74,10 +74,6 @@ writeImage-longest w = omega (arith, length-writeImage (formed-counts w), stacke
 -- where the longest image has room, one of fewer entries has
 pub room-enough : {n room : ℕ} → n ≤ SOURCES → LONGEST ≤ room → imageBytes n ≤ room
 room-enough h l = omega arith
-
-pub writeImage-bytes : (m : Machine) → Below 256 (writeImage m)
-unfolding writeImage
-writeImage-bytes m = bytesOf-lt (imageNumbers m)
 
 -- ---- what is written is read back
 

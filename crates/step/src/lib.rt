@@ -84,7 +84,10 @@ fn waiting(w: &[u32]) -> u32
     requires { ⌜ MachineWords (now w) ⌝ }
     ensures { λ r. ⌜ r ≡ waiting (machineOf (now (w .entry))) ⌝ }
 {
-    word::and(machine::control(w, machine::INT_PEND), machine::control(w, machine::INT_MASK))
+    word::and(
+        machine::control(w, machine::INT_PEND),
+        machine::control(w, machine::INT_MASK),
+    )
 }
 
 // The source to accept: pending, INT_MASK 1, a priority number below all in service; smallest number first, ties to the lower source.

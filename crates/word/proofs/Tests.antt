@@ -1,6 +1,9 @@
--- Tests joined, and choices by a test. Assumes nothing.
+-- Tests joined, cases of a test, and choices by a test. Assumes nothing.
 use mathlib.Core.Path.{_≡_, refl, sym}
 use mathlib.Core.Bool.{Bool, true, false, true≢false, _&&_, _||_}
+use Prim.Native.Nat.{_≤_}
+use native.Mathlib.Omega.{arith}
+use mir.Val.{boolByte}
 use Rattle.word.specs.Choice.{if_then_else_}
 
 pub and-parts : (a b : Bool) → a && b ≡ true → (a ≡ true) × (b ≡ true)
@@ -18,6 +21,16 @@ or-parts false b e = (refl, e)
 pub false-unless : (b : Bool) → (b ≡ true → ⊥) → b ≡ false
 false-unless true h = absurd (h refl)
 false-unless false h = refl
+
+-- what follows from a test and from its failure
+pub test-cases : {A : Type 0} (b : Bool) → (b ≡ true → A) → (b ≡ false → A) → A
+test-cases true f g = f refl
+test-cases false f g = g refl
+
+-- a bool as a number
+pub bool-small : (b : Bool) → boolByte b ≤ 1
+bool-small true = omega arith
+bool-small false = omega arith
 
 module _ {A : Type 0} where
   pub if-true : (b : Bool) (x y : A) → b ≡ true → if_then_else_ b x y ≡ x
