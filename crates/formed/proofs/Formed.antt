@@ -13,6 +13,7 @@ use Rattle.word.proofs.Tests.{and-parts, and-both}
 use Rattle.codec.proofs.Laws.{Below}
 use Rattle.machine.specs.Machine.{Machine, psr, userMode}
 use Rattle.machine.specs.Control.{controlAt, registerAt, canHold, reset, INT-SERV, RETI-ADDR, RETI-PSR, RETI-CR0}
+use Rattle.machine.specs.Words.{REGISTERS, FLAGS, OFFSETS}
 use Rattle.machine.specs.Stack.{sourcesOf, serviceFlags, shownTop}
 use Rattle.machine.specs.declared.Position.{Position}
 use Rattle.machine.specs.declared.Entry.{Entry}
@@ -38,7 +39,7 @@ sized-set {top = top} {l} i x s h =
 
 -- each holds what it can; past the last one there is 0
 pub record Registers (l : List ℕ) : Type 0 where
-  pub count : length l ≡ 45
+  pub count : length l ≡ OFFSETS
   pub hold : (i : ℕ) → canHold (registerAt i) (getD l i 0) ≡ true
 
 pub registers-set : {l : List ℕ} (i x : ℕ) → Registers l → canHold (registerAt i) x ≡ true → Registers (set l i x)
@@ -56,7 +57,7 @@ held-all i (x ∷ l) h =
     and-both (canHold (registerAt i) x) (allHeld (suc i) l) (rw add-zero at (h 0))
     (held-all (suc i) l (λ j. let e : suc i + j ≡ i + suc j = omega arith in rw e (h (suc j))))
 
-all-held : (i : ℕ) (l : List ℕ) → i + length l ≡ 45 → allHeld i l ≡ true → (j : ℕ) → canHold (registerAt (i + j)) (getD l j 0) ≡ true
+all-held : (i : ℕ) (l : List ℕ) → i + length l ≡ OFFSETS → allHeld i l ≡ true → (j : ℕ) → canHold (registerAt (i + j)) (getD l j 0) ≡ true
 unfolding allHeld
 all-held i [] n h j = beyond-holds (i + j) (omega arith)
 all-held i (x ∷ l) n h zero = rw add-zero (and-parts (canHold (registerAt i) x) (allHeld (suc i) l) h .0)
@@ -70,7 +71,7 @@ zero-plus j = omega arith
 registers-held : {l : List ℕ} → Registers l → allHeld 0 l ≡ true
 registers-held {l} s = held-all 0 l (λ j. rw zero-plus (s .hold j))
 
-held-registers : (l : List ℕ) → length l ≡ 45 → allHeld 0 l ≡ true → Registers l
+held-registers : (l : List ℕ) → length l ≡ OFFSETS → allHeld 0 l ≡ true → Registers l
 held-registers l n h = record { count = n; hold = λ j. rw zero-plus at (all-held 0 l (omega arith) h j) }
 
 -- ---- a status: PSR, at most 31, and in user mode both set bits 0
@@ -188,9 +189,9 @@ stacked (e ∷ es) a b c =
 -- ---- the machine
 
 pub record WellFormed (m : Machine) : Type 0 where
-  pub set1 : Sized 32 (2 ^ 32) (m .set1)
-  pub set2 : Sized 32 (2 ^ 32) (m .set2)
-  pub conditions : Sized 8 8 (m .conditions)
+  pub set1 : Sized REGISTERS (2 ^ 32) (m .set1)
+  pub set2 : Sized REGISTERS (2 ^ 32) (m .set2)
+  pub conditions : Sized FLAGS 8 (m .conditions)
   pub control : Registers (m .control)
   pub status : StatusOk (psr m)
   pub served : controlAt m INT-SERV ≡ serviceFlags (m .stack)
@@ -202,10 +203,10 @@ pub record WellFormed (m : Machine) : Type 0 where
 
 -- the lists have their counts
 pub record Counts (m : Machine) : Type 0 where
-  pub set1 : length (m .set1) ≡ 32
-  pub set2 : length (m .set2) ≡ 32
-  pub conditions : length (m .conditions) ≡ 8
-  pub control : length (m .control) ≡ 45
+  pub set1 : length (m .set1) ≡ REGISTERS
+  pub set2 : length (m .set2) ≡ REGISTERS
+  pub conditions : length (m .conditions) ≡ FLAGS
+  pub control : length (m .control) ≡ OFFSETS
 
 pub formed-counts : {m : Machine} → WellFormed m → Counts m
 formed-counts w = record { set1 = w .set1 .count; set2 = w .set2 .count; conditions = w .conditions .count; control = w .control .count }
@@ -280,7 +281,7 @@ formed-true w =
 tests-formed : (m : Machine) → Passed (formTests m) → WellFormed m
 unfolding formTests
 tests-formed m (set1 also set2 also conditions also control also e₃ also e₄ also e₅ also no-more) =
-    questions-formed m record { set1 = eqb-true _ 32 set1; set2 = eqb-true _ 32 set2; conditions = eqb-true _ 8 conditions; control = eqb-true _ 45 control } e₃ e₄ e₅
+    questions-formed m record { set1 = eqb-true _ _ set1; set2 = eqb-true _ _ set2; conditions = eqb-true _ _ conditions; control = eqb-true _ _ control } e₃ e₄ e₅
 
 pub true-formed : (m : Machine) → wellFormed m ≡ true → WellFormed m
 unfolding wellFormed

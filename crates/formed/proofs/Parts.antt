@@ -9,6 +9,7 @@ use lib.Seq.{getD-set-same, getD-set-other}
 use lib.Dec.{lit<}
 use Rattle.machine.specs.Machine.{Machine, PSR, psr, positionAt, withSet1, withSet2, withConditions, withControl, withPosition, withPsr}
 use Rattle.machine.specs.Control.{registerAt, isWritable, storeControl}
+use Rattle.machine.specs.Words.{REGISTERS, FLAGS}
 use Rattle.machine.specs.Stack.{withStack}
 use Rattle.word.proofs.Tests.{if-holds}
 use Rattle.machine.specs.declared.Position.{Position}
@@ -19,13 +20,13 @@ use Rattle.formed.proofs.Stored.{Control, control-of, control-kept, con
 -- ---- register set 2, which has PSR
 
 pub record Second (l : List ℕ) : Type 0 where
-  pub sized : Sized 32 (2 ^ 32) l
+  pub sized : Sized REGISTERS (2 ^ 32) l
   pub status : StatusOk (getD l PSR 0)
 
 pub second-set : {l : List ℕ} (i x : ℕ) → PSR ≢ i → x < 2 ^ 32 → Second l → Second (set l i x)
 second-set {l} i x n h s = record { sized = sized-set i x (s .sized) h; status = rw (getD-set-other l i PSR x 0 n) (s .status) }
 
-pub second-psr : {l : List ℕ} (q : ℕ) → StatusOk q → Sized 32 (2 ^ 32) l → Second (set l PSR q)
+pub second-psr : {l : List ℕ} (q : ℕ) → StatusOk q → Sized REGISTERS (2 ^ 32) l → Second (set l PSR q)
 second-psr {l} q k s =
     record {
       sized = sized-set PSR q s (omega (arith, k .small));
@@ -38,7 +39,7 @@ second-of f = record { sized = f .set2; status = f .status }
 
 -- ---- the parts together
 
-formed : (m : Machine) → Sized 32 (2 ^ 32) (m .set1) → Second (m .set2) → Sized 8 8 (m .conditions) → Control (m .stack) (m .control)
+formed : (m : Machine) → Sized REGISTERS (2 ^ 32) (m .set1) → Second (m .set2) → Sized FLAGS 8 (m .conditions) → Control (m .stack) (m .control)
     → Placed (m .position) → Stacked (m .stack) → WellFormed m
 unfolding psr
 formed m r s c k p t =
@@ -57,7 +58,7 @@ formed m r s c k p t =
     }
 
 module _ {m : Machine} where
-  pub set1-formed : {l : List ℕ} → Sized 32 (2 ^ 32) l → WellFormed m → WellFormed (withSet1 l m)
+  pub set1-formed : {l : List ℕ} → Sized REGISTERS (2 ^ 32) l → WellFormed m → WellFormed (withSet1 l m)
   unfolding withSet1
   set1-formed {l} s f = formed (withSet1 l m) s (second-of f) (f .conditions) (control-of f) (f .position) (f .stack)
 
@@ -69,7 +70,7 @@ module _ {m : Machine} where
   unfolding withPsr
   psr-formed {q} k f = set2-formed (second-psr q k (f .set2)) f
 
-  pub conditions-formed : {l : List ℕ} → Sized 8 8 l → WellFormed m → WellFormed (withConditions l m)
+  pub conditions-formed : {l : List ℕ} → Sized FLAGS 8 l → WellFormed m → WellFormed (withConditions l m)
   unfolding withConditions
   conditions-formed {l} s f = formed (withConditions l m) (f .set1) (second-of f) s (control-of f) (f .position) (f .stack)
 

@@ -8,7 +8,7 @@ use native.Mathlib.Numerals.{add-one}
 use lib.ListN.{length, getD, take, drop, length-append, length-reverse, length-drop, take-append-drop}
 use lib.Seq.{take-at, drop-at, take-add, take-take, drop-drop, drop-cons, getD-drop}
 use Rattle.machine.specs.Machine.{Machine}
-use Rattle.machine.specs.Words.{section, positionOf, entriesOf, machineOf}
+use Rattle.machine.specs.Words.{REGISTERS, FLAGS, OFFSETS, PLACES, section, positionOf, entriesOf, machineOf}
 use Rattle.machine.specs.declared.Entry.{Entry}
 use Rattle.machine.proofs.Flat.{section-length, depth-is}
 use Rattle.image.specs.Image.{positionNumbers, entryNumbers, imageNumbers, SET1-AT, SET2-AT, CONDITIONS-AT, CONTROL-AT, POSITION-AT, STACK-AT, countOf, machineIn}
@@ -16,11 +16,11 @@ use Rattle.formed.proofs.Formed.{Counts}
 
 -- words whose sections have their counts
 pub record Counted (ws : List ℕ) : Type 0 where
-  pub set1 : countOf SET1-AT ws ≡ 32
-  pub set2 : countOf SET2-AT ws ≡ 32
-  pub conditions : countOf CONDITIONS-AT ws ≡ 8
-  pub control : countOf CONTROL-AT ws ≡ 45
-  pub position : countOf POSITION-AT ws ≡ 6
+  pub set1 : countOf SET1-AT ws ≡ REGISTERS
+  pub set2 : countOf SET2-AT ws ≡ REGISTERS
+  pub conditions : countOf CONDITIONS-AT ws ≡ FLAGS
+  pub control : countOf CONTROL-AT ws ≡ OFFSETS
+  pub position : countOf POSITION-AT ws ≡ PLACES
 
 -- the running words have the order of an image's numbers
 pub same-order : (ns : List ℕ) → machineIn ns ≡ machineOf ns

@@ -23,17 +23,17 @@ const OFFSETS: u32 = machine::OFFSETS as u32;
 const PLACES: u32 = machine::PLACES as u32;
 
 // Where they stand among an image's numbers, and among the running words, which have the same order.
-const SET1: usize = machine::SET1 - 1;
+const SET1_COUNT: usize = machine::SET1 - 1;
 
-const SET2: usize = machine::SET2 - 1;
+const SET2_COUNT: usize = machine::SET2 - 1;
 
-const CONDITIONS: usize = machine::CONDITIONS - 1;
+const CONDITIONS_COUNT: usize = machine::CONDITIONS - 1;
 
-const CONTROL: usize = machine::CONTROL - 1;
+const CONTROL_COUNT: usize = machine::CONTROL - 1;
 
-const POSITION: usize = machine::POSITION - 1;
+const POSITION_COUNT: usize = machine::POSITION - 1;
 
-const STACK: usize = machine::DEPTH;
+const STACK_COUNT: usize = machine::DEPTH;
 
 // ---- question 2
 
@@ -44,16 +44,16 @@ fn sections_fit(image: &[u8]) -> bool
     if image.len() < SHORTEST {
         return false;
     }
-    let depth = codec::number_at(image, 4 * STACK);
+    let depth = codec::number_at(image, 4 * STACK_COUNT);
     if machine::SOURCES < depth {
         return false;
     }
     let bytes = image.len() == SHORTEST + 16 * (depth as usize);
-    let set1 = codec::number_at(image, 4 * SET1) == REGISTERS;
-    let set2 = codec::number_at(image, 4 * SET2) == REGISTERS;
-    let conditions = codec::number_at(image, 4 * CONDITIONS) == FLAGS;
-    let control = codec::number_at(image, 4 * CONTROL) == OFFSETS;
-    let position = codec::number_at(image, 4 * POSITION) == PLACES;
+    let set1 = codec::number_at(image, 4 * SET1_COUNT) == REGISTERS;
+    let set2 = codec::number_at(image, 4 * SET2_COUNT) == REGISTERS;
+    let conditions = codec::number_at(image, 4 * CONDITIONS_COUNT) == FLAGS;
+    let control = codec::number_at(image, 4 * CONTROL_COUNT) == OFFSETS;
+    let position = codec::number_at(image, 4 * POSITION_COUNT) == PLACES;
     bytes & set1 & set2 & conditions & control & position
 }
 
@@ -80,11 +80,11 @@ pub fn write(w: &mut [u32], buffer: &mut [u8])
     ensures { λ _. ⌜ now (buffer .exit) ≡ over (writeImage (machineOf (now (w .entry)))) (now (buffer .entry)) ⌝ }
 {
     let n = machine::ENTRIES + 4 * (machine::depth(w) as usize);
-    w[SET1] = REGISTERS;
-    w[SET2] = REGISTERS;
-    w[CONDITIONS] = FLAGS;
-    w[CONTROL] = OFFSETS;
-    w[POSITION] = PLACES;
+    w[SET1_COUNT] = REGISTERS;
+    w[SET2_COUNT] = REGISTERS;
+    w[CONDITIONS_COUNT] = FLAGS;
+    w[CONTROL_COUNT] = OFFSETS;
+    w[POSITION_COUNT] = PLACES;
     codec::write_numbers(&w[..n], buffer);
 }
 

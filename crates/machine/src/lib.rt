@@ -1,5 +1,5 @@
 // The running machine: one flat slice of words, at fixed places, read and written through these functions.
-// Their contracts speak of the machine that the words say, so that no other crate knows where a number lies.
+// Their contracts speak of the machine that the words say, so that no other crate says where a number lies.
 ghost use mathlib.Core.Path.{_≡_};
 ghost use mathlib.Core.Bool.{true, false};
 ghost use mathlib.Core.List.{_∷_};
