@@ -64,3 +64,13 @@ pub fn write_numbers(numbers: &[u32], bytes: &mut [u8])
         put_number(bytes, 4 * i, numbers[i]);
     }
 }
+
+// Copies numbers to a slice of the same length.
+pub fn copy(from: &[u32], to: &mut [u32])
+    requires { ⌜ length (now from) ≡ length (now to) ⌝ }
+    ensures { λ _. ⌜ now (to .exit) ≡ now (from .entry) ⌝ }
+{
+    for i in 0..from.len() {
+        to[i] = from[i];
+    }
+}

@@ -9,7 +9,8 @@ use lib.ListN.{length, getD, drop, getElem?, length-append, length-drop}
 use lib.Seq.{drop-nil}
 use Rattle.codec.specs.Number.{over}
 use Rattle.machine.specs.Machine.{Machine, State, Memory}
-use Rattle.image.specs.Image.{Read, Refused, Accepted, askMachine, readImage, writeImage}
+use Rattle.formed.specs.Questions.{Read, Refused, Accepted, askMachine}
+use Rattle.image.specs.Image.{readImage, writeImage}
 use Rattle.image.proofs.Image.{accepted-formed, writeImage-longest, writeImage-readImage}
 use Rattle.word.proofs.Tests.{if-holds}
 use Rattle.effect.specs.Apply.{Transition}

@@ -7,8 +7,8 @@ use lib.ListN.{length}
 use borrow.Author.Tests.{le-leb, lt-leb}
 use Rattle.word.specs.Choice.{if_then_else_}
 use Rattle.machine.specs.Machine.{Machine, Memory}
-use Rattle.image.specs.Questions.{allBelow}
-use Rattle.image.specs.Image.{Accepted, readImage, readBy}
+use Rattle.formed.specs.Questions.{allBelow, Accepted, readBy}
+use Rattle.image.specs.Image.{readImage}
 use Rattle.emulator.specs.Run.{askCall, ask, askedBy}
 
 module _ (p image : List ℕ) (memory : Memory) (requests : List ℕ) (limit room : ℕ) (m : Machine) where

@@ -11,9 +11,10 @@ use lib.ListN.{length, getD}
 use Rattle.word.specs.Choice.{if_then_else_}
 use Rattle.word.proofs.Tests.{and-parts}
 use Rattle.machine.specs.Machine.{Machine, State, Memory}
-use Rattle.image.specs.Image.{Read, Refused, Accepted, readImage}
-use Rattle.image.proofs.Tests.{below-true, true-below}
-use Rattle.image.proofs.Formed.{WellFormed}
+use Rattle.formed.specs.Questions.{Read, Refused, Accepted}
+use Rattle.image.specs.Image.{readImage}
+use Rattle.formed.proofs.Tests.{below-true, true-below}
+use Rattle.formed.proofs.Formed.{WellFormed}
 use Rattle.image.proofs.Image.{readImage-writeImage, accepted-formed}
 use Rattle.effect.specs.Apply.{Transition}
 use Rattle.step.proofs.Formed.{step-formed}

@@ -8,9 +8,9 @@ use lib.ListN.{length, getD}
 use Rattle.codec.specs.Number.{over}
 use Rattle.machine.specs.Machine.{Machine, Memory}
 use Rattle.machine.specs.Words.{machineOf, stateOf}
-use Rattle.image.specs.Questions.{wellFormed}
+use Rattle.formed.specs.Questions.{wellFormed}
 use Rattle.image.specs.Image.{writeImage}
-use Rattle.image.proofs.Formed.{true-formed, formed-true, stacked-depth}
+use Rattle.formed.proofs.Formed.{true-formed, formed-true, stacked-depth}
 use Rattle.image.proofs.Image.{accepted-formed}
 use Rattle.effect.specs.Apply.{Transition, stopNumber, Report, reported, reportBy}
 use Rattle.step.specs.Step.{step}

@@ -4,11 +4,12 @@ use mathlib.Core.Logic.{_↔_}
 use mathlib.Core.List.{List, [], _∷_}
 use Prim.Native.Nat.{ℕ, suc, _≤_, _<_}
 use lib.ListN.{length, getD, getElem?}
-use Rattle.machine.specs.Machine.{Machine, Memory, State}
-use Rattle.image.specs.Image.{Accepted, readImage}
+use Rattle.machine.specs.Machine.{Machine, MOST-MEMORY, Memory, State}
+use Rattle.formed.specs.Questions.{Accepted}
+use Rattle.image.specs.Image.{LONGEST, readImage}
 use Rattle.effect.specs.Apply.{Transition}
 use Rattle.step.specs.Step.{step}
-use Rattle.emulator.specs.Run.{Call, No, Start, asked, stateWith, Called, called, transitions}
+use Rattle.emulator.specs.Run.{Call, MOST-STEPS, No, Start, asked, stateWith, Called, called, transitions}
 use Rattle.emulator.specs.declared.Answer.the-variants.{Refusal, Ran}
 
 -- the state after all of these
@@ -41,12 +42,12 @@ Continuity =
 
 -- the eight questions are all answered yes
 pub record AllYes (program image : List ℕ) (memory : Memory) (c : Call) (m : Machine) : Type 0 where
-  pub programSize : length program ≤ 65536
-  pub dataSize : length (memory .cells) ≤ 65536
+  pub programSize : length program ≤ MOST-MEMORY
+  pub dataSize : length (memory .cells) ≤ MOST-MEMORY
   pub read : readImage image ≡ Accepted m  -- 2 to 5
   pub requests : (i : ℕ) → getD (c .requests) i 0 ≤ 0xFFF
-  pub limit : c .limit ≤ 1000000
-  pub room : 708 ≤ length (c .buffer)
+  pub limit : c .limit ≤ MOST-STEPS
+  pub room : LONGEST ≤ length (c .buffer)
 
 -- just such a call is not refused
 unfoldable pub Questions : Type 0

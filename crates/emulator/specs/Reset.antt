@@ -6,7 +6,7 @@ use lib.Dec.{leb}
 use Rattle.word.specs.Choice.{if_then_else_}
 use Rattle.codec.specs.Number.{over}
 use Rattle.machine.specs.Control.{reset}
-use Rattle.image.specs.Image.{writeImage}
+use Rattle.image.specs.Image.{LONGEST, writeImage}
 
 -- its answer, 0 or the number of the refusal, and the lent buffer after it
 pub record ResetOutcome : Type 0 where
@@ -18,4 +18,4 @@ resetOutcome answer buffer = record { answer = answer; buffer = buffer }
 
 -- "Image buffer at least 708 bytes? 8"; the image is at the buffer's front, "its further bytes keep their values"
 unfoldable pub resetCall : (buffer : List ℕ) → ResetOutcome
-resetCall buffer = if leb 708 (length buffer) then resetOutcome 0 (over (writeImage reset) buffer) else resetOutcome 8 buffer
+resetCall buffer = if leb LONGEST (length buffer) then resetOutcome 0 (over (writeImage reset) buffer) else resetOutcome 8 buffer

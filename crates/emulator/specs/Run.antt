@@ -6,10 +6,10 @@ use lib.ListN.{length, getD}
 use lib.Dec.{leb}
 use Rattle.word.specs.Choice.{if_then_else_}
 use Rattle.codec.specs.Number.{over}
-use Rattle.machine.specs.Machine.{Machine, Memory, State}
+use Rattle.machine.specs.Machine.{Machine, MOST-MEMORY, Memory, State}
 use Rattle.machine.specs.Words.{stateOf}
-use Rattle.image.specs.Questions.{allBelow}
-use Rattle.image.specs.Image.{Read, Refused, Accepted, readImage, writeImage}
+use Rattle.formed.specs.Questions.{allBelow, Read, Refused, Accepted}
+use Rattle.image.specs.Image.{LONGEST, readImage, writeImage}
 use Rattle.effect.specs.Apply.{Transition, stopNumber}
 use Rattle.step.specs.Step.{isStop, step}
 use Rattle.emulator.specs.declared.Ended.{Ended}
@@ -60,19 +60,23 @@ pub data Asked : Type 0 where
   No : ℕ → Asked
   Start : Machine → Asked
 
+-- the largest step limit
+abbrev pub MOST-STEPS : ℕ
+MOST-STEPS = 1000000
+
 -- 6 to 8; room is the bytes of the image buffer
 unfoldable pub askCall : (requests : List ℕ) (limit room : ℕ) → Read → Asked
 askCall requests limit room (Refused n) = No n
 askCall requests limit room (Accepted m) =
     if not (allBelow 0x1000 requests) then No 6
-    else if not (leb limit 1000000) then No 7
-    else if not (leb 708 room) then No 8
+    else if not (leb limit MOST-STEPS) then No 7
+    else if not (leb LONGEST room) then No 8
     else Start m
 
 -- 1 to 8
 unfoldable pub ask : (program image : List ℕ) → Memory → (requests : List ℕ) (limit room : ℕ) → Asked
 ask program image memory requests limit room =
-    if not (leb (length program) 65536 && leb (length (memory .cells)) 65536) then No 1
+    if not (leb (length program) MOST-MEMORY && leb (length (memory .cells)) MOST-MEMORY) then No 1
     else askCall requests limit room (readImage image)
 
 -- the same of a call

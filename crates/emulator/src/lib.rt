@@ -4,10 +4,10 @@ ghost use mathlib.Core.Bool.{true};
 ghost use Prim.Native.Nat.{_≤_};
 ghost use lib.ListN.{length, getD};
 ghost use Rattle.machine.specs.Words.{MachineWords, machineOf, stateOf};
-ghost use Rattle.image.specs.Questions.{wellFormed};
+ghost use Rattle.formed.specs.Questions.{wellFormed};
 ghost use Rattle.emulator.specs.Run.{resultFrom, resultBy, ask, askedBy, outcome, runCall};
 ghost use Rattle.emulator.specs.Reset.{resetOutcome, resetCall};
-ghost use Rattle.machine.specs.Machine.{memoryOf};
+ghost use Rattle.machine.specs.Machine.{MOST-MEMORY, memoryOf};
 
 // What a run call answers.
 pub enum Answer {
@@ -24,17 +24,11 @@ pub struct Ended {
     pub ending: u32,
 }
 
-// The words of a machine with a full stack.
-const WORDS: usize = 177;
-
 // Bytes of the longest program, and cells of the largest data memory.
-const MOST_MEMORY: usize = 65_536;
+pub const MOST_MEMORY: usize = 65_536;
 
 // The largest step limit.
-const MOST_STEPS: u32 = 1_000_000;
-
-// Bytes of the longest image.
-const IMAGE_ROOM: usize = 708;
+pub const MOST_STEPS: u32 = 1_000_000;
 
 // ---- the questions
 
@@ -61,13 +55,13 @@ fn refusal(
     if read != 0 {
         return read;
     }
-    if !image::all_below(requests, 0x1000) {
+    if !formed::all_below(requests, 0x1000) {
         return 6;
     }
     if MOST_STEPS < limit {
         return 7;
     }
-    if room < IMAGE_ROOM {
+    if room < image::LONGEST {
         return 8;
     }
     0
@@ -90,7 +84,7 @@ fn run_steps(
     requests: &[u32],
     limit: u32,
 ) -> Ended
-    requires { ⌜ MachineWords (now w) × (length (now program) ≤ 65536) × (wellFormed (machineOf (now w)) ≡ true) ⌝ }
+    requires { ⌜ MachineWords (now w) × (length (now program) ≤ MOST-MEMORY) × (wellFormed (machineOf (now w)) ≡ true) ⌝ }
     ensures { λ r. ⌜ resultBy r (now (w .exit)) (memoryOf (now (cells .exit))) ≡ resultFrom (now (program .entry)) (now (requests .entry)) limit 0 (stateOf (now (w .entry)) (memoryOf (now (cells .entry)))) ⌝ }
 {
     let mut done: u32 = 0;
@@ -124,7 +118,7 @@ pub fn run(
 ) -> Answer
     ensures { λ r. ⌜ outcome r (now (buffer .exit)) (memoryOf (now (cells .exit))) ≡ runCall (now (program .entry)) (now (image .entry)) (memoryOf (now (cells .entry))) (record { requests = now (requests .entry); limit = limit; buffer = now (buffer .entry) }) ⌝ }
 {
-    let mut words = [0u32; WORDS];
+    let mut words = [0u32; machine::WORDS];
     let no = refusal(
         program,
         cells,
@@ -148,10 +142,10 @@ pub fn run(
 pub fn reset(buffer: &mut [u8]) -> u32
     ensures { λ r. ⌜ resetOutcome r (now (buffer .exit)) ≡ resetCall (now (buffer .entry)) ⌝ }
 {
-    if buffer.len() < IMAGE_ROOM {
+    if buffer.len() < image::LONGEST {
         return 8;
     }
-    let mut words = [0u32; WORDS];
+    let mut words = [0u32; machine::WORDS];
     image::reset(&mut words);
     image::write(&mut words, buffer);
     0

@@ -1,28 +1,28 @@
 -- An image is read back as the machine that it was written from; an accepted one is written again as it was. Assumes nothing.
 use mathlib.Core.Path.{_≡_, refl, sym, ap, _∙_}
-use mathlib.Core.Bool.{Bool, true, false, not}
+use mathlib.Core.Bool.{Bool, true, false}
 use mathlib.Core.List.{List, [], _∷_, _++_, reverseAux}
 use Prim.Native.Nat.{ℕ, zero, suc, _+_, _*_, _^_, _≤_, _<_}
 use native.Mathlib.Omega.{arith}
-use lib.ListN.{length, getD}
+use lib.ListN.{length}
 use lib.Seq.{take-all}
 use native.Mathlib.Nat.{lt-of-lt-of-le, lt-of-le-of-lt}
 use lib.Dec.{lit<, lit≤}
 use borrow.Author.Tests.{leb-true, eqb-true, eq-eqb, le-leb}
 use Rattle.word.specs.Choice.{if_then_else_}
 use Rattle.codec.specs.Number.{numbersOf, bytesOf}
-use Rattle.codec.proofs.Laws.{Below, numbersOf-bytesOf, bytesOf-numbersOf, length-bytesOf, length-numbersOf, bytesOf-lt}
+use Rattle.codec.proofs.Laws.{Below, numbersOf-bytesOf, bytesOf-numbersOf, length-bytesOf, length-numbersOf}
 use Rattle.machine.specs.Machine.{Machine}
 use Rattle.machine.specs.Control.{reset}
-use Rattle.machine.specs.Words.{DEPTH, machineOf}
+use Rattle.machine.specs.Words.{SOURCES}
 use Rattle.machine.specs.declared.Position.{Position}
 use Rattle.machine.specs.declared.Entry.{Entry}
-use Rattle.image.specs.Questions.{question3, question4, question5, wellFormed}
-use Rattle.image.specs.Image.{positionNumbers, entryNumbers, imageNumbers, writeImage, sectionTests, question2, Read, Refused, Accepted, askMachine, readImage}
-use Rattle.image.specs.Computed.{images}
-use Rattle.image.proofs.Tests.{Passed, no-more, _also_, all-passed, passed-all}
-use Rattle.image.proofs.Formed.{Placed, Stacked, empty, pushed, stacked-depth, Counts, WellFormed, registers-below, formed-counts, formed-3, formed-4, formed-5, questions-formed, true-formed}
-use Rattle.image.proofs.Sections.{Counted, counted-imageNumbers, depth-imageNumbers, machineOf-imageNumbers, length-imageNumbers, counts-machineOf, imageNumbers-machineOf}
+use Rattle.formed.specs.Questions.{Read, Refused, Accepted, askMachine}
+use Rattle.image.specs.Image.{positionNumbers, entryNumbers, imageNumbers, writeImage, STACK-AT, countOf, machineIn, imageBytes, LONGEST, sectionTests, question2, readImage}
+use Rattle.formed.proofs.Tests.{Passed, no-more, _also_, all-passed, passed-all}
+use Rattle.formed.proofs.Asked.{askMachine-formed, machine-asked}
+use Rattle.formed.proofs.Formed.{Placed, Stacked, empty, pushed, stacked-depth, Counts, WellFormed, registers-below, formed-counts, reset-formed}
+use Rattle.image.proofs.Sections.{Counted, counted-imageNumbers, depth-imageNumbers, machineIn-imageNumbers, length-imageNumbers, counts-machineIn, imageNumbers-machineIn}
 
 -- ---- the numbers of a well-formed machine have 32 bits
 
@@ -63,17 +63,17 @@ imageNumbers-below {m} w =
 -- ---- its length and its bytes
 
 -- 516 bytes, and 16 for each entry
-pub length-writeImage : {m : Machine} → Counts m → length (writeImage m) ≡ 516 + 16 * length (m .stack)
+pub length-writeImage : {m : Machine} → Counts m → length (writeImage m) ≡ imageBytes (length (m .stack))
 unfolding writeImage
 length-writeImage {m} c = omega (arith, length-bytesOf (imageNumbers m), length-imageNumbers m c)
 
 -- at most 12 entries
-pub writeImage-longest : {m : Machine} → WellFormed m → length (writeImage m) ≤ 708
+pub writeImage-longest : {m : Machine} → WellFormed m → length (writeImage m) ≤ LONGEST
 writeImage-longest w = omega (arith, length-writeImage (formed-counts w), stacked-depth (w .stack))
 
-pub writeImage-bytes : (m : Machine) → Below 256 (writeImage m)
-unfolding writeImage
-writeImage-bytes m = bytesOf-lt (imageNumbers m)
+-- where the longest image has room, one of fewer entries has
+pub room-enough : {n room : ℕ} → n ≤ SOURCES → LONGEST ≤ room → imageBytes n ≤ room
+room-enough h l = omega arith
 
 -- ---- what is written is read back
 
@@ -85,10 +85,10 @@ writeImage-2 : {m : Machine} → WellFormed m → question2 (writeImage m) ≡ t
 unfolding question2 sectionTests
 writeImage-2 {m} w =
     let c = counted-imageNumbers m (formed-counts w) in
-    let d : getD (imageNumbers m) DEPTH 0 ≡ length (m .stack) = depth-imageNumbers m (formed-counts w) in
+    let d : countOf STACK-AT (imageNumbers m) ≡ length (m .stack) = depth-imageNumbers m (formed-counts w) in
     rw (numbersOf-writeImage w) (passed-all (
-    eq-eqb _ _ (length-writeImage (formed-counts w) ∙ sym (ap (λ (k : ℕ). 516 + 16 * k) d)) also
-    le-leb (getD (imageNumbers m) DEPTH 0) 12 (rw d (stacked-depth (w .stack))) also
+    eq-eqb _ _ (length-writeImage (formed-counts w) ∙ sym (ap imageBytes d)) also
+    le-leb (countOf STACK-AT (imageNumbers m)) 12 (rw d (stacked-depth (w .stack))) also
     eq-eqb _ _ (c .set1) also
     eq-eqb _ _ (c .set2) also
     eq-eqb _ _ (c .conditions) also
@@ -96,14 +96,10 @@ writeImage-2 {m} w =
     eq-eqb _ _ (c .position) also
     no-more))
 
-askMachine-formed : {m : Machine} → WellFormed m → askMachine m ≡ Accepted m
-unfolding askMachine if_then_else_
-askMachine-formed w = rw (formed-3 w, formed-4 w, formed-5 w)
-
 -- decode after encode
 pub readImage-writeImage : {m : Machine} → WellFormed m → readImage (writeImage m) ≡ Accepted m
 unfolding readImage if_then_else_
-readImage-writeImage {m} w = rw (writeImage-2 w, numbersOf-writeImage w, machineOf-imageNumbers m (formed-counts w)) (askMachine-formed w)
+readImage-writeImage {m} w = rw (writeImage-2 w, numbersOf-writeImage w, machineIn-imageNumbers m (formed-counts w)) (askMachine-formed w)
 
 -- ---- an accepted image is well formed, and is what its machine writes
 
@@ -113,26 +109,12 @@ unfolding if_then_else_
 sections-yes true r m e = (refl, e)
 sections-yes false r m e = absurd (let z : _≡_ {A = ℕ} 0 1 = cc in omega arith)
 
-question-yes : (b : Bool) (n : ℕ) (r : Read) (m : Machine) → if_then_else_ (not b) (Refused n) r ≡ Accepted m → (b ≡ true) × (r ≡ Accepted m)
-unfolding if_then_else_
-question-yes true n r m e = (refl, e)
-question-yes false n r m e = absurd (let z : _≡_ {A = ℕ} 0 1 = cc in omega arith)
-
-machine-asked : (x m : Machine) → Counts x → askMachine x ≡ Accepted m → (x ≡ m) × WellFormed x
-unfolding askMachine
-machine-asked x m c e =
-    let q₃ = question-yes (question3 x) 3 _ m e in
-    let q₄ = question-yes (question4 x) 4 _ m (q₃ .1) in
-    let q₅ = question-yes (question5 x) 5 _ m (q₄ .1) in
-    let a : Accepted x ≡ Accepted m = q₅ .1 in
-    (cc, questions-formed x c (q₃ .0) (q₄ .0) (q₅ .0))
-
 -- the numbers of an image with its sections
 pub record Sectioned (image : List ℕ) : Type 0 where
-  pub deep : getD (numbersOf image) DEPTH 0 ≤ 12
+  pub deep : countOf STACK-AT (numbersOf image) ≤ 12
   pub counted : Counted (numbersOf image)
-  pub exact : length image ≡ 516 + 16 * getD (numbersOf image) DEPTH 0
-  pub words : length (numbersOf image) ≡ 129 + 4 * getD (numbersOf image) DEPTH 0
+  pub exact : length image ≡ imageBytes (countOf STACK-AT (numbersOf image))
+  pub words : length (numbersOf image) ≡ STACK-AT + 4 * countOf STACK-AT (numbersOf image)
 
 pub sectioned : (image : List ℕ) → question2 image ≡ true → Sectioned image
 unfolding question2 sectionTests
@@ -140,7 +122,7 @@ sectioned image q = go (all-passed (sectionTests (length image) (numbersOf image
   where
     go : Passed (sectionTests (length image) (numbersOf image)) → Sectioned image
     go (exact also deep also set1 also set2 also conditions also control also position also no-more) =
-        let e : length image ≡ 516 + 16 * getD (numbersOf image) DEPTH 0 = eqb-true _ _ exact in
+        let e : length image ≡ imageBytes (countOf STACK-AT (numbersOf image)) = eqb-true _ _ exact in
         record {
           deep = leb-true _ 12 deep;
           counted = record { set1 = eqb-true _ 32 set1; set2 = eqb-true _ 32 set2; conditions = eqb-true _ 8 conditions; control = eqb-true _ 45 control; position = eqb-true _ 6 position };
@@ -151,16 +133,16 @@ sectioned image q = go (all-passed (sectionTests (length image) (numbersOf image
 -- an image read as a machine
 pub record ReadAs (image : List ℕ) (m : Machine) : Type 0 where
   pub sections : Sectioned image
-  pub machine : machineOf (numbersOf image) ≡ m
+  pub machine : machineIn (numbersOf image) ≡ m
   pub formed : WellFormed m
 
 pub accepted : (image : List ℕ) (m : Machine) → readImage image ≡ Accepted m → ReadAs image m
 unfolding readImage
 accepted image m e =
-    let x = machineOf (numbersOf image) in
+    let x = machineIn (numbersOf image) in
     let q = sections-yes (question2 image) (askMachine x) m e in
     let s = sectioned image (q .0) in
-    let a = machine-asked x m (counts-machineOf (numbersOf image) (omega (arith, s .words))) (q .1) in
+    let a = machine-asked x m (counts-machineIn (numbersOf image) (omega (arith, s .words))) (q .1) in
     record { sections = s; machine = a .0; formed = rw (a .0) at (a .1) }
 
 pub accepted-formed : (image : List ℕ) (m : Machine) → readImage image ≡ Accepted m → WellFormed m
@@ -173,18 +155,11 @@ writeImage-readImage image m b e =
     let r = accepted image m e in
     let ws = numbersOf image in
     let s = r .sections in
-    let long : 129 + 4 * getD ws DEPTH 0 ≤ length ws = omega (arith, s .words) in
-    let back : imageNumbers m ≡ ws = ap imageNumbers (sym (r .machine)) ∙ imageNumbers-machineOf ws (s .counted) long ∙ take-all (129 + 4 * getD ws DEPTH 0) ws (omega (arith, s .words)) in
+    let long : STACK-AT + 4 * countOf STACK-AT ws ≤ length ws = omega (arith, s .words) in
+    let back : imageNumbers m ≡ ws = ap imageNumbers (sym (r .machine)) ∙ imageNumbers-machineIn ws (s .counted) long ∙ take-all (STACK-AT + 4 * countOf STACK-AT ws) ws (omega (arith, s .words)) in
     ap bytesOf back ∙ bytesOf-numbersOf image (omega (arith, s .exact)) b
 
 -- ---- reset
-
-pub reset-true : wellFormed reset ≡ true
-unfolding images
-reset-true = refl
-
-pub reset-formed : WellFormed reset
-reset-formed = true-formed reset reset-true
 
 pub reset-accepted : readImage (writeImage reset) ≡ Accepted reset
 reset-accepted = readImage-writeImage reset-formed

@@ -8,19 +8,24 @@ use native.Mathlib.Numerals.{add-one}
 use lib.ListN.{length, getD, take, drop, length-append, length-reverse, length-drop, take-append-drop}
 use lib.Seq.{take-at, drop-at, take-add, take-take, drop-drop, drop-cons, getD-drop}
 use Rattle.machine.specs.Machine.{Machine}
-use Rattle.machine.specs.Words.{SET1, SET2, CONDITIONS, CONTROL, POSITION, DEPTH, ENTRIES, section, positionOf, entriesOf, machineOf}
+use Rattle.machine.specs.Words.{REGISTERS, FLAGS, OFFSETS, PLACES, section, positionOf, entriesOf, machineOf}
 use Rattle.machine.specs.declared.Entry.{Entry}
-use Rattle.machine.proofs.Flat.{section-length}
-use Rattle.image.specs.Image.{positionNumbers, entryNumbers, imageNumbers, countOf}
-use Rattle.image.proofs.Formed.{Counts}
+use Rattle.machine.proofs.Flat.{section-length, depth-is}
+use Rattle.image.specs.Image.{positionNumbers, entryNumbers, imageNumbers, SET1-AT, SET2-AT, CONDITIONS-AT, CONTROL-AT, POSITION-AT, STACK-AT, countOf, machineIn}
+use Rattle.formed.proofs.Formed.{Counts}
 
 -- words whose sections have their counts
 pub record Counted (ws : List ℕ) : Type 0 where
-  pub set1 : countOf SET1 ws ≡ 32
-  pub set2 : countOf SET2 ws ≡ 32
-  pub conditions : countOf CONDITIONS ws ≡ 8
-  pub control : countOf CONTROL ws ≡ 45
-  pub position : countOf POSITION ws ≡ 6
+  pub set1 : countOf SET1-AT ws ≡ REGISTERS
+  pub set2 : countOf SET2-AT ws ≡ REGISTERS
+  pub conditions : countOf CONDITIONS-AT ws ≡ FLAGS
+  pub control : countOf CONTROL-AT ws ≡ OFFSETS
+  pub position : countOf POSITION-AT ws ≡ PLACES
+
+-- the running words have the order of an image's numbers
+pub same-order : (ns : List ℕ) → machineIn ns ≡ machineOf ns
+unfolding machineIn machineOf
+same-order ns = refl
 
 -- ---- position and entries
 
@@ -59,11 +64,6 @@ pub length-entryNumbers : (es : List Entry) → length (entryNumbers es) ≡ 4 *
 unfolding entryNumbers
 length-entryNumbers [] = refl
 length-entryNumbers (e ∷ es) = omega (arith, length-entryNumbers es)
-
-pub length-entriesOf : (n : ℕ) (l : List ℕ) → length (entriesOf n l) ≡ n
-unfolding entriesOf
-length-entriesOf zero l = refl
-length-entriesOf (suc n) l = ap suc (length-entriesOf n (drop 4 l))
 
 -- ---- what is written is read back
 
@@ -140,13 +140,13 @@ module _ (m : Machine) (c : Counts m) where
         position = count-read (imageNumbers m) 121 (section₅ .starts);
       }
 
-  pub depth-imageNumbers : getD (imageNumbers m) DEPTH 0 ≡ length (m .stack)
+  pub depth-imageNumbers : countOf STACK-AT (imageNumbers m) ≡ length (m .stack)
   depth-imageNumbers = count-read (imageNumbers m) 128 section₆
 
   -- the machine is read back
-  pub machineOf-imageNumbers : machineOf (imageNumbers m) ≡ m
-  unfolding machineOf positionOf positionNumbers
-  machineOf-imageNumbers = λ i. record {
+  pub machineIn-imageNumbers : machineIn (imageNumbers m) ≡ m
+  unfolding machineIn positionOf positionNumbers
+  machineIn-imageNumbers = λ i. record {
     set1 = section-read section₁ i;
     set2 = section-read section₂ i;
     conditions = section-read section₃ i;
@@ -162,20 +162,18 @@ module _ (m : Machine) (c : Counts m) where
 -- ---- what was read is written back
 
 -- the stack has as many entries as its count says
-pub depth-machineOf : (ws : List ℕ) → length (machineOf ws .stack) ≡ getD ws DEPTH 0
-unfolding machineOf
-depth-machineOf ws =
-    length-reverse (entriesOf (getD ws DEPTH 0) (drop ENTRIES ws)) ∙ length-entriesOf (getD ws DEPTH 0) (drop ENTRIES ws)
+pub depth-machineIn : (ns : List ℕ) → length (machineIn ns .stack) ≡ countOf STACK-AT ns
+depth-machineIn ns = rw (same-order ns) (depth-is ns)
 
 -- the lists have their counts where the words are enough
-pub counts-machineOf : (ws : List ℕ) → ENTRIES ≤ length ws → Counts (machineOf ws)
-unfolding machineOf
-counts-machineOf ws h =
+pub counts-machineIn : (ws : List ℕ) → STACK-AT ≤ length ws → Counts (machineIn ws)
+unfolding machineIn
+counts-machineIn ws h =
     record {
-      set1 = section-length ws SET1 32 (omega arith);
-      set2 = section-length ws SET2 32 (omega arith);
-      conditions = section-length ws CONDITIONS 8 (omega arith);
-      control = section-length ws CONTROL 45 (omega arith);
+      set1 = section-length ws SET1-AT 32 (omega arith);
+      set2 = section-length ws SET2-AT 32 (omega arith);
+      conditions = section-length ws CONDITIONS-AT 8 (omega arith);
+      control = section-length ws CONTROL-AT 45 (omega arith);
     }
 
 append-imageNumbers : (m : Machine) (t : List ℕ)
@@ -189,33 +187,33 @@ join : (ws : List ℕ) (at n c : ℕ) {p t : List ℕ} → at < length ws → c 
 join ws at n c h e f g =
     rw (e, f, g, ← drop-drop n (suc at) ws, take-append-drop n (drop (suc at) ws)) (sym (drop-cons ws at 0 h))
 
-module _ (ws : List ℕ) (c : Counted ws) (long : 129 + 4 * getD ws DEPTH 0 ≤ length ws) where
-  position-back : positionNumbers (machineOf ws .position) ≡ section POSITION 6 ws
-  unfolding machineOf
+module _ (ws : List ℕ) (c : Counted ws) (long : 129 + 4 * countOf STACK-AT ws ≤ length ws) where
+  position-back : positionNumbers (machineIn ws .position) ≡ section POSITION-AT 6 ws
+  unfolding machineIn
   position-back =
-      let n : length (section POSITION 6 ws) ≡ 6 = section-length ws POSITION 6 (omega arith) in
-      positionNumbers-positionOf (section POSITION 6 ws) (omega arith) ∙ take-take 6 6 (drop POSITION ws) (omega arith)
+      let n : length (section POSITION-AT 6 ws) ≡ 6 = section-length ws POSITION-AT 6 (omega arith) in
+      positionNumbers-positionOf (section POSITION-AT 6 ws) (omega arith) ∙ take-take 6 6 (drop POSITION-AT ws) (omega arith)
 
-  entries-back : entryNumbers (reverse (machineOf ws .stack)) ≡ section ENTRIES (4 * getD ws DEPTH 0) ws
-  unfolding machineOf
+  entries-back : entryNumbers (reverse (machineIn ws .stack)) ≡ section STACK-AT (4 * countOf STACK-AT ws) ws
+  unfolding machineIn
   entries-back =
-      ap entryNumbers (reverse-reverse (entriesOf (getD ws DEPTH 0) (drop ENTRIES ws)))
-      ∙ entryNumbers-entriesOf (getD ws DEPTH 0) (drop ENTRIES ws) (rw length-drop (omega arith))
+      ap entryNumbers (reverse-reverse (entriesOf (countOf STACK-AT ws) (drop STACK-AT ws)))
+      ∙ entryNumbers-entriesOf (countOf STACK-AT ws) (drop STACK-AT ws) (rw length-drop (omega arith))
 
   -- with the words past the last entry
-  all-words : imageNumbers (machineOf ws) ++ drop (129 + 4 * getD ws DEPTH 0) ws ≡ ws
-  unfolding machineOf
+  all-words : imageNumbers (machineIn ws) ++ drop (129 + 4 * countOf STACK-AT ws) ws ≡ ws
+  unfolding machineIn
   all-words =
-      append-imageNumbers (machineOf ws) (drop (129 + 4 * getD ws DEPTH 0) ws)
+      append-imageNumbers (machineIn ws) (drop (129 + 4 * countOf STACK-AT ws) ws)
       ∙ join ws 0 32 32 (omega arith) (sym (c .set1)) refl
       (join ws 33 32 32 (omega arith) (sym (c .set2)) refl
       (join ws 66 8 8 (omega arith) (sym (c .conditions)) refl
       (join ws 75 45 45 (omega arith) (sym (c .control)) refl
       (join ws 121 6 6 (omega arith) (sym (c .position)) position-back
-      (join ws 128 (4 * getD ws DEPTH 0) _ (omega arith) (depth-machineOf ws) entries-back refl)))))
+      (join ws 128 (4 * countOf STACK-AT ws) _ (omega arith) (depth-machineIn ws) entries-back refl)))))
 
   -- the words up to the last entry
-  pub imageNumbers-machineOf : imageNumbers (machineOf ws) ≡ take (129 + 4 * getD ws DEPTH 0) ws
-  imageNumbers-machineOf =
-      let n : length (imageNumbers (machineOf ws)) ≡ 129 + 4 * getD ws DEPTH 0 = length-imageNumbers (machineOf ws) (counts-machineOf ws (omega arith)) ∙ rw (depth-machineOf ws) in
-      sym (take-at (imageNumbers (machineOf ws)) (drop (129 + 4 * getD ws DEPTH 0) ws) (129 + 4 * getD ws DEPTH 0) n) ∙ ap (take (129 + 4 * getD ws DEPTH 0)) all-words
+  pub imageNumbers-machineIn : imageNumbers (machineIn ws) ≡ take (129 + 4 * countOf STACK-AT ws) ws
+  imageNumbers-machineIn =
+      let n : length (imageNumbers (machineIn ws)) ≡ 129 + 4 * countOf STACK-AT ws = length-imageNumbers (machineIn ws) (counts-machineIn ws (omega arith)) ∙ rw (depth-machineIn ws) in
+      sym (take-at (imageNumbers (machineIn ws)) (drop (129 + 4 * countOf STACK-AT ws) ws) (129 + 4 * countOf STACK-AT ws) n) ∙ ap (take (129 + 4 * countOf STACK-AT ws)) all-words

@@ -7,11 +7,11 @@ use native.Mathlib.Omega.{arith}
 use lib.Dec.{lit<}
 use lib.ListN.{length, getD, set, take, length-set}
 use lib.Seq.{getD-set-other, drop-set-lt}
-use Rattle.machine.specs.Words.{SET1, SET2, CONDITIONS, CONTROL, POSITION, DEPTH, ENTRIES, WORDS, machineOf}
+use Rattle.machine.specs.Words.{SET1, SET2, CONDITIONS, CONTROL, POSITION, SOURCES, DEPTH, ENTRIES, WORDS, machineOf}
 use Rattle.machine.proofs.Lists.{get-same, get-other}
 use Rattle.machine.proofs.Flat.{apart, store-apart, depth-is}
 use Rattle.image.specs.Image.{imageNumbers}
-use Rattle.image.proofs.Sections.{Counted, imageNumbers-machineOf}
+use Rattle.image.proofs.Sections.{Counted, same-order, imageNumbers-machineIn}
 
 -- the words with the five counts in their places
 abbrev withCounts : (words : List ℕ) → List ℕ
@@ -43,11 +43,11 @@ counted w h =
       position = simp (get-same, length-set, h);
     }
 
-module _ (w : List ℕ) (h : length w ≡ WORDS) (l : length (machineOf w .stack) ≤ 12) where
+module _ (w : List ℕ) (h : length w ≡ WORDS) (l : length (machineOf w .stack) ≤ SOURCES) where
   -- the words up to the last entry are the image's numbers
-  pub counted-numbers : take (129 + 4 * length (machineOf w .stack)) (withCounts w) ≡ imageNumbers (machineOf w)
+  pub counted-numbers : take (ENTRIES + 4 * length (machineOf w .stack)) (withCounts w) ≡ imageNumbers (machineOf w)
   counted-numbers =
       let m = machine-counted w in
       let d : getD (withCounts w) DEPTH 0 ≡ length (machineOf w .stack) = sym (depth-is (withCounts w)) ∙ rw m in
-      let n = imageNumbers-machineOf (withCounts w) (counted w h) (rw d (simp length-set (omega arith))) in
-      sym (rw (m, d) at n)
+      let n = imageNumbers-machineIn (withCounts w) (counted w h) (rw d (simp length-set (omega arith))) in
+      sym (rw (same-order (withCounts w), m, d) at n)

@@ -1,5 +1,3 @@
--- The machine image and the questions asked of it.
-pub mod Questions
+-- The machine image: its sections, question 2, reading and writing.
 pub mod Image
-pub mod Entries
 pub mod Computed

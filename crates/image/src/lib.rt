@@ -1,32 +1,39 @@
 // The machine image: read, written, and at reset. An image becomes the machine's words once, and questions 3 to 5 are asked of those.
 ghost use mathlib.Core.Path.{_≡_};
-ghost use mathlib.Core.Bool.{true};
-ghost use Prim.Native.Nat.{_+_, _*_, _≤_, _<_};
-ghost use lib.Dec.{eqb};
+ghost use Prim.Native.Nat.{_≤_};
 ghost use lib.ListN.{length};
 ghost use Rattle.codec.specs.Number.{over};
-ghost use Rattle.machine.specs.Control.{registerAt, canHold, reset as resetOf};
-ghost use Rattle.machine.specs.Stack.{serviceFlags};
-ghost use Rattle.machine.specs.Words.{MachineWords, ENTRIES, section, entryOf, machineOf};
-ghost use Rattle.image.specs.Questions.{all, implies, allBelow, allHeld, positionTests, setsFit, question3, question4, question5};
-ghost use Rattle.image.specs.Entries.{passes as passesOf, allPass};
-ghost use Rattle.image.specs.Image.{question2, askMachine, readImage, readBy, writeImage};
+ghost use Rattle.machine.specs.Control.{reset as resetOf};
+ghost use Rattle.machine.specs.Words.{SOURCES, MachineWords, machineOf};
+ghost use Rattle.formed.specs.Questions.{readBy};
+ghost use Rattle.image.specs.Image.{imageBytes, question2, readImage, writeImage};
 
-// Offsets of control registers.
-const INT_SERV: u32 = 0x13;
+// Bytes of an image with no stack entries, and of the longest.
+pub const SHORTEST: usize = 4 * machine::ENTRIES;
 
-const RETI_ADDR: u32 = 0x28;
+pub const LONGEST: usize = 4 * machine::WORDS;
 
-const RETI_PSR: u32 = 0x29;
+// The sections' counts.
+const REGISTERS: u32 = machine::REGISTERS as u32;
 
-const RETI_CR0: u32 = 0x2A;
+const FLAGS: u32 = machine::FLAGS as u32;
 
-// What questions 3, 4 and 5 ask of a stack entry.
-pub enum Test {
-    Range,
-    Mode,
-    Source,
-}
+const OFFSETS: u32 = machine::OFFSETS as u32;
+
+const PLACES: u32 = machine::PLACES as u32;
+
+// Where they stand among an image's numbers, and among the running words, which have the same order.
+const SET1_COUNT: usize = machine::SET1 - 1;
+
+const SET2_COUNT: usize = machine::SET2 - 1;
+
+const CONDITIONS_COUNT: usize = machine::CONDITIONS - 1;
+
+const CONTROL_COUNT: usize = machine::CONTROL - 1;
+
+const POSITION_COUNT: usize = machine::POSITION - 1;
+
+const STACK_COUNT: usize = machine::DEPTH;
 
 // ---- question 2
 
@@ -34,206 +41,23 @@ pub enum Test {
 fn sections_fit(image: &[u8]) -> bool
     ensures { λ r. ⌜ r ≡ question2 (now (image .entry)) ⌝ }
 {
-    if image.len() < 516 {
+    if image.len() < SHORTEST {
         return false;
     }
-    let depth = codec::number_at(image, 512);
-    if 12 < depth {
+    let depth = codec::number_at(image, 4 * STACK_COUNT);
+    if machine::SOURCES < depth {
         return false;
     }
-    let bytes = image.len() == 516 + 16 * (depth as usize);
-    let set1 = codec::number_at(image, 0) == 32;
-    let set2 = codec::number_at(image, 132) == 32;
-    let conditions = codec::number_at(image, 264) == 8;
-    let control = codec::number_at(image, 300) == 45;
-    let position = codec::number_at(image, 484) == 6;
+    let bytes = image.len() == SHORTEST + 16 * (depth as usize);
+    let set1 = codec::number_at(image, 4 * SET1_COUNT) == REGISTERS;
+    let set2 = codec::number_at(image, 4 * SET2_COUNT) == REGISTERS;
+    let conditions = codec::number_at(image, 4 * CONDITIONS_COUNT) == FLAGS;
+    let control = codec::number_at(image, 4 * CONTROL_COUNT) == OFFSETS;
+    let position = codec::number_at(image, 4 * POSITION_COUNT) == PLACES;
     bytes & set1 & set2 & conditions & control & position
 }
 
-// ---- stack entries
-
-// Entry i of the stack, counted from the bottom.
-fn entry(w: &[u32], i: usize) -> machine::Entry
-    requires { ⌜ MachineWords (now w) × (i < 12) ⌝ }
-    ensures { λ r. ⌜ r ≡ entryOf (section (ENTRIES + 4 * i) 4 (now (w .entry))) ⌝ }
-{
-    let at = 129 + 4 * i;
-    machine::Entry {
-        source: w[at],
-        address: w[at + 1],
-        psr: w[at + 2],
-        c0: w[at + 3],
-    }
-}
-
-// Whether a status with UM 1 has both set bits 0.
-fn sets_fit(psr: u32) -> bool
-    ensures { λ r. ⌜ r ≡ setsFit psr ⌝ }
-{
-    if psr % 2 == 1 { psr % 8 == 1 } else { true }
-}
-
-// Whether an entry passes a test.
-fn passes(t: Test, e: machine::Entry) -> bool
-    ensures { λ r. ⌜ r ≡ passesOf t e ⌝ }
-{
-    match t {
-        Test::Range => (e.psr < 32) & (e.c0 < 8),
-        Test::Mode => sets_fit(e.psr),
-        Test::Source => e.source < 12,
-    }
-}
-
-// Whether every entry of the stack passes a test.
-fn entries_pass(t: Test, w: &[u32]) -> bool
-    requires { ⌜ MachineWords (now w) × (length (machineOf (now w) .stack) ≤ 12) ⌝ }
-    ensures { λ r. ⌜ r ≡ allPass t (machineOf (now (w .entry)) .stack) ⌝ }
-{
-    let n = machine::depth(w) as usize;
-    let mut all = true;
-    for i in 0..n {
-        all = passes(t, entry(w, i)) & all;
-    }
-    all
-}
-
-// ---- question 3
-
-// Whether every number is below a bound.
-pub fn all_below(numbers: &[u32], top: u32) -> bool
-    ensures { λ r. ⌜ r ≡ allBelow top (now (numbers .entry)) ⌝ }
-{
-    let mut i = 0;
-    while i < numbers.len() {
-        if numbers[i] < top {
-            i += 1;
-        } else {
-            return false;
-        }
-    }
-    true
-}
-
-// Whether a number is 0 where its flag is.
-fn idle(flag: u32, x: u32) -> bool
-    ensures { λ r. ⌜ r ≡ implies (eqb flag 0) (eqb x 0) ⌝ }
-{
-    if flag == 0 { x == 0 } else { true }
-}
-
-// Whether a position's flags are 0 or 1, and the numbers of a 0 flag 0.
-fn position_fits(p: machine::Position) -> bool
-    ensures { λ r. ⌜ r ≡ all (positionTests p) ⌝ }
-{
-    let slot = (p.slot < 2) & idle(p.slot, p.target);
-    let product = (p.held < 2) & idle(p.held, p.high) & idle(p.held, p.low);
-    slot & product
-}
-
-// Whether the control register at an offset can hold a number.
-fn can_hold(offset: u32, x: u32) -> bool
-    requires { ⌜ offset < 45 ⌝ }
-    ensures { λ r. ⌜ r ≡ canHold (registerAt offset) x ⌝ }
-{
-    match offset {
-        0x00 => x % 256 == 0, // CCB_BASE
-        0x2B => x == 0, // FPU_STATUS
-        0x2C => x == 1, // CORE_VER_ID
-        _ => x <= machine::limit(offset),
-    }
-}
-
-// Whether every control register can hold its number.
-fn all_held(registers: &[u32]) -> bool
-    requires { ⌜ length (now registers) ≤ 45 ⌝ }
-    ensures { λ r. ⌜ r ≡ allHeld 0 (now (registers .entry)) ⌝ }
-{
-    let mut i = 0;
-    while i < registers.len() {
-        if can_hold(i as u32, registers[i]) {
-            i += 1;
-        } else {
-            return false;
-        }
-    }
-    true
-}
-
-// Whether every number is one that its register can hold.
-fn numbers_fit(w: &[u32]) -> bool
-    requires { ⌜ MachineWords (now w) × (length (machineOf (now w) .stack) ≤ 12) ⌝ }
-    ensures { λ r. ⌜ r ≡ question3 (machineOf (now (w .entry))) ⌝ }
-{
-    let status = machine::psr(w) < 32;
-    let conditions = all_below(&w[67..75], 8); // C0 to C7
-    let control = all_held(&w[76..121]); // the control block
-    let position = position_fits(machine::position_of(w));
-    let entries = entries_pass(Test::Range, w);
-    status & conditions & control & position & entries
-}
-
-// ---- question 4
-
-// Whether every current or stacked status with UM 1 has both set bits 0.
-fn modes_fit(w: &[u32]) -> bool
-    requires { ⌜ MachineWords (now w) × (length (machineOf (now w) .stack) ≤ 12) ⌝ }
-    ensures { λ r. ⌜ r ≡ question4 (machineOf (now (w .entry))) ⌝ }
-{
-    sets_fit(machine::psr(w)) & entries_pass(Test::Mode, w)
-}
-
-// ---- question 5
-
-// The flags of the sources on the stack.
-fn service_flags(w: &[u32]) -> u32
-    requires { ⌜ MachineWords (now w) × (length (machineOf (now w) .stack) ≤ 12) ⌝ }
-    requires sources { ⌜ allPass Test.Source (machineOf (now w) .stack) ≡ true ⌝ }
-    ensures { λ r. ⌜ r ≡ serviceFlags (machineOf (now (w .entry)) .stack) ⌝ }
-{
-    let n = machine::depth(w) as usize;
-    let mut flags = 0;
-    for i in 0..n {
-        let e = entry(w, i);
-        flags = word::with_flag(flags, e.source);
-    }
-    flags
-}
-
-// Whether the stack's sources are below 12, all different and those of INT_SERV, and RETI_ is its top.
-fn stack_fits(w: &[u32]) -> bool
-    requires { ⌜ MachineWords (now w) × (length (machineOf (now w) .stack) ≤ 12) ⌝ }
-    ensures { λ r. ⌜ r ≡ question5 (machineOf (now (w .entry))) ⌝ }
-{
-    if entries_pass(Test::Source, w) {
-        let flags = service_flags(w);
-        let different = word::ones(flags) == machine::depth(w);
-        let served = machine::control(w, INT_SERV) == flags;
-        let top = machine::top(w);
-        let address = machine::control(w, RETI_ADDR) == top.address;
-        let psr = machine::control(w, RETI_PSR) == top.psr;
-        let c0 = machine::control(w, RETI_CR0) == top.c0;
-        different & served & address & psr & c0
-    } else {
-        false
-    }
-}
-
 // ---- reading
-
-// The number of the first of questions 3 to 5 that says no, or 0.
-fn refusal(w: &[u32]) -> u32
-    requires { ⌜ MachineWords (now w) × (length (machineOf (now w) .stack) ≤ 12) ⌝ }
-    ensures { λ r. ⌜ readBy r (machineOf (now (w .entry))) ≡ askMachine (machineOf (now (w .entry))) ⌝ }
-{
-    let numbers = numbers_fit(w);
-    let modes = modes_fit(w);
-    let stack = stack_fits(w);
-    if numbers {
-        if modes { if stack { 0 } else { 5 } } else { 4 }
-    } else {
-        3
-    }
-}
 
 // Reads an image: the number of the first question that says no, or 0 and the machine's words.
 pub fn read(image: &[u8], w: &mut [u32]) -> u32
@@ -242,7 +66,7 @@ pub fn read(image: &[u8], w: &mut [u32]) -> u32
 {
     if sections_fit(image) {
         codec::read_numbers(image, w);
-        refusal(w)
+        formed::ask_machine(w)
     } else {
         2
     }
@@ -250,24 +74,24 @@ pub fn read(image: &[u8], w: &mut [u32]) -> u32
 
 // ---- writing
 
-// Writes the machine's image to the front of a longer buffer, whose further bytes stay. The sections' counts go into the words first.
+// Writes the machine's image to the front of a buffer with room for it; the further bytes stay. The sections' counts go into the words first.
 pub fn write(w: &mut [u32], buffer: &mut [u8])
-    requires { ⌜ MachineWords (now w) × (length (machineOf (now w) .stack) ≤ 12) × (708 ≤ length (now buffer)) ⌝ }
+    requires { ⌜ MachineWords (now w) × (length (machineOf (now w) .stack) ≤ SOURCES) × (imageBytes (length (machineOf (now w) .stack)) ≤ length (now buffer)) ⌝ }
     ensures { λ _. ⌜ now (buffer .exit) ≡ over (writeImage (machineOf (now (w .entry)))) (now (buffer .entry)) ⌝ }
 {
-    let n = 129 + 4 * (machine::depth(w) as usize);
-    w[0] = 32;
-    w[33] = 32;
-    w[66] = 8;
-    w[75] = 45;
-    w[121] = 6;
+    let n = machine::ENTRIES + 4 * (machine::depth(w) as usize);
+    w[SET1_COUNT] = REGISTERS;
+    w[SET2_COUNT] = REGISTERS;
+    w[CONDITIONS_COUNT] = FLAGS;
+    w[CONTROL_COUNT] = OFFSETS;
+    w[POSITION_COUNT] = PLACES;
     codec::write_numbers(&w[..n], buffer);
 }
 
 // ---- reset
 
 // The control registers at reset (002 section 2.9), by offset.
-const RESET: [u32; 45] = [
+const RESET: [u32; machine::OFFSETS] = [
     0x0001_0000, // CCB_BASE
     0x0001_0100, // PCB_BASE
     0x0001_01FF, // PCB_END
@@ -315,15 +139,8 @@ const RESET: [u32; 45] = [
     1, // CORE_VER_ID
 ];
 
-// Copies numbers to a slice of the same length.
-fn copy(from: &[u32], to: &mut [u32])
-    requires { ⌜ length (now from) ≡ length (now to) ⌝ }
-    ensures { λ _. ⌜ now (to .exit) ≡ now (from .entry) ⌝ }
-{
-    for i in 0..from.len() {
-        to[i] = from[i];
-    }
-}
+// Where SPSR lies.
+const SPSR: usize = machine::SET2 + machine::SPSR as usize;
 
 // Puts the machine at reset into its words.
 pub fn reset(w: &mut [u32])
@@ -331,9 +148,12 @@ pub fn reset(w: &mut [u32])
     ensures { λ _. ⌜ machineOf (now (w .exit)) ≡ resetOf ⌝ }
 {
     let control = RESET;
-    let mut numbers = [0u32; 129];
-    numbers[63] = 0x0E; // PSR
-    numbers[64] = 9; // SPSR
-    copy(&control, &mut numbers[76..121]);
-    copy(&numbers, &mut w[..129]);
+    let mut numbers = [0u32; machine::ENTRIES];
+    numbers[machine::PSR] = 0x0E;
+    numbers[SPSR] = 9;
+    codec::copy(
+        &control,
+        &mut numbers[machine::CONTROL..machine::CONTROL + machine::OFFSETS],
+    );
+    codec::copy(&numbers, &mut w[..machine::ENTRIES]);
 }

@@ -7,10 +7,10 @@ use native.Mathlib.Omega.{arith}
 use lib.ListN.{length, getElem?}
 use Rattle.word.specs.Arithmetic.{orOf}
 use Rattle.machine.specs.Machine.{State, psr, userMode, withControl}
-use Rattle.machine.specs.Control.{controlAt, protectedCell, CCB-BASE, INT-PEND, DMEM-BOUND-LO, DMEM-BOUND-HI, IMEM-BOUND-LO, IMEM-BOUND-HI}
+use Rattle.machine.specs.Control.{controlAt, protectedCell, CCB-BASE, INT-PEND, DMEM-BOUND-LO, DMEM-BOUND-HI, IMEM-BOUND-LO, IMEM-BOUND-HI, withPending}
 use Rattle.machine.proofs.Lists.{at-set-other, same-getD}
 use Rattle.view.specs.View.{nestedBy}
-use Rattle.step.specs.Interrupt.{withPending, withRequests}
+use Rattle.step.specs.Interrupt.{withRequests}
 use Rattle.isolation.specs.Isolation.{Kept, SameShown}
 use Rattle.isolation.proofs.User.{User, Alike, Guarded, user-bit}
 

@@ -9,7 +9,8 @@ use lib.ListN.{length, getElem?}
 use Rattle.word.specs.Choice.{if_then_else_}
 use Rattle.machine.specs.Machine.{Machine, Memory, State, PSR, psr, userMode}
 use Rattle.machine.specs.Control.{controlAt, protectedCell, protectedByte, CCB-BASE, INT-PEND, DMEM-BOUND-LO, DMEM-BOUND-HI, IMEM-BOUND-LO, IMEM-BOUND-HI}
-use Rattle.image.specs.Image.{Accepted, readImage}
+use Rattle.formed.specs.Questions.{Accepted}
+use Rattle.image.specs.Image.{readImage}
 use Rattle.view.specs.View.{nestedBy}
 use Rattle.effect.specs.Apply.{Transition}
 use Rattle.emulator.specs.Run.{Call, stateWith, transitions}

@@ -81,14 +81,6 @@ fill-apart w start vs m n e = split-apart start (length vs) m n e (fill-short w 
 
 -- its sections are whole
 module _ (w : List ℕ) (h : length w ≡ WORDS) where
-  pub set1-length : length (machineOf w .set1) ≡ 32
-  unfolding machineOf
-  set1-length = section-length w SET1 32 (omega arith)
-
-  pub set2-length : length (machineOf w .set2) ≡ 32
-  unfolding machineOf
-  set2-length = section-length w SET2 32 (omega arith)
-
   pub conditions-length : length (machineOf w .conditions) ≡ 8
   unfolding machineOf
   conditions-length = section-length w CONDITIONS 8 (omega arith)

@@ -1,16 +1,19 @@
 -- What control registers hold. Assumes nothing.
 use mathlib.Core.Path.{_≡_, refl, sym, ap, _∙_}
-use mathlib.Core.Bool.{Bool, true, false, true≢false, _&&_}
-use mathlib.Core.List.{List, [], _∷_}
-use Prim.Native.Nat.{ℕ, zero, suc, _/_, _%_, _^_, _≤_, _<_}
+use mathlib.Core.Bool.{true, true≢false}
+use mathlib.Core.List.{[]}
+use Prim.Native.Nat.{ℕ, _/_, _%_, _^_, _≤_, _<_}
 use native.Mathlib.Omega.{arith}
 use native.Mathlib.Nat.{mod-lt, div-mul-le-self, mul-mod-left, mod-one, lt-of-le-of-lt}
-use lib.ListN.{length, getD, List·getD-eq-default}
+use lib.ListN.{length, List·getD-eq-default}
 use lib.Pow.{pow-pos, pow-mono}
 use lib.Dec.{leb, ltb}
 use borrow.Author.Tests.{leb-true, ltb-true, lt-ltb, eq-eqb}
 use Rattle.machine.specs.Control.{Access, writable, readOnly, constant, Register, registers, registerAt, holdsAs, canHold, keptBy, isWritable}
+use Rattle.machine.specs.Words.{OFFSETS}
+use Rattle.word.specs.Flags.{isAmong}
 use Rattle.word.proofs.Tests.{and-parts, and-both}
+use Rattle.machine.proofs.Widths.{holdsBelow, beyond, otherwise}
 
 -- ---- one register
 
@@ -49,35 +52,20 @@ kept-holds r x w =
 
 -- ---- the table
 
--- a test that every row passes
-every : (p : Register → Bool) → List Register → Bool
-every p [] = true
-every p (r ∷ l) = p r && every p l
-
-every-row : (p : Register → Bool) (l : List Register) (d : Register) → every p l ≡ true → p d ≡ true → (i : ℕ) → p (getD l i d) ≡ true
-unfolding every
-every-row p [] d h e i = e
-every-row p (r ∷ l) d h e zero = and-parts (p r) (every p l) h .0
-every-row p (r ∷ l) d h e (suc i) = every-row p l d (and-parts (p r) (every p l) h .1) e i
-
-pub registers-count : length registers ≡ 45
+-- as many as there are offsets
+pub registers-count : length registers ≡ OFFSETS
 unfolding registers
 registers-count = refl
 
 -- at most 32 bits
 pub width-small : (i : ℕ) → registerAt i .width ≤ 32
-unfolding registerAt registers every
-width-small i = leb-true _ 32 (every-row (λ r. leb (r .width) 32) registers _ refl refl i)
+unfolding holdsBelow isAmong registerAt registers
+width-small i = leb-true _ 32 (otherwise [] (λ n. leb (registerAt n .width) 32) refl (λ n l. ap (λ r. leb (r .width) 32) (beyond n l)) i tt)
 
 -- nothing but 0 is past the last one
 pub beyond-holds : (i : ℕ) → 45 ≤ i → canHold (registerAt i) 0 ≡ true
 unfolding registerAt registers canHold holdsAs
 beyond-holds i h = rw (List·getD-eq-default registers _ h)
-
--- its value after reset is one that the register can hold
-pub reset-holds : (i : ℕ) → canHold (registerAt i) (registerAt i .reset) ≡ true
-unfolding registerAt registers every canHold holdsAs
-reset-holds i = every-row (λ r. canHold r (r .reset)) registers _ refl refl i
 
 -- a word of 32 bits
 below-word : (i x : ℕ) → x < 2 ^ registerAt i .width → x < 2 ^ 32
@@ -85,6 +73,3 @@ below-word i x h = let b : 2 ^ registerAt i .width ≤ 2 ^ 32 = pow-mono (width-
 
 pub holds-word : (i x : ℕ) → canHold (registerAt i) x ≡ true → x < 2 ^ 32
 holds-word i x h = below-word i x (holds-small (registerAt i) x h)
-
-pub kept-word : (i x : ℕ) → keptBy (registerAt i) x < 2 ^ 32
-kept-word i x = below-word i (keptBy (registerAt i) x) (kept-small (registerAt i) x)

@@ -1,12 +1,11 @@
--- The stack of interrupts in service: its depth, its flags, and the control registers that show it. Assumes nothing.
+-- The stack of interrupts in service: its depth (`ones-depth` is 01's sentence, see docs/MAP.md), its flags, and the control registers that show it.
+-- Assumes nothing.
 use mathlib.Core.Path.{_≡_, refl, sym, _∙_}
-use mathlib.Core.Logic.{_≢_}
 use mathlib.Core.Bool.{true, false}
 use mathlib.Core.List.{List, _∷_}
 use Prim.Native.Nat.{ℕ, _^_, _≤_, _<_}
 use native.Mathlib.Omega.{arith}
 use lib.ListN.{length, getD, length-set, length-map}
-use lib.Seq.{getD-set-other}
 use Rattle.word.specs.Flags.{onesOf, withFlag, withoutFlag, flagsAt, isAmong, distinctBelow}
 use Rattle.word.proofs.Flags.{ones-flags, flags-below-all, length-most, flags-pop}
 use Rattle.machine.proofs.Lists.{get-same, get-other}
@@ -46,15 +45,6 @@ flags-popped e es n = sym (flags-pop (e .source) (sourcesOf es) n)
 -- ---- the control block that shows a stack
 
 module _ (es : List Entry) (l : List ℕ) where
-  pub length-shown : length (showStack es l) ≡ length l
-  unfolding showStack
-  length-shown = simp length-set
-
-  -- the other registers stay
-  pub shown-other : (i : ℕ) → i ≢ INT-SERV → i ≢ RETI-ADDR → i ≢ RETI-PSR → i ≢ RETI-CR0 → getD (showStack es l) i 0 ≡ getD l i 0
-  unfolding showStack
-  shown-other i a b c d = simp getD-set-other
-
   module _ (n : length l ≡ 45) where
     pub shown-flags : getD (showStack es l) INT-SERV 0 ≡ serviceFlags es
     unfolding showStack

@@ -12,24 +12,22 @@ use lib.Bits.{bitAnd, and-mask}
 use borrow.Author.Tests.{ltb-true, ltb-false, eqb-true, le-leb, lt-leb, le-ltb, ne-eqb}
 use Rattle.word.specs.Choice.{if_then_else_}
 use Rattle.word.specs.Flags.{isAmong}
+use Rattle.word.proofs.Tests.{and-parts, either}
 use Rattle.machine.specs.Control.{Register, registers, registerAt, largest, holdsAs, keptBy, isWritable, storeControl}
 use Rattle.machine.specs.Machine.{Machine, withControl}
 
 -- ---- a test of the numbers below k
 
-holdsBelow : (ℕ → Bool) → ℕ → Bool
+unfoldable pub holdsBelow : (ℕ → Bool) → ℕ → Bool
 holdsBelow f zero = true
 holdsBelow f (suc k) = f k && holdsBelow f k
 
 holds-at : (f : ℕ → Bool) (k n : ℕ) → holdsBelow f k ≡ true → n < k → f n ≡ true
 unfolding holdsBelow
 holds-at f zero n e h = absurd (not-suc-le-zero h)
-holds-at f (suc k) n e h = go (f k) (ltb n k) refl refl e (holds-at f k n)
-  where
-    go : (b t : Bool) → f k ≡ b → ltb n k ≡ t → b && holdsBelow f k ≡ true → (holdsBelow f k ≡ true → n < k → f n ≡ true) → f n ≡ true
-    go true true q p r below = below r (ltb-true n k p)
-    go true false q p r below = let l : k ≤ n = ltb-false n k p in let s : n ≡ k = omega arith in ap f s ∙ q
-    go false t q p r below = absurd (let z : _≡_ {A = ℕ} 0 1 = cc in omega arith)
+holds-at f (suc k) n e h =
+    let p = and-parts (f k) (holdsBelow f k) e in
+    either (ltb n k) (λ t. holds-at f k n (p .1) (ltb-true n k t)) (λ t. let s : n ≡ k = omega (arith, ltb-false n k t) in rw s (p .0))
 
 -- ---- all numbers but some
 
@@ -44,18 +42,17 @@ avoids-among [] n h = refl
 avoids-among (k ∷ ks) n h = rw (ne-eqb k n (λ e. h .1 (sym e))) (avoids-among ks n (h .0))
 
 -- a test of the 45 registers but some, and of the offsets beyond them
-otherwise : (ks : List ℕ) (f : ℕ → Bool) → holdsBelow (λ n. isAmong n ks || f n) 45 ≡ true → ((n : ℕ) → 45 ≤ n → f n ≡ true)
+pub otherwise : (ks : List ℕ) (f : ℕ → Bool) → holdsBelow (λ n. isAmong n ks || f n) 45 ≡ true → ((n : ℕ) → 45 ≤ n → f n ≡ true)
     → (n : ℕ) → Avoids ks n → f n ≡ true
-otherwise ks f e high n h = go (ltb n 45) refl
-  where
-    go : (b : Bool) → ltb n 45 ≡ b → f n ≡ true
-    go true p = rw (avoids-among ks n h) at (holds-at (λ n. isAmong n ks || f n) 45 n e (ltb-true n 45 p))
-    go false p = high n (ltb-false n 45 p)
+otherwise ks f e high n h =
+    either (ltb n 45)
+    (λ p. rw (avoids-among ks n h) at (holds-at (λ n. isAmong n ks || f n) 45 n e (ltb-true n 45 p)))
+    (λ p. high n (ltb-false n 45 p))
 
 -- ---- the registers
 
 -- beyond the block's registers
-beyond : (n : ℕ) → 45 ≤ n → registerAt n ≡ registerAt 45
+pub beyond : (n : ℕ) → 45 ≤ n → registerAt n ≡ registerAt 45
 unfolding registerAt registers
 beyond n h = List·getD-eq-default registers _ h
 
@@ -109,11 +106,9 @@ mask-whole r x z = sym (sym (mask-kept r x) ∙ rw z (omega arith))
 -- a writable register is one of the block's
 pub writable-small : (n : ℕ) → isWritable (registerAt n .access) ≡ true → n < 45
 unfolding registers registerAt isWritable
-writable-small n h = go (ltb n 45) refl
-  where
-    go : (b : Bool) → ltb n 45 ≡ b → n < 45
-    go true p = ltb-true n 45 p
-    go false p = absurd (let z : _≡_ {A = ℕ} 0 1 = cc (rw (beyond n (ltb-false n 45 p)) at h) in omega arith)
+writable-small n h =
+    either (ltb n 45) (ltb-true n 45)
+    (λ p. absurd (let z : _≡_ {A = ℕ} 0 1 = cc (rw (beyond n (ltb-false n 45 p)) at h) in omega arith))
 
 pub stored-writable : (n x : ℕ) (m : Machine) → isWritable (registerAt n .access) ≡ true
     → storeControl n x m ≡ withControl (set (m .control) n (keptBy (registerAt n) x)) m
@@ -129,8 +124,9 @@ stored-ignored n x m h = rw h
 -- x has no more bits than a register
 pub limit-below : (r : Register) (x : ℕ) → leb x (largest r) ≡ ltb x (2 ^ r .width)
 unfolding largest
-limit-below r x = go (ltb x (2 ^ r .width)) refl (pow-pos (r .width))
-  where
-    go : (b : Bool) → ltb x (2 ^ r .width) ≡ b → 0 < 2 ^ r .width → leb x (2 ^ r .width - 1) ≡ b
-    go true e p = let l : x < 2 ^ r .width = ltb-true _ _ e in le-leb x (2 ^ r .width - 1) (omega arith)
-    go false e p = let l : 2 ^ r .width ≤ x = ltb-false _ _ e in lt-leb x (2 ^ r .width - 1) (omega arith)
+limit-below r x =
+    let m = 2 ^ r .width in
+    let p = pow-pos (r .width) in
+    either (ltb x m)
+    (λ e. le-leb x (m - 1) (omega (arith, p, ltb-true x m e)) ∙ sym e)
+    (λ e. lt-leb x (m - 1) (omega (arith, p, ltb-false x m e)) ∙ sym e)

@@ -24,6 +24,10 @@ pub record Machine : Type 0 where
 pub record Memory : Type 0 where
   pub cells : List ℕ
 
+-- bytes of the longest program, and cells of the largest data memory
+abbrev pub MOST-MEMORY : ℕ
+MOST-MEMORY = 65536
+
 abbrev pub memoryOf : (cells : List ℕ) → Memory
 memoryOf cells = record { cells = cells }
 
@@ -119,3 +123,8 @@ statusOf user read write wide enabled = bitOf user + 2 * bitOf read + 4 * bitOf 
 -- PSR of scall and of exceptions, and at reset, 0Eh: super user, set 2, 32-bit words, interrupts disabled
 abbrev pub SUPER : ℕ
 SUPER = statusOf false true true true false
+
+-- to unfold `states` is to unfold all definitions of this file
+unfoldable pub states : Unit {0}
+unfolding positionAt withSet1 withSet2 withConditions withControl withPosition setBy withRegister psr withPsr written userMode readsSet2 writesSet2 wideWords interruptsEnabled widthOf statusOf
+states = tt

@@ -6,6 +6,7 @@ use Prim.Native.Nat.{ℕ}
 use lib.ListN.{set}
 use Rattle.word.specs.Flags.{flagsAt, distinctBelow}
 use Rattle.machine.specs.Machine.{Machine}
+use Rattle.machine.specs.Words.{SOURCES}
 use Rattle.machine.specs.Control.{INT-SERV, RETI-ADDR, RETI-PSR, RETI-CR0}
 use Rattle.machine.specs.declared.Position.{Position}
 use Rattle.machine.specs.declared.Entry.{Entry}
@@ -43,4 +44,9 @@ withStack es m = record { set1 = m .set1; set2 = m .set2; conditions = m .condit
 -- the control block shows the stack, and the stack's sources are below 12 and all different (question 5)
 pub record StackShown (m : Machine) : Type 0 where
   pub shown : showStack (m .stack) (m .control) ≡ m .control
-  pub distinct : distinctBelow 12 (sourcesOf (m .stack)) ≡ true
+  pub distinct : distinctBelow SOURCES (sourcesOf (m .stack)) ≡ true
+
+-- to unfold `stacks` is to unfold all definitions of this file
+unfoldable pub stacks : Unit {0}
+unfolding popped sourcesOf serviceFlags shownTop showStack withStack
+stacks = tt

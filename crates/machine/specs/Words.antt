@@ -1,4 +1,4 @@
--- The running machine as one list of words: an image's numbers in their order (01 "Machine image"). Assumes nothing.
+-- The running machine as one list of words at fixed places; what an image's numbers say is image/Image: machineIn. Assumes nothing.
 use mathlib.Core.Path.{_≡_}
 use mathlib.Core.Bool.{Bool, true, false}
 use mathlib.Core.List.{List, [], _∷_, reverse}
@@ -8,7 +8,7 @@ use Rattle.machine.specs.Machine.{Machine, Memory, State}
 use Rattle.machine.specs.declared.Position.{Position}
 use Rattle.machine.specs.declared.Entry.{Entry}
 
--- how many numbers each section has
+-- how many numbers each section has: a register set, the conditions, the control block, the position
 abbrev pub REGISTERS : ℕ
 REGISTERS = 32
 
@@ -21,7 +21,11 @@ OFFSETS = 45
 abbrev pub PLACES : ℕ
 PLACES = 6
 
--- where the sections' numbers begin, each just after its count
+-- the interrupt sources; the stack has at most one entry of each
+abbrev pub SOURCES : ℕ
+SOURCES = 12
+
+-- where the sections' numbers begin among the words, each after a word for its count
 
 abbrev pub SET1 : ℕ
 SET1 = 1
@@ -45,9 +49,9 @@ DEPTH = POSITION + PLACES
 abbrev pub ENTRIES : ℕ
 ENTRIES = DEPTH + 1
 
--- as many words as the longest image has
+-- words for a full stack
 abbrev pub WORDS : ℕ
-WORDS = ENTRIES + 4 * 12
+WORDS = ENTRIES + 4 * SOURCES
 
 -- words are as many as a machine has
 abbrev pub MachineWords : (words : List ℕ) → Type 0
@@ -71,18 +75,23 @@ unfoldable pub entriesOf : (count : ℕ) (words : List ℕ) → List Entry
 entriesOf zero l = []
 entriesOf (suc n) l = entryOf l ∷ entriesOf n (drop 4 l)
 
--- the machine that words in this order say; words past the last entry say nothing
+-- the machine that words at these places say; the words for counts, and those past the last entry, say nothing
 unfoldable pub machineOf : (words : List ℕ) → Machine
 machineOf ws =
     record {
-      set1 = section SET1 32 ws;
-      set2 = section SET2 32 ws;
-      conditions = section CONDITIONS 8 ws;
-      control = section CONTROL 45 ws;
-      position = positionOf (section POSITION 6 ws);
+      set1 = section SET1 REGISTERS ws;
+      set2 = section SET2 REGISTERS ws;
+      conditions = section CONDITIONS FLAGS ws;
+      control = section CONTROL OFFSETS ws;
+      position = positionOf (section POSITION PLACES ws);
       stack = reverse (entriesOf (getD ws DEPTH 0) (drop ENTRIES ws));
     }
 
 -- the state that words and a memory hold
 abbrev pub stateOf : (words : List ℕ) → Memory → State
 stateOf words memory = record { machine = machineOf words; memory = memory }
+
+-- to unfold `layout` is to unfold all definitions of this file
+unfoldable pub layout : Unit {0}
+unfolding positionOf entriesOf machineOf
+layout = tt

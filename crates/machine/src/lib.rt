@@ -1,5 +1,5 @@
-// The running machine: one flat slice of words, an image's numbers in their order, read and written through these functions.
-// Their contracts speak of the machine that the words say, so that no other crate knows where a number lies.
+// The running machine: one flat slice of words, at fixed places, read and written through these functions.
+// Their contracts speak of the machine that the words say, so that no other crate says where a number lies.
 ghost use mathlib.Core.Path.{_≡_};
 ghost use mathlib.Core.Bool.{true, false};
 ghost use mathlib.Core.List.{_∷_};
@@ -9,7 +9,7 @@ ghost use Rattle.word.specs.Flags.{distinctBelow};
 ghost use Rattle.machine.specs.Machine.{psr, userMode, readsSet2, writesSet2, wideWords, interruptsEnabled, statusOf, SUPER, setBy, withRegister, written, withPsr, withConditions, withControl, withPosition};
 ghost use Rattle.machine.specs.Control.{registerAt, controlAt, largest, keptBy, isWritable, storeControl, within, INT-SERV};
 ghost use Rattle.machine.specs.Stack.{popped, sourcesOf, serviceFlags, shownTop, showTop, withStack};
-ghost use Rattle.machine.specs.Words.{MachineWords, startBy, machineOf};
+ghost use Rattle.machine.specs.Words.{REGISTERS, FLAGS, OFFSETS, SOURCES, MachineWords, startBy, machineOf};
 use word::has_flag;
 use word::with_flag;
 use word::without_flag;
@@ -35,19 +35,31 @@ pub struct Entry {
     pub c0: u32,
 }
 
-// Where the numbers lie (01 "Machine image"). Register set 1:
-const SET1: usize = 1;
+// How many numbers each section has: a register set, the conditions, the control block, the position.
+pub const REGISTERS: usize = 32;
+
+pub const FLAGS: usize = 8;
+
+pub const OFFSETS: usize = 45;
+
+pub const PLACES: usize = 6;
+
+// The interrupt sources; the stack has at most one entry of each.
+pub const SOURCES: u32 = 12;
+
+// Where the sections' numbers begin among the words, each after a word for its count. Register set 1:
+pub const SET1: usize = 1;
 
 // Register set 2, and its PSR:
-const SET2: usize = SET1 + 33;
+pub const SET2: usize = SET1 + REGISTERS + 1;
 
-const PSR: usize = SET2 + 29;
+pub const PSR: usize = SET2 + 29;
 
 // Condition registers:
-const CONDITIONS: usize = SET2 + 33;
+pub const CONDITIONS: usize = SET2 + REGISTERS + 1;
 
 // The control block, and the registers of it that show the stack:
-const CONTROL: usize = CONDITIONS + 9;
+pub const CONTROL: usize = CONDITIONS + FLAGS + 1;
 
 const SERVED: usize = CONTROL + INT_SERV as usize;
 
@@ -58,22 +70,27 @@ const RETURN_STATUS: usize = CONTROL + RETI_PSR as usize;
 const RETURN_FLAGS: usize = CONTROL + RETI_CR0 as usize;
 
 // The program position:
-const PC: usize = CONTROL + 46;
+pub const POSITION: usize = CONTROL + OFFSETS + 1;
 
-const SLOT: usize = PC + 1;
+const PC: usize = POSITION;
 
-const TARGET: usize = PC + 2;
+const SLOT: usize = POSITION + 1;
 
-const HELD: usize = PC + 3;
+const TARGET: usize = POSITION + 2;
 
-const HIGH: usize = PC + 4;
+const HELD: usize = POSITION + 3;
 
-const LOW: usize = PC + 5;
+const HIGH: usize = POSITION + 4;
+
+const LOW: usize = POSITION + 5;
 
 // The count of stack entries, and the entries, four words each, the top last:
-const DEPTH: usize = PC + 6;
+pub const DEPTH: usize = POSITION + PLACES;
 
-const ENTRIES: usize = DEPTH + 1;
+pub const ENTRIES: usize = DEPTH + 1;
+
+// Words for a full stack.
+pub const WORDS: usize = ENTRIES + 4 * SOURCES as usize;
 
 // The offsets of control registers (002 section 2.9); the vectors of the 12 sources follow each other.
 pub const CCB_BASE: u32 = 0x00;
@@ -127,7 +144,7 @@ pub const LINK: u32 = 31;
 
 // Register n of set 1.
 pub fn register1(w: &[u32], n: u32) -> u32
-    requires { ⌜ MachineWords (now w) × (n < 32) ⌝ }
+    requires { ⌜ MachineWords (now w) × (n < REGISTERS) ⌝ }
     ensures { λ r. ⌜ r ≡ getD (machineOf (now (w .entry)) .set1) n 0 ⌝ }
 {
     w[SET1 + n as usize]
@@ -135,7 +152,7 @@ pub fn register1(w: &[u32], n: u32) -> u32
 
 // Register n of set 2.
 pub fn register2(w: &[u32], n: u32) -> u32
-    requires { ⌜ MachineWords (now w) × (n < 32) ⌝ }
+    requires { ⌜ MachineWords (now w) × (n < REGISTERS) ⌝ }
     ensures { λ r. ⌜ r ≡ getD (machineOf (now (w .entry)) .set2) n 0 ⌝ }
 {
     w[SET2 + n as usize]
@@ -143,15 +160,15 @@ pub fn register2(w: &[u32], n: u32) -> u32
 
 // Where register n of the set that a bit of PSR names lies.
 fn place(second: bool, n: u32) -> usize
-    requires { ⌜ n < 32 ⌝ }
+    requires { ⌜ n < REGISTERS ⌝ }
     ensures { λ r. ⌜ r ≡ startBy second + n ⌝ }
 {
-    SET1 + second as usize * 33 + n as usize
+    SET1 + second as usize * (SET2 - SET1) + n as usize
 }
 
 // Register n of the set that a bit of PSR names.
 pub fn register(w: &[u32], second: bool, n: u32) -> u32
-    requires { ⌜ MachineWords (now w) × (n < 32) ⌝ }
+    requires { ⌜ MachineWords (now w) × (n < REGISTERS) ⌝ }
     ensures { λ r. ⌜ r ≡ getD (setBy second (machineOf (now (w .entry)))) n 0 ⌝ }
 {
     w[place(second, n)]
@@ -225,7 +242,7 @@ pub fn super_status() -> u32
 
 // Condition register n.
 pub fn condition(w: &[u32], n: u32) -> u32
-    requires { ⌜ MachineWords (now w) × (n < 8) ⌝ }
+    requires { ⌜ MachineWords (now w) × (n < FLAGS) ⌝ }
     ensures { λ r. ⌜ r ≡ getD (machineOf (now (w .entry)) .conditions) n 0 ⌝ }
 {
     w[CONDITIONS + n as usize]
@@ -233,7 +250,7 @@ pub fn condition(w: &[u32], n: u32) -> u32
 
 // Register n of the set that a bit of PSR names takes x.
 pub fn set_register(w: &mut [u32], second: bool, n: u32, x: u32)
-    requires { ⌜ MachineWords (now w) × (n < 32) ⌝ }
+    requires { ⌜ MachineWords (now w) × (n < REGISTERS) ⌝ }
     ensures { λ _. ⌜ machineOf (now (w .exit)) ≡ withRegister second n x (machineOf (now (w .entry))) ⌝ }
 {
     w[place(second, n)] = x;
@@ -241,7 +258,7 @@ pub fn set_register(w: &mut [u32], second: bool, n: u32, x: u32)
 
 // Register n of the set that a bit of PSR names takes x; a write to PSR is ignored.
 pub fn write_register(w: &mut [u32], second: bool, n: u32, x: u32)
-    requires { ⌜ MachineWords (now w) × (n < 32) ⌝ }
+    requires { ⌜ MachineWords (now w) × (n < REGISTERS) ⌝ }
     ensures { λ _. ⌜ machineOf (now (w .exit)) ≡ written second n x (machineOf (now (w .entry))) ⌝ }
 {
     let at = place(second, n);
@@ -260,7 +277,7 @@ pub fn set_psr(w: &mut [u32], q: u32)
 
 // Condition register n takes x.
 pub fn set_condition(w: &mut [u32], n: u32, x: u32)
-    requires { ⌜ MachineWords (now w) × (n < 8) ⌝ }
+    requires { ⌜ MachineWords (now w) × (n < FLAGS) ⌝ }
     ensures { λ _. ⌜ machineOf (now (w .exit)) ≡ withConditions (set (machineOf (now (w .entry)) .conditions) n x) (machineOf (now (w .entry))) ⌝ }
 {
     w[CONDITIONS + n as usize] = x;
@@ -270,7 +287,7 @@ pub fn set_condition(w: &mut [u32], n: u32, x: u32)
 
 // The control register at an offset of the block's registers.
 pub fn control(w: &[u32], n: u32) -> u32
-    requires { ⌜ MachineWords (now w) × (n < 45) ⌝ }
+    requires { ⌜ MachineWords (now w) × (n < OFFSETS) ⌝ }
     ensures { λ r. ⌜ r ≡ controlAt (machineOf (now (w .entry))) n ⌝ }
 {
     w[CONTROL + n as usize]
@@ -281,12 +298,16 @@ pub fn control_at(w: &[u32], n: u32) -> u32
     requires { ⌜ MachineWords (now w) ⌝ }
     ensures { λ r. ⌜ r ≡ controlAt (machineOf (now (w .entry))) n ⌝ }
 {
-    if n < 45 { control(w, n) } else { 0 }
+    if (n as usize) < OFFSETS {
+        control(w, n)
+    } else {
+        0
+    }
 }
 
 // The control register at an offset takes x.
 pub fn set_control(w: &mut [u32], n: u32, x: u32)
-    requires { ⌜ MachineWords (now w) × (n < 45) ⌝ }
+    requires { ⌜ MachineWords (now w) × (n < OFFSETS) ⌝ }
     ensures { λ _. ⌜ machineOf (now (w .exit)) ≡ withControl (set (machineOf (now (w .entry)) .control) n x) (machineOf (now (w .entry))) ⌝ }
 {
     w[CONTROL + n as usize] = x;
@@ -443,7 +464,7 @@ pub fn depth(w: &[u32]) -> u32
 
 // What the RETI_ registers show of the stack: its top, or 1, 9, 0 when it is empty.
 pub fn top(w: &[u32]) -> Entry
-    requires { ⌜ MachineWords (now w) × (length (machineOf (now w) .stack) ≤ 12) ⌝ }
+    requires { ⌜ MachineWords (now w) × (length (machineOf (now w) .stack) ≤ SOURCES) ⌝ }
     ensures { λ r. ⌜ r ≡ shownTop (machineOf (now (w .entry)) .stack) ⌝ }
 {
     let n = depth(w) as usize;
@@ -480,7 +501,7 @@ fn show(w: &mut [u32], flags: u32, e: Entry)
 pub fn push(w: &mut [u32], e: Entry)
     requires { ⌜ MachineWords (now w) ⌝ }
     requires flags { ⌜ controlAt (machineOf (now w)) INT-SERV ≡ serviceFlags (machineOf (now w) .stack) ⌝ }
-    requires sources { ⌜ distinctBelow 12 (sourcesOf (e ∷ machineOf (now w) .stack)) ≡ true ⌝ }
+    requires sources { ⌜ distinctBelow SOURCES (sourcesOf (e ∷ machineOf (now w) .stack)) ≡ true ⌝ }
     ensures { λ _. ⌜ machineOf (now (w .exit)) ≡ withStack (e ∷ machineOf (now (w .entry)) .stack) (machineOf (now (w .entry))) ⌝ }
 {
     let n = depth(w);
@@ -498,7 +519,7 @@ pub fn push(w: &mut [u32], e: Entry)
 pub fn pop(w: &mut [u32])
     requires { ⌜ MachineWords (now w) ⌝ }
     requires flags { ⌜ controlAt (machineOf (now w)) INT-SERV ≡ serviceFlags (machineOf (now w) .stack) ⌝ }
-    requires sources { ⌜ distinctBelow 12 (sourcesOf (machineOf (now w) .stack)) ≡ true ⌝ }
+    requires sources { ⌜ distinctBelow SOURCES (sourcesOf (machineOf (now w) .stack)) ≡ true ⌝ }
     requires entry { ⌜ 0 < length (machineOf (now w) .stack) ⌝ }
     ensures { λ _. ⌜ machineOf (now (w .exit)) ≡ withStack (popped (machineOf (now (w .entry)) .stack)) (machineOf (now (w .entry))) ⌝ }
 {

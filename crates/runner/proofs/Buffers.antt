@@ -8,23 +8,23 @@ use Rattle.codec.specs.Number.{numbersOf, over}
 use Rattle.codec.proofs.Laws.{length-numbersOf, take-over}
 use Rattle.machine.specs.Control.{reset}
 use Rattle.machine.specs.Words.{WORDS}
-use Rattle.image.specs.Image.{writeImage}
-use Rattle.image.proofs.Formed.{formed-counts}
-use Rattle.image.proofs.Image.{length-writeImage, reset-formed}
+use Rattle.image.specs.Image.{writeImage, SHORTEST, LONGEST}
+use Rattle.formed.proofs.Formed.{formed-counts, reset-formed}
+use Rattle.image.proofs.Image.{length-writeImage}
 
 -- a list laid over another of its length
 over-whole : (front s : List ℕ) → length front ≡ length s → over front s ≡ front
 over-whole front s h = ap (λ t. front ++ t) (drop-of-length-le s {i = length front} (omega arith)) ∙ append-nil front
 
 -- a buffer as long as the longest image is as many numbers as the machine has words
-pub numbers-fill : (buffer : List ℕ) → length buffer ≡ 708 → over (numbersOf buffer) (replicate WORDS 0) ≡ numbersOf buffer
+pub numbers-fill : (buffer : List ℕ) → length buffer ≡ LONGEST → over (numbersOf buffer) (replicate WORDS 0) ≡ numbersOf buffer
 numbers-fill buffer h = over-whole (numbersOf buffer) (replicate WORDS 0) (omega (arith, length-numbersOf buffer))
 
 -- the image at reset has 516 bytes: no stack entries
-pub reset-length : length (writeImage reset) ≡ 516
+pub reset-length : length (writeImage reset) ≡ SHORTEST
 unfolding reset
 reset-length = length-writeImage (formed-counts reset-formed)
 
 -- at the front of a buffer
-pub reset-front : (buffer : List ℕ) → take 516 (over (writeImage reset) buffer) ≡ writeImage reset
+pub reset-front : (buffer : List ℕ) → take SHORTEST (over (writeImage reset) buffer) ≡ writeImage reset
 reset-front buffer = rw (← reset-length) (take-over (writeImage reset) buffer)

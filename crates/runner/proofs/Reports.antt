@@ -13,13 +13,13 @@ use Rattle.codec.specs.Number.{numbersOf, over}
 use Rattle.codec.proofs.Laws.{numbersOf-bytesOf, numbersOf-append}
 use Rattle.machine.specs.Machine.{Machine, Memory}
 use Rattle.machine.specs.Control.{reset}
-use Rattle.machine.specs.Words.{POSITION, positionOf, machineOf}
+use Rattle.machine.specs.Words.{PLACES, positionOf}
 use Rattle.machine.proofs.Flat.{section-at}
-use Rattle.image.specs.Questions.{allBelow}
-use Rattle.image.specs.Image.{imageNumbers, writeImage}
-use Rattle.image.proofs.Formed.{WellFormed, formed-counts}
-use Rattle.image.proofs.Sections.{machineOf-imageNumbers, length-imageNumbers}
-use Rattle.image.proofs.Image.{length-writeImage, imageNumbers-below, reset-formed, reset-accepted}
+use Rattle.formed.specs.Questions.{allBelow}
+use Rattle.image.specs.Image.{imageNumbers, writeImage, POSITION-AT, machineIn}
+use Rattle.formed.proofs.Formed.{WellFormed, formed-counts, reset-formed}
+use Rattle.image.proofs.Sections.{machineIn-imageNumbers, length-imageNumbers}
+use Rattle.image.proofs.Image.{length-writeImage, imageNumbers-below, reset-accepted}
 use Rattle.emulator.specs.Run.{Outcome, outcome, runCall, No, askCall, ask, asked, stateWith, resultFrom}
 use Rattle.emulator.specs.Closure.{AllYes, Questions}
 use Rattle.emulator.specs.declared.Answer.{Answer}
@@ -67,9 +67,9 @@ report-unlimited code text h l =
 -- ---- a call that runs
 
 -- the program counter that is read is that of the machine whose image is at the front
-pc-at : (words : List ℕ) → machineOf words .position .pc ≡ getD words POSITION 0
-unfolding machineOf positionOf
-pc-at words = section-at words POSITION 6 0 (lit< tt)
+pc-at : (numbers : List ℕ) → machineIn numbers .position .pc ≡ getD numbers POSITION-AT 0
+unfolding machineIn positionOf
+pc-at numbers = section-at numbers POSITION-AT PLACES 0 (lit< tt)
 
 module _ (m : Machine) (s : List ℕ) (f : WellFormed m) where
   abbrev further : List ℕ
@@ -85,11 +85,11 @@ module _ (m : Machine) (s : List ℕ) (f : WellFormed m) where
   unfolding pcOf
   pcOf-image =
       let c = formed-counts f in
-      ap (λ l. machineOf l .position .pc) numbers-front
+      ap (λ l. machineIn l .position .pc) numbers-front
       ∙ pc-at (imageNumbers m ++ further)
-      ∙ List·getD-append (imageNumbers m) further 0 POSITION (omega (arith, length-imageNumbers m c))
+      ∙ List·getD-append (imageNumbers m) further 0 POSITION-AT (omega (arith, length-imageNumbers m c))
       ∙ sym (pc-at (imageNumbers m))
-      ∙ ap (λ (x : Machine). x .position .pc) (machineOf-imageNumbers m c)
+      ∙ ap (λ (x : Machine). x .position .pc) (machineIn-imageNumbers m c)
 
 -- steps, ending and PC are those of the run from reset, with no requests
 module _ (code text : List ℕ) (h : length code ≤ 65536) (l : limitOf text ≤ 1000000) where

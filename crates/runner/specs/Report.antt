@@ -5,8 +5,7 @@ use lib.ListN.{replicate}
 use Rattle.codec.specs.Number.{numbersOf}
 use Rattle.machine.specs.Machine.{Memory, memoryOf}
 use Rattle.machine.specs.Control.{reset}
-use Rattle.machine.specs.Words.{machineOf}
-use Rattle.image.specs.Image.{writeImage}
+use Rattle.image.specs.Image.{writeImage, machineIn, LONGEST}
 use Rattle.emulator.specs.Run.{Call, Outcome, runCall}
 use Rattle.emulator.specs.declared.Answer.{Answer}
 use Rattle.emulator.specs.declared.Answer.the-variants.{Refusal, Ran}
@@ -15,7 +14,7 @@ use Rattle.console.specs.Line.{ranText, refusalText}
 
 -- the program counter that an image at the front of a buffer says
 unfoldable pub pcOf : (buffer : List ℕ) → ℕ
-pcOf buffer = machineOf (numbersOf buffer) .position .pc
+pcOf buffer = machineIn (numbersOf buffer) .position .pc
 
 -- "prints steps, ending, PC in 8 hex digits ..": PC is that of the image which the call left; "A refusal prints its number alone and a newline"
 unfoldable pub answerText : Answer → (buffer : List ℕ) → List ℕ
@@ -28,7 +27,7 @@ zeroMemory = memoryOf (replicate 4096 0)
 
 -- "runs without requests", with the limit that limit.txt says and a buffer that is long enough for every image
 unfoldable pub callOf : (text : List ℕ) → Call
-callOf text = record { requests = []; limit = limitOf text; buffer = replicate 708 0 }
+callOf text = record { requests = []; limit = limitOf text; buffer = replicate LONGEST 0 }
 
 -- "starts from reset with 4,096 zero cells, reads code.bin and limit.txt (decimal), runs without requests"
 unfoldable pub outcomeOf : (code text : List ℕ) → Outcome

@@ -2,7 +2,7 @@
 ghost use mathlib.Core.Path.{_≡_};
 ghost use lib.ListN.{length, take};
 ghost use Rattle.machine.specs.Control.{reset as resetOf};
-ghost use Rattle.image.specs.Image.{writeImage};
+ghost use Rattle.image.specs.Image.{writeImage, SHORTEST, LONGEST};
 ghost use Rattle.console.specs.Line.{lineOf};
 ghost use Rattle.io.specs.Counts.{Counts};
 ghost use Rattle.runner.specs.Report.{pcOf, answerText, reportOf};
@@ -13,27 +13,27 @@ use libc::STDOUT_FILENO;
 // ---- the report
 
 // The machine image at reset, at the front of the longest image's bytes.
-pub fn reset_image() -> [u8; 708]
-    ensures { λ r. ⌜ take 516 r ≡ writeImage resetOf ⌝ }
+pub fn reset_image() -> [u8; image::LONGEST]
+    ensures { λ r. ⌜ take SHORTEST r ≡ writeImage resetOf ⌝ }
 {
-    let mut bytes = [0u8; 708];
+    let mut bytes = [0u8; image::LONGEST];
     emulator::reset(&mut bytes);
     bytes
 }
 
 // The program counter that an image at the front of a buffer says.
 fn pc(buffer: &[u8]) -> u32
-    requires { ⌜ length (now buffer) ≡ 708 ⌝ }
+    requires { ⌜ length (now buffer) ≡ LONGEST ⌝ }
     ensures { λ r. ⌜ r ≡ pcOf (now (buffer .entry)) ⌝ }
 {
-    let mut words = [0u32; 177];
+    let mut words = [0u32; machine::WORDS];
     codec::read_numbers(buffer, &mut words);
     machine::pc(&words)
 }
 
 // The line for an answer and the buffer that holds the new image.
 pub fn line(answer: Answer, buffer: &[u8]) -> Line
-    requires { ⌜ length (now buffer) ≡ 708 ⌝ }
+    requires { ⌜ length (now buffer) ≡ LONGEST ⌝ }
     ensures { λ r. ⌜ r ≡ lineOf (answerText answer (now (buffer .entry))) ⌝ }
 {
     match answer {
@@ -46,15 +46,15 @@ pub fn line(answer: Answer, buffer: &[u8]) -> Line
 pub fn report(code: &[u8], text: &[u8]) -> Line
     ensures { λ r. ⌜ r ≡ lineOf (reportOf (now (code .entry)) (now (text .entry))) ⌝ }
 {
-    let image = reset_image();
+    let start = reset_image();
     let mut cells = [0u32; 4096];
     let requests = [0u32; 0];
     let limit = console::limit_of(text);
-    let mut buffer = [0u8; 708];
+    let mut buffer = [0u8; image::LONGEST];
     let answer = emulator::run(
         code,
         &mut cells,
-        &image[..516],
+        &start[..image::SHORTEST],
         &requests,
         limit,
         &mut buffer,

@@ -7,12 +7,12 @@ use lib.ListN.{set}
 use Rattle.word.specs.Flags.{withoutFlag, isAmong, distinctBelow}
 use Rattle.word.proofs.Flags.{distinct-more}
 use Rattle.machine.specs.Machine.{Machine, positionAt, withControl, withPosition, withPsr}
-use Rattle.machine.specs.Control.{controlAt, INT-VECTORS, INT-SERV, INT-PEND}
+use Rattle.machine.specs.Control.{controlAt, INT-VECTORS, INT-SERV, INT-PEND, withPending}
 use Rattle.machine.specs.Stack.{sourcesOf, serviceFlags, withStack}
 use Rattle.machine.specs.declared.Entry.{Entry}
 use Rattle.machine.proofs.Lists.{get-other}
-use Rattle.image.proofs.Formed.{stacked-distinct, WellFormed}
-use Rattle.step.specs.Interrupt.{withPending, servicePsr, entryFor, accept}
+use Rattle.formed.proofs.Formed.{stacked-distinct, WellFormed}
+use Rattle.step.specs.Interrupt.{servicePsr, entryFor, accept}
 
 module _ (m : Machine) (n pending : ℕ) {a : Machine} (stored : a ≡ withControl (set (m .control) INT-PEND pending) m) where
   -- INT_SERV still shows the stack

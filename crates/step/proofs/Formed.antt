@@ -15,24 +15,24 @@ use Rattle.word.specs.Flags.{isAmong}
 use Rattle.word.proofs.Flags.{without-below}
 use Rattle.codec.proofs.Laws.{Below}
 use Rattle.machine.specs.Machine.{Machine, State, PSR, SPSR, LINK, SUPER, psr, userMode, readsSet2, writesSet2, wideWords, interruptsEnabled, statusOf, withRegister, written}
-use Rattle.machine.specs.Control.{controlAt, registers, registerAt, holdsAs, INT-VECTORS, INT-MODE-IL, INT-MODE-UM, INT-PEND, SYSTEM-ADDR, EXCEP-ADDR, EXCEPTION-CS, EXCEPTION-PC, EXCEPTION-PSR}
+use Rattle.machine.specs.Control.{controlAt, registers, registerAt, holdsAs, INT-VECTORS, INT-MODE-IL, INT-MODE-UM, INT-PEND, SYSTEM-ADDR, EXCEP-ADDR, EXCEPTION-CS, EXCEPTION-PC, EXCEPTION-PSR, withPending}
 use Rattle.machine.proofs.Lists.{each-set}
 use Rattle.machine.proofs.Bits.{status-small, status-low, status-user, status-kept}
 use Rattle.machine.proofs.Registers.{holds-small}
-use Rattle.image.proofs.Formed.{sized-set, StatusOk, registers-below, Stacked, pushed, stacked-depth, WellFormed}
+use Rattle.formed.proofs.Formed.{sized-set, StatusOk, registers-below, Stacked, pushed, stacked-depth, WellFormed}
 use Rattle.view.specs.View.{View, view}
 use Rattle.effect.specs.Apply.{writeRegister, writeFlags, unpacked, wordsOn, nextPc, advance, advanceHolding, jumpTo, raise, systemCall, userReturn, interruptReturn, enableInterrupts, switchWidth, selectSets, machineOnly, storeCell, updated, apply}
 use Rattle.execute.specs.Decide.{decide}
-use Rattle.step.specs.Interrupt.{withPending, withRequests, acceptedSource, servicePsr, entryFor, accept}
+use Rattle.step.specs.Interrupt.{withRequests, acceptedSource, servicePsr, entryFor, accept}
 use Rattle.step.specs.Step.{interruptOr, step}
 use Rattle.effect.specs.Update.{Update}
 use Rattle.effect.specs.Update as update
 use Rattle.effect.specs.Effect.{Effect, Stopped, Raised, SystemCall, InterruptReturn, StoreCell, Updates}
 use Rattle.execute.proofs.Safe.{SafeUpdate, Safe, decide-safe}
 use Rattle.word.proofs.Tests.{if-holds}
-use Rattle.step.proofs.Stored.{control-of, control-put, top-shown, rest-stacked}
+use Rattle.formed.proofs.Stored.{control-of, control-put, top-shown, rest-stacked}
 use Rattle.step.proofs.Accepted.{Accepted, source-accepted}
-use Rattle.step.proofs.Parts.{second-of, second-set, set1-formed, set2-formed, psr-formed, conditions-formed, control-formed, stored-formed, position-formed, stack-formed, moved-formed}
+use Rattle.formed.proofs.Parts.{second-of, second-set, set1-formed, set2-formed, psr-formed, conditions-formed, control-formed, stored-formed, position-formed, stack-formed, moved-formed}
 
 -- ---- status: PSR
 

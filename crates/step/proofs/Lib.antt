@@ -1,7 +1,5 @@
 -- Laws of one step.
 pub mod Worked
-pub mod Stored
-pub mod Parts
 pub mod Accepted
 pub mod Formed
 pub mod Urgency

@@ -3,8 +3,7 @@ use mathlib.Core.Path.{_≡_}
 use Prim.Native.Nat.{ℕ}
 use lib.Seq.{set-getD, set-set}
 use Rattle.machine.specs.Machine.{Machine, withControl}
-use Rattle.machine.specs.Control.{controlAt, INT-PEND}
-use Rattle.step.specs.Interrupt.{withPending}
+use Rattle.machine.specs.Control.{controlAt, INT-PEND, withPending}
 
 -- put back
 pub pending-back : (m : Machine) (x : ℕ) → withPending (controlAt m INT-PEND) (withPending x m) ≡ m

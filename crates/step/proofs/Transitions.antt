@@ -7,12 +7,12 @@ use Prim.Native.Nat.{ℕ, _%_, _^_}
 use Rattle.word.specs.Choice.{if_then_else_}
 use Rattle.word.specs.Arithmetic.{orOf}
 use Rattle.machine.specs.Machine.{State}
-use Rattle.machine.specs.Control.{controlAt, INT-PEND}
+use Rattle.machine.specs.Control.{controlAt, INT-PEND, withPending}
 use Rattle.view.specs.View.{view}
 use Rattle.execute.specs.Decide.{decide}
 use Rattle.effect.specs.Effect.{Effect, Stopped, Raised, SystemCall, InterruptReturn, StoreCell, Updates}
 use Rattle.effect.specs.Apply.{Transition, machineOnly, storeCell, apply, stopNumber, Report, reported}
-use Rattle.step.specs.Interrupt.{withPending, withRequests, acceptedSource, accept}
+use Rattle.step.specs.Interrupt.{withRequests, acceptedSource, accept}
 use Rattle.step.specs.Step.{isStop, interruptOr, step}
 use Rattle.step.proofs.Requests.{pending-back}
 use Rattle.step.proofs.Stops.{numbered-stop, numbered-step, instruction-numbered}

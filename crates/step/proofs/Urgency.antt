@@ -21,7 +21,7 @@ use Rattle.machine.specs.Machine.{Machine}
 use Rattle.machine.specs.Control.{controlAt, INT-MASK, INT-PEND, EXT-INT-PRI, COP-INT-PRI}
 use Rattle.machine.specs.Stack.{sourcesOf, serviceFlags}
 use Rattle.machine.specs.declared.Entry.{Entry}
-use Rattle.image.proofs.Formed.{Stacked, empty, pushed, registers-below, WellFormed}
+use Rattle.formed.proofs.Formed.{Stacked, empty, pushed, registers-below, WellFormed}
 use Rattle.view.specs.View.{View}
 use Rattle.step.specs.Interrupt.{priority, belowAll, eligible, before, candidate, mayAccept, acceptedSource}
 use Rattle.step.specs.Search.{sourceNumber, waiting, priorityOr, mostUrgent, serviceFloor}

@@ -3,7 +3,7 @@ use mathlib.Core.Bool.{Bool, true, false, not, _&&_}
 use mathlib.Core.List.{List, [], _∷_}
 use mathlib.Core.Option.{Option, none, some}
 use Prim.Native.Nat.{ℕ, zero, suc, _+_, _-_, _*_, _%_, _^_}
-use lib.ListN.{getD, set}
+use lib.ListN.{getD}
 use lib.Dec.{ltb, eqb}
 use Rattle.word.specs.Choice.{if_then_else_}
 use Rattle.word.specs.Word.{bitAt, Field, fieldOf}
@@ -11,8 +11,8 @@ use Rattle.word.specs.Arithmetic.{orOf}
 use Rattle.word.specs.Flags.{withoutFlag}
 use Rattle.isa.specs.Operation.{mulhi, Properties, properties, Width}
 use Rattle.isa.specs.Decode.{opcodeOf}
-use Rattle.machine.specs.Machine.{Machine, State, psr, interruptsEnabled, widthOf, statusOf, positionAt, withControl, withPosition, withPsr}
-use Rattle.machine.specs.Control.{controlAt, INT-VECTORS, INT-MODE-IL, INT-MODE-UM, INT-MASK, INT-PEND, EXT-INT-PRI, COP-INT-PRI}
+use Rattle.machine.specs.Machine.{Machine, State, psr, interruptsEnabled, widthOf, statusOf, positionAt, withPosition, withPsr}
+use Rattle.machine.specs.Control.{controlAt, withPending, INT-VECTORS, INT-MODE-IL, INT-MODE-UM, INT-MASK, INT-PEND, EXT-INT-PRI, COP-INT-PRI}
 use Rattle.machine.specs.Stack.{withStack}
 use Rattle.machine.specs.declared.Position.{Position}
 use Rattle.machine.specs.declared.Entry.{Entry}
@@ -21,9 +21,6 @@ use Rattle.view.specs.declared.Fetched.{Fetched}
 use Rattle.view.specs.declared.Fetched.the-variants.{Word, Fault, Absent}
 
 -- ---- requests
-
-unfoldable pub withPending : (flags : ℕ) → Machine → Machine
-withPending flags m = withControl (set (m .control) INT-PEND flags) m
 
 -- the step's requests are added to INT_PEND
 abbrev pub addRequests : (requests : ℕ) → Machine → Machine

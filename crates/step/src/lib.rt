@@ -4,10 +4,10 @@ ghost use mathlib.Core.Bool.{true, false};
 ghost use Prim.Native.Nat.{_≤_, _<_};
 ghost use lib.ListN.{length};
 ghost use Rattle.word.specs.Flags.{isAmong};
-ghost use Rattle.machine.specs.Machine.{psr, widthOf, Memory, memoryOf};
+ghost use Rattle.machine.specs.Machine.{psr, widthOf, MOST-MEMORY, Memory, memoryOf};
 ghost use Rattle.machine.specs.Stack.{sourcesOf};
 ghost use Rattle.machine.specs.Words.{MachineWords, machineOf, stateOf};
-ghost use Rattle.image.specs.Questions.{wellFormed};
+ghost use Rattle.formed.specs.Questions.{wellFormed};
 ghost use Rattle.view.specs.View.{viewOf};
 ghost use Rattle.effect.specs.Apply.{reported, reportBy};
 ghost use Rattle.step.specs.Interrupt.{addRequests, priority, candidate, isMulhi, mayAccept, acceptedSource, servicePsr, entryFor, accept};
@@ -198,7 +198,7 @@ fn accept(w: &mut [u32], n: u32)
 
 // One step with its requests, which gives 0; or a stop, which gives its number and leaves everything as before it.
 pub fn step(program: &[u8], w: &mut [u32], cells: &mut [u32], requests: u32) -> u32
-    requires { ⌜ MachineWords (now w) × (length (now program) ≤ 65536) × (wellFormed (machineOf (now w)) ≡ true) ⌝ }
+    requires { ⌜ MachineWords (now w) × (length (now program) ≤ MOST-MEMORY) × (wellFormed (machineOf (now w)) ≡ true) ⌝ }
     ensures { λ r. ⌜ reportBy r (now (w .exit)) (memoryOf (now (cells .exit))) ≡ reported (step (now (program .entry)) (stateOf (now (w .entry)) (memoryOf (now (cells .entry)))) requests) ⌝ }
 {
     let pending = machine::control(w, machine::INT_PEND);

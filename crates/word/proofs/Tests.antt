@@ -1,6 +1,9 @@
 -- Cases of a test, tests joined, and choices by a test. Assumes nothing.
 use mathlib.Core.Path.{_≡_, refl, sym}
 use mathlib.Core.Bool.{Bool, true, false, true≢false, _&&_, _||_}
+use Prim.Native.Nat.{_≤_}
+use native.Mathlib.Omega.{arith}
+use mir.Val.{boolByte}
 use Rattle.word.specs.Choice.{if_then_else_}
 
 -- by cases of a test
@@ -23,6 +26,11 @@ or-parts false b e = (refl, e)
 pub false-unless : (b : Bool) → (b ≡ true → ⊥) → b ≡ false
 false-unless true h = absurd (h refl)
 false-unless false h = refl
+
+-- a bool as a number
+pub bool-small : (b : Bool) → boolByte b ≤ 1
+bool-small true = omega arith
+bool-small false = omega arith
 
 module _ {A : Type 0} where
   pub if-true : (b : Bool) (x y : A) → b ≡ true → if_then_else_ b x y ≡ x

@@ -3,7 +3,7 @@ use mathlib.Core.Path.{_≡_, sym, _∙_}
 use borrow.Author.Needs.{needs}
 use borrow.Author.Tests.{not-true, not-false}
 use Rattle.machine.specs.Words.{machineOf}
-use Rattle.image.specs.Image.{Accepted}
+use Rattle.formed.specs.Questions.{Accepted}
 use Rattle.emulator.specs.Run.{askCall, ask}
 use Rattle.emulator.proofs.Asked.{program-no, cells-no, image-no, past-image, requests-no, limit-no, room-no, all-yes}
 use Rattle.emulator.proofs.refusal.Statement.{statement}

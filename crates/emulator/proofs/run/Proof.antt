@@ -1,5 +1,6 @@
 -- `run` meets its contract: a refusal touches nothing, and else the words are the machine that the steps go on with. Assumes nothing.
 use borrow.Author.Needs.{needs}
+use Rattle.image.proofs.Image.{room-enough}
 use Rattle.emulator.specs.Run.{Call}
 use Rattle.emulator.proofs.Running.{run-refused, run-yes, run-formed, run-deep, run-ran}
 use Rattle.emulator.proofs.run.Statement.{statement}
@@ -22,11 +23,9 @@ run-steps-requires c κs = let refused = c .before .before .before .before in
 write-requires : tie.Need-write-requires
 write-requires c κs = let ran = c .before .before .before .before .before in
     let refused = ran .before .before .before .before .before in
-    let no = ran .before .before .before .if1 .left in (
-      search needs,
-      run-deep _ _ _ (asked refused) _ _ (refused .refusal .ensures) no _ _ _ (ran .run-steps .ensures),
-      run-yes _ _ _ (asked refused) _ _ (refused .refusal .ensures) no .room,
-    )
+    let no = ran .before .before .before .if1 .left in
+    let deep = run-deep _ _ _ (asked refused) _ _ (refused .refusal .ensures) no _ _ _ (ran .run-steps .ensures) in
+    (search needs, deep, room-enough deep (run-yes _ _ _ (asked refused) _ _ (refused .refusal .ensures) no .room))
 
 returns-2 : tie.Need-returns-2
 returns-2 c = let ran = c .before .before .before .before .before .before .before .before .before in

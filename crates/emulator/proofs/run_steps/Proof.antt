@@ -6,7 +6,7 @@ use native.Mathlib.Nat.{sub-zero}
 use lib.ListN.{length}
 use borrow.Author.Needs.{needs}
 use Rattle.machine.specs.Words.{machineOf, stateOf}
-use Rattle.image.specs.Questions.{wellFormed}
+use Rattle.formed.specs.Questions.{wellFormed}
 use Rattle.emulator.specs.Run.{resultFrom}
 use Rattle.emulator.proofs.Loop.{at-end}
 use Rattle.emulator.proofs.Running.{step-kept, step-more, step-stop}

@@ -9,8 +9,8 @@ read-numbers-requires : tie.Need-read-numbers-requires
 read-numbers-requires c κs = let start = c .before .before .before .before .before in
     read-fits (start .args .image .now) (start .args .w .now) (sym (c .before .before .sections-fit .ensures) ∙ c .before .if1 .taken) (start .pre)
 
-refusal-requires : tie.Need-refusal-requires
-refusal-requires c κs = let start = c .before .before .before .before .before .before .before .before .before in
+ask-machine-requires : tie.Need-ask-machine-requires
+ask-machine-requires c κs = let start = c .before .before .before .before .before .before .before .before .before in
     let fits = sym (c .before .before .before .before .before .before .sections-fit .ensures) ∙ c .before .before .before .before .before .if1 .taken in
     let s = start .args .image .now in
     let w = start .args .w .now in
@@ -20,7 +20,7 @@ returns : tie.Need-returns
 returns c = let start = c .before .before .before .before .before .before .before .before .before .before in
     let fits = sym (c .before .before .before .before .before .before .before .sections-fit .ensures) ∙ c .before .before .before .before .before .before .if1 .taken in
     let all = read-machine (start .args .image .now) (start .args .w .now) fits (start .pre) in
-    c .refusal .ensures ∙ rw (c .before .before .before .before .read-numbers .ensures) all
+    c .ask-machine .ensures ∙ rw (c .before .before .before .before .read-numbers .ensures) all
 
 returns-2 : tie.Need-returns-2
 returns-2 c = refused-2 _ _ (sym (c .before .sections-fit .ensures) ∙ c .if1 .left)
@@ -31,7 +31,7 @@ read-spec =
     (tie.spec
     (λ c κs. search needs)
     read-numbers-requires
-    refusal-requires
+    ask-machine-requires
     (λ c. search needs)
     returns
     returns-2)

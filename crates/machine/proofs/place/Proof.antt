@@ -2,32 +2,29 @@
 use native.Mathlib.Omega.{arith}
 use mathlib.Core.Bool.{Bool, true, false}
 use mathlib.Core.Path.{_≡_, refl}
-use Prim.Native.Nat.{ℕ, _+_, _*_, _≤_}
+use Prim.Native.Nat.{ℕ, _+_, _*_}
 use mir.Val.{boolByte}
 use Rattle.machine.specs.Words.{startBy}
 use borrow.Author.Needs.{needs}
+use Rattle.word.proofs.Tests.{bool-small}
 use Rattle.machine.proofs.place.Statement.{statement}
 use Rattle.machine.proofs.place.Tie as tie
-
-small : (b : Bool) → boolByte b ≤ 1
-small true = omega arith
-small false = omega arith
 
 by-set : (b : Bool) (n : ℕ) → 1 + boolByte b * 33 + n ≡ startBy b + n
 by-set true n = refl
 by-set false n = refl
 
 mul-result : tie.Need-mul-result
-mul-result c = omega (arith, small (c .args .second))
+mul-result c = omega (arith, bool-small (c .args .second))
 
 add-result : tie.Need-add-result
-add-result c = omega (arith, small (c .args .second))
+add-result c = omega (arith, bool-small (c .args .second))
 
 add-result-2 : tie.Need-add-result-2
-add-result-2 c = omega (arith, small (c .args .second))
+add-result-2 c = omega (arith, bool-small (c .args .second))
 
 returns : tie.Need-returns
 returns c = by-set (c .args .second) (c .args .n)
 
 pub place-spec : {M : Type 1} → statement M
-place-spec = tie.close (tie.spec (λ c. search needs) mul-result add-result add-result-2 returns)
+place-spec = tie.close (tie.spec (λ c. search needs) (λ c. search needs) mul-result add-result add-result-2 returns)

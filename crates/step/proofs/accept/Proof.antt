@@ -3,7 +3,7 @@ use mathlib.Core.Path.{ap, _∙_}
 use Rattle.word.specs.Flags.{withoutFlag}
 use Rattle.machine.specs.Machine.{positionAt}
 use Rattle.machine.specs.Words.{machineOf}
-use Rattle.image.proofs.Formed.{true-formed}
+use Rattle.formed.proofs.Formed.{true-formed}
 use Rattle.step.proofs.Entered.{still-served, still-distinct, entered}
 use borrow.Author.Needs.{needs}
 use Rattle.step.proofs.accept.Statement.{statement}

@@ -2,7 +2,7 @@
 use mathlib.Core.Path.{sym, _∙_}
 use Rattle.word.specs.Choice.{if_then_else_}
 use Rattle.machine.specs.Words.{machineOf}
-use Rattle.image.proofs.Formed.{true-formed}
+use Rattle.formed.proofs.Formed.{true-formed}
 use Rattle.view.specs.View.{viewOf}
 use Rattle.step.specs.Interrupt.{acceptedSource}
 use Rattle.step.specs.Search.{sourceNumber}

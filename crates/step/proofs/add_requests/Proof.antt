@@ -1,5 +1,5 @@
 -- `add_requests` meets its contract: INT_PEND is written with the flags of both. Assumes nothing.
-use Rattle.step.specs.Interrupt.{withPending}
+use Rattle.machine.specs.Control.{withPending}
 use borrow.Author.Needs.{needs}
 use Rattle.step.proofs.add_requests.Statement.{statement}
 use Rattle.step.proofs.add_requests.Tie as tie

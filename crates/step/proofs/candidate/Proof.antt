@@ -1,6 +1,6 @@
 -- `candidate` meets its contract: the search finds it. Assumes nothing.
 use Rattle.machine.specs.Words.{machineOf}
-use Rattle.image.proofs.Formed.{true-formed}
+use Rattle.formed.proofs.Formed.{true-formed}
 use Rattle.step.proofs.Urgency.{candidate-found}
 use borrow.Author.Needs.{needs}
 use Rattle.step.proofs.candidate.Statement.{statement}

@@ -4,11 +4,12 @@ use mathlib.Core.Option.{Option, none, some}
 use Prim.Native.Nat.{ℕ}
 use Rattle.machine.specs.Machine.{Machine, memoryOf, State}
 use Rattle.machine.specs.Words.{machineOf, stateOf}
-use Rattle.image.proofs.Formed.{stacked-distinct, WellFormed, formed-true, true-formed}
+use Rattle.formed.proofs.Formed.{stacked-distinct, WellFormed, formed-true, true-formed}
 use Rattle.view.specs.View.{view}
 use Rattle.effect.specs.Apply.{reportOn}
 use Rattle.effect.proofs.Service.{stack-shown}
-use Rattle.step.specs.Interrupt.{withPending, withRequests, acceptedSource}
+use Rattle.machine.specs.Control.{withPending}
+use Rattle.step.specs.Interrupt.{withRequests, acceptedSource}
 use Rattle.step.proofs.Accepted.{source-accepted}
 use Rattle.step.proofs.Formed.{requests-formed}
 use Rattle.step.proofs.Urgency.{number-some, number-none}

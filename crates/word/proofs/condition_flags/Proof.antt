@@ -1,27 +1,21 @@
 -- `word::condition_flags` meets its contract: a bool is 0 or 1. Assumes nothing.
-use mathlib.Core.Bool.{Bool, true, false}
-use Prim.Native.Nat.{_≤_}
 use native.Mathlib.Omega.{arith}
-use mir.Val.{boolByte}
 use borrow.Author.Needs.{needs}
+use Rattle.word.proofs.Tests.{bool-small}
 use Rattle.word.proofs.condition_flags.Statement.{statement}
 use Rattle.word.proofs.condition_flags.Tie as tie
 
-small : (b : Bool) → boolByte b ≤ 1
-small true = omega arith
-small false = omega arith
-
 mul-result : tie.Need-mul-result
-mul-result c = omega (arith, small (c .args .z))
+mul-result c = omega (arith, bool-small (c .args .z))
 
 mul-result-2 : tie.Need-mul-result-2
-mul-result-2 c = omega (arith, small (c .args .n))
+mul-result-2 c = omega (arith, bool-small (c .args .n))
 
 add-result : tie.Need-add-result
-add-result c = omega (arith, small (c .args .z), small (c .args .n))
+add-result c = omega (arith, bool-small (c .args .z), bool-small (c .args .n))
 
 add-result-2 : tie.Need-add-result-2
-add-result-2 c = omega (arith, small (c .args .z), small (c .args .n), small (c .args .c))
+add-result-2 c = omega (arith, bool-small (c .args .z), bool-small (c .args .n), bool-small (c .args .c))
 
 pub condition-flags-spec : {M : Type 1} → statement M
 condition-flags-spec =
