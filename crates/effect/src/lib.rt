@@ -174,8 +174,8 @@ pub fn user_return(w: &mut [u32]) -> u32
     requires { ⌜ MachineWords (now w) ⌝ }
     ensures { λ r. ⌜ Performs UserReturn r (now (w .entry)) (now (w .exit)) ⌝ }
 {
-    let pc = machine::register2(w, machine::LINK);
-    let saved = machine::register2(w, machine::SPSR);
+    let pc = machine::register(w, true, machine::LINK);
+    let saved = machine::register(w, true, machine::SPSR);
     let wide = word::has_flag(saved, 3);
     let enabled = word::has_flag(saved, 4);
     machine::set_psr(w, machine::status(true, false, false, wide, enabled));

@@ -5,8 +5,9 @@ use libc::STDOUT_FILENO;
 ghost use mathlib.Core.Path.{_≡_};
 ghost use Prim.Native.Nat.{_≤_};
 ghost use lib.ListN.{length};
+ghost use Rattle.image.specs.Image.{LONGEST};
 
-// Where a name stands in image.txt, after its first line: its number in an image. 177, past every image, when it is not there.
+// Where a name stands in image.txt, after its first line: its number in an image; past every image when it is not there.
 fn place(names: &[u8], name: &[u8]) -> usize {
     let mut at = end_of(names, 0, b'\n') + 1;
     let mut k: usize = 0;
@@ -18,7 +19,7 @@ fn place(names: &[u8], name: &[u8]) -> usize {
         at = end + 1;
         k += 1;
     }
-    177
+    machine::WORDS
 }
 
 // Prints a number in 8 hex digits and a blank.
@@ -30,18 +31,18 @@ fn print_value(x: u32) {
 
 // Whether the image at the front of a buffer is that at reset.
 fn is_reset(buffer: &[u8]) -> bool
-    requires { ⌜ length (now buffer) ≡ 708 ⌝ }
+    requires { ⌜ length (now buffer) ≡ LONGEST ⌝ }
 {
     let reset = runner::reset_image();
-    check::same(&reset[0..516], &buffer[0..516])
+    check::same(&reset[0..image::SHORTEST], &buffer[0..image::SHORTEST])
 }
 
 // Prints what a name says of an image at the front of a buffer: a number of it, or whether it is that at reset. A name that is not known says nothing.
 fn print_named(name: &[u8], names: &[u8], buffer: &[u8])
-    requires { ⌜ length (now buffer) ≡ 708 ⌝ }
+    requires { ⌜ length (now buffer) ≡ LONGEST ⌝ }
 {
     let at = place(names, name);
-    if at < 177 {
+    if at < machine::WORDS {
         print_value(codec::number_at(buffer, 4 * at));
     } else if check::same(name, b"image") {
         print_value(is_reset(buffer) as u32);
@@ -50,7 +51,7 @@ fn print_named(name: &[u8], names: &[u8], buffer: &[u8])
 
 // Prints what the names say that stand in a line from a place on, each after a blank.
 fn print_values(line: &[u8], from: usize, names: &[u8], buffer: &[u8])
-    requires { ⌜ (from ≤ length (now line)) × (length (now buffer) ≡ 708) ⌝ }
+    requires { ⌜ (from ≤ length (now line)) × (length (now buffer) ≡ LONGEST) ⌝ }
 {
     let mut at = from;
     while at < line.len() {
@@ -97,7 +98,7 @@ fn run(
     emulator::run(
         &memory[0..size],
         &mut cells,
-        &image[0..516],
+        &image[0..image::SHORTEST],
         requests,
         limit,
         buffer,
@@ -120,7 +121,7 @@ pub fn example(
         return;
     }
     let end = end_of(line, 2, b' ');
-    let mut buffer = [0u8; 708];
+    let mut buffer = [0u8; image::LONGEST];
     let answer = run(
         program,
         size,

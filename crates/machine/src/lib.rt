@@ -142,22 +142,6 @@ pub const LINK: u32 = 31;
 
 // ---- registers
 
-// Register n of set 1.
-pub fn register1(w: &[u32], n: u32) -> u32
-    requires { ⌜ MachineWords (now w) × (n < REGISTERS) ⌝ }
-    ensures { λ r. ⌜ r ≡ getD (machineOf (now (w .entry)) .set1) n 0 ⌝ }
-{
-    w[SET1 + n as usize]
-}
-
-// Register n of set 2.
-pub fn register2(w: &[u32], n: u32) -> u32
-    requires { ⌜ MachineWords (now w) × (n < REGISTERS) ⌝ }
-    ensures { λ r. ⌜ r ≡ getD (machineOf (now (w .entry)) .set2) n 0 ⌝ }
-{
-    w[SET2 + n as usize]
-}
-
 // Where register n of the set that a bit of PSR names lies.
 fn place(second: bool, n: u32) -> usize
     requires { ⌜ n < REGISTERS ⌝ }

@@ -88,7 +88,7 @@ pub fn print(line: Line)
 
 // Runs the program of one file for the steps that another says, and prints the report. Of a longer file the bytes that are read say the same.
 pub fn run_paths(code_path: &[u8], limit_path: &[u8]) {
-    let mut code = [0u8; 65537];
+    let mut code = [0u8; emulator::MOST_MEMORY + 1];
     let n = load(code_path, &mut code);
     let mut text = [0u8; 16];
     let m = load(limit_path, &mut text);

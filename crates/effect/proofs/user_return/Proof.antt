@@ -1,5 +1,5 @@
 -- `effect::user_return` meets its contract. Assumes nothing.
-use Rattle.machine.specs.Machine.{wideWords, interruptsEnabled}
+use Rattle.machine.specs.Machine.{setBy, wideWords, interruptsEnabled}
 use Rattle.effect.specs.Apply.{userReturn}
 use Rattle.effect.proofs.Report.{reports}
 use borrow.Author.Needs.{needs}
@@ -7,7 +7,7 @@ use Rattle.effect.proofs.user_return.Statement.{statement}
 use Rattle.effect.proofs.user_return.Tie as tie
 
 returns : tie.Need-returns
-unfolding userReturn wideWords interruptsEnabled reports
+unfolding userReturn setBy wideWords interruptsEnabled reports
 returns c memory =
     let c1 = c .before .before in
     let c2 = c1 .before .before .before .before in
@@ -16,7 +16,7 @@ returns c memory =
     let c5 = c4 .before in
     let c6 = c5 .before in
     let c7 = c6 .before .before in
-    rw (c1 .go-to .ensures, c2 .set-psr .ensures, c3 .status .ensures, c4 .has-flag2 .ensures, c5 .has-flag .ensures, c6 .register22 .ensures, c7 .register2 .ensures)
+    rw (c1 .go-to .ensures, c2 .set-psr .ensures, c3 .status .ensures, c4 .has-flag2 .ensures, c5 .has-flag .ensures, c6 .register2 .ensures, c7 .register .ensures)
 
 pub user-return-spec : {M : Type 1} → statement M
 user-return-spec =
