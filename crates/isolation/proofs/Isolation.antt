@@ -9,7 +9,7 @@ use native.Mathlib.Nat.{le-of-suc-le-suc}
 use lib.Dec.{lit<}
 use lib.ListN.{length, getElem?}
 use Rattle.word.specs.Choice.{if_then_else_}
-use Rattle.word.proofs.Tests.{or-parts}
+use Rattle.word.proofs.Tests.{or-parts, if-holds}
 use Rattle.machine.specs.Machine.{State}
 use Rattle.machine.specs.Control.{controlAt, IMEM-BOUND-LO, IMEM-BOUND-HI}
 use Rattle.image.proofs.Image.{accepted-formed}
@@ -27,16 +27,13 @@ use Rattle.emulator.proofs.Closed.{continuity}
 nothing : (t : Transition) → none ≡ some t → ⊥
 nothing t e = let z : _≡_ {A = ℕ} 0 1 = cc in omega arith
 
-segment-cases : (t : Transition) (ts : List Transition) (k : ℕ) (b : Bool) → isExit (t .kind) || isPreemption (t .kind) ≡ b
-    → suc k ≤ length (if_then_else_ b [] (t ∷ segment ts)) → On t × (k ≤ length (segment ts))
-unfolding if_then_else_
-segment-cases t ts k true e h = absurd (omega arith)
-segment-cases t ts k false e h = (or-parts (isExit (t .kind)) (isPreemption (t .kind)) e, le-of-suc-le-suc h)
-
 -- what is in the segment of a list goes on first
 first-on : (t : Transition) (ts : List Transition) (k : ℕ) → InSegment (t ∷ ts) (suc k) → On t × InSegment ts k
 unfolding segment
-first-on t ts k h = segment-cases t ts k _ refl h
+first-on t ts k =
+    if-holds (λ (l : List Transition). suc k ≤ length l → On t × InSegment ts k) (isExit (t .kind) || isPreemption (t .kind))
+    (λ _ h. absurd (omega arith))
+    (λ e h. (or-parts (isExit (t .kind)) (isPreemption (t .kind)) e, le-of-suc-le-suc h))
 
 segment-on : (t : Transition) (ts : List Transition) → On t → segment (t ∷ ts) ≡ t ∷ segment ts
 unfolding segment if_then_else_
