@@ -16,7 +16,7 @@ use Rattle.effect.specs.Apply.{Transition, stopNumber, Report, reported, report
 use Rattle.step.specs.Step.{step}
 use Rattle.step.proofs.Formed.{step-formed}
 use Rattle.step.proofs.Stops.{numbered-stop, numbered-step, stop-number}
-use Rattle.emulator.specs.Run.{Call, RunResult, resultFrom, resultBy, No, Start, ask, askedBy, outcome, runCall, asked}
+use Rattle.emulator.specs.Run.{Call, RunResult, resultFrom, resultBy, No, Start, askedBy, outcome, runCall, asked}
 use Rattle.emulator.specs.Closure.{AllYes}
 use Rattle.emulator.specs.declared.Ended.{Ended}
 use Rattle.emulator.specs.declared.Answer.the-variants.{Refusal, Ran}

@@ -14,11 +14,10 @@ use Rattle.isa.proofs.Decoded.{InRange, in-range}
 use Rattle.machine.specs.Machine.{Machine, psr, userMode, wideWords, widthOf, Memory}
 use Rattle.machine.specs.declared.Position.{Position}
 use Rattle.machine.specs.Words.{machineOf}
-use Rattle.view.specs.View.{View, view, viewOf}
+use Rattle.view.specs.View.{View, view, viewOf, conditionFalse}
 use Rattle.effect.specs.Effect.{Effect, Stopped, Raised, Next}
 use Rattle.operation.specs.Execute.{execute}
 use Rattle.execute.specs.Decide.{perform, fetchedThen}
-use Rattle.view.specs.View.{conditionFalse}
 use Rattle.view.specs.declared.Fetched.the-variants.{Word}
 use Rattle.execute.proofs.Order.{codeFor, transferInSlot, barred, in-slot, skipped, performed}
 use Rattle.effect.specs.Apply.{Report, reportOn}

@@ -1,6 +1,5 @@
 // Jumps and branches: their targets and the tests of a taken jump.
-ghost use mathlib.Core.Path.{_≡_};
-ghost use Prim.Native.Nat.{ℕ, _+_, _≤_, _<_};
+ghost use Prim.Native.Nat.{ℕ, _≤_, _<_};
 ghost use Rattle.word.specs.Choice.{if_then_else_};
 ghost use Rattle.isa.specs.Operation.{operationOf};
 ghost use Rattle.machine.specs.Words.{MachineWords, machineOf};

@@ -1,6 +1,6 @@
 -- Which interrupt is accepted: a pending one that is not masked, with a priority number below those of all in service, hence one not in service. Assumes nothing.
 use mathlib.Core.Path.{_≡_, refl, ap}
-use mathlib.Core.Bool.{Bool, true, false, _&&_, _||_}
+use mathlib.Core.Bool.{true, false, _&&_}
 use mathlib.Core.List.{List, [], _∷_}
 use mathlib.Core.Option.{Option, none, some}
 use Prim.Native.Nat.{ℕ, zero, suc, _<_}
@@ -35,7 +35,7 @@ urgent-new m n (e ∷ es) h =
     (λ q. let same : priority m (e .source) ≡ priority m n = ap (priority m) (eqb-true (e .source) n q) in absurd (omega arith))
     (λ q. rw q (urgent-new m n es (t .1)))
 
-pub none-some : {n : ℕ} → none ≡ some n → ⊥
+pub none-some : {A : Type 0} {x : A} → none ≡ some x → ⊥
 none-some e = let z : _≡_ {A = ℕ} 0 1 = cc in omega arith
 
 pub candidate-eligible : (m : Machine) (k n : ℕ) → candidate m k ≡ some n → (n < k) × (eligible m n ≡ true)

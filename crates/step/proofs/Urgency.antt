@@ -1,6 +1,6 @@
 -- The search for the source to accept: what one turn of it does, and that it finds the candidate of a well-formed machine. Assumes nothing.
 use mathlib.Core.Path.{_≡_, refl, sym, ap, _∙_}
-use mathlib.Core.Bool.{Bool, true, false, _&&_, and-false}
+use mathlib.Core.Bool.{Bool, true, false, _&&_, and-true, and-false, and-assoc}
 use mathlib.Core.List.{List}
 use mathlib.Core.Option.{Option, none, some}
 use Prim.Native.Nat.{ℕ, zero, suc, _/_, _%_, _^_, _≤_, _<_, min}
@@ -28,13 +28,6 @@ use Rattle.step.specs.Search.{sourceNumber, waiting, priorityOr, mostUrg
 use Rattle.step.proofs.Accepted.{none-some, candidate-eligible}
 
 -- ---- tests
-
--- a test moved to another place
-and-last : (a b c : Bool) → (a && (b && c)) && true ≡ (a && b) && c
-and-last true true true = refl
-and-last true true false = refl
-and-last true false c = refl
-and-last false b c = refl
 
 -- a test that another implies
 and-implied : (a b c d : Bool) → (d ≡ true → c ≡ true) → (a && (b && c)) && d ≡ (a && b) && d
@@ -174,7 +167,7 @@ module _ (m : Machine) (f : WellFormed m) where
   unfolding eligible before priorityOr
   candidate-test k none e =
       rw (waiting-bit m k f, below-service m (priority m k) (priority-small m k) f)
-      (and-last (bitAt k (controlAt m INT-PEND)) (bitAt k (controlAt m INT-MASK)) (ltb (priority m k) (serviceFloor m)))
+      (and-true _ ∙ sym (and-assoc (bitAt k (controlAt m INT-PEND)) (bitAt k (controlAt m INT-MASK)) (ltb (priority m k) (serviceFloor m))))
   candidate-test k (some j) e =
       rw (waiting-bit m k f)
       (and-implied (bitAt k (controlAt m INT-PEND)) (bitAt k (controlAt m INT-MASK)) (belowAll m (priority m k) (m .stack)) (ltb (priority m k) (priority m j))

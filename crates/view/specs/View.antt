@@ -9,7 +9,6 @@ use lib.Dec.{leb, ltb, eqb}
 use lib.IntN.{ℤ}
 use Rattle.word.specs.Choice.{if_then_else_}
 use Rattle.word.specs.Word.{wordOf, isAddress}
-use Rattle.isa.specs.Operation.{Width}
 use Rattle.isa.specs.Condition.{conditionOf, holds}
 use Rattle.isa.specs.declared.Instruction.{Instruction}
 use Rattle.isa.specs.Decode.{wordBytes}

@@ -5,8 +5,7 @@ use denote.Ref.{now}
 use borrow.Author.Needs.{needs}
 use Rattle.machine.specs.Machine.{psr, widthOf, memoryOf}
 use Rattle.machine.specs.Words.{machineOf}
-use Rattle.view.specs.View.{View, view, viewOf}
-use Rattle.effect.specs.Effect.{Effect}
+use Rattle.view.specs.View.{view, viewOf}
 use Rattle.execute.specs.Decide.{fetchedThen, decide}
 use Rattle.view.specs.declared.Fetched.{Fetched}
 use Rattle.view.proofs.Bytes.{bytes-positive, fetched-inside}

@@ -10,7 +10,7 @@ use denote.Ref.{now}
 use borrow.Author.Needs.{needs}
 use Rattle.word.proofs.Integers.{back}
 use Rattle.isa.specs.Operation.{operations, operationOf}
-use Rattle.machine.specs.Machine.{userMode, memoryOf}
+use Rattle.machine.specs.Machine.{memoryOf}
 use Rattle.operation.specs.Execute.{loaded, stored, execute}
 use Rattle.view.specs.View.{View, heldAt, view, viewOf}
 use Rattle.effect.specs.Apply.{apply, stopNumber, reported, reportOn}
