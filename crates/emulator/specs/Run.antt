@@ -133,3 +133,8 @@ transitions program image memory [] = []
 transitions program image memory (c ∷ cs) =
     let d = called program image memory c in
     d .transitions ++ transitions program (d .image) (d .outcome .memory) cs
+
+-- to unfold all of these
+unfoldable pub running : Unit {0}
+unfolding run resultOf resultFrom askCall ask askedBy calledBy called runCall transitions
+running = tt

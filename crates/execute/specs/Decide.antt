@@ -43,3 +43,8 @@ fetchedThen v Absent = Stopped 11
 -- what the next instruction does
 unfoldable pub decide : View → Effect
 decide v = fetchedThen v (v .fetched)
+
+-- to unfold all of these
+unfoldable pub deciding : Unit {0}
+unfolding perform ifAvailable instruction fetchedThen decide
+deciding = tt

@@ -22,3 +22,8 @@ targetOf op v i x = if leb 38 op && leb op 39 then pos x else targetBy v (i .imm
 -- it leaves a link: jal and jalr
 unfoldable pub links : (op : ℕ) → Bool
 links op = eqb op 37 || eqb op 39
+
+-- to unfold all of these
+unfoldable pub jumping : Unit {0}
+unfolding taken targetOf links
+jumping = tt
