@@ -12,7 +12,7 @@ use Rattle.image.specs.Questions.{allBelow}
 use Rattle.image.specs.Image.{Read, Refused, Accepted, readImage, writeImage}
 use Rattle.effect.specs.Apply.{Transition, stopNumber}
 use Rattle.step.specs.Step.{isStop, step}
-use Rattle.emulator.specs.declared.Ended.{Ended}
+use Rattle.emulator.specs.declared.RunEnd.{RunEnd}
 use Rattle.emulator.specs.declared.Answer.{Answer}
 use Rattle.emulator.specs.declared.Answer.the-variants.{Refusal, Ran}
 
@@ -50,7 +50,7 @@ unfoldable pub resultFrom : (program requests : List ℕ) (left done : ℕ) → 
 resultFrom program requests left done s = resultOf done s (run program requests left done s)
 
 -- what the code's count of steps and ending say, with the machine's words and the memory after them
-abbrev pub resultBy : Ended → (words : List ℕ) → Memory → RunResult
+abbrev pub resultBy : RunEnd → (words : List ℕ) → Memory → RunResult
 resultBy e words memory = record { steps = e .steps; ending = e .ending; after = stateOf words memory }
 
 -- ---- the questions: "Asked in order; a no gives the number and does no step"
