@@ -1,5 +1,5 @@
--- Jumps and branches, operations 36 to 47, by their number: what the code asks in turn. Assumes nothing; proofs/Groups.antt has that this
--- is what `execute` says.
+-- Jumps and branches, operations 36 to 47, by their number: what the code asks in turn. Assumes nothing; `jumps-are`
+-- of proofs/Alike.antt has that this is what `execute` says.
 use mathlib.Core.Bool.{Bool, true, _&&_, _||_}
 use Prim.Native.Nat.{ℕ, _-_}
 use lib.ListN.{getD}
