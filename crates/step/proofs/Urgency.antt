@@ -37,12 +37,12 @@ and-implied true false c d h = refl
 and-implied false b c d h = refl
 
 ltb-min : (p a b : ℕ) → ltb p (min a b) ≡ ltb p a && ltb p b
-ltb-min p a b =
-    either (ltb p a)
-    (λ e. let h : p < a = ltb-true p a e in either (ltb p b)
-        (λ f. let k : p < b = ltb-true p b f in rw (e, f) (lt-ltb p (min a b) (omega arith)))
-        (λ f. let k : b ≤ p = ltb-false p b f in rw (e, f) (le-ltb p (min a b) (omega arith))))
-    (λ e. let h : a ≤ p = ltb-false p a e in rw e (le-ltb p (min a b) (omega arith)))
+ltb-min p a b = go (ltb p a) refl (ltb p b) refl
+  where
+    go : (s : Bool) → ltb p a ≡ s → (t : Bool) → ltb p b ≡ t → ltb p (min a b) ≡ s && t
+    go true e true f = let h : p < a = ltb-true p a e in let k : p < b = ltb-true p b f in lt-ltb p (min a b) (omega arith)
+    go true e false f = let k : b ≤ p = ltb-false p b f in le-ltb p (min a b) (omega arith)
+    go false e t f = let h : a ≤ p = ltb-false p a e in le-ltb p (min a b) (omega arith)
 
 -- ---- one turn
 
@@ -111,10 +111,8 @@ module _ (m : Machine) where
     floor-with (suc k) h =
         rw (floor-step (withFlag n flags) k, floor-step flags k)
         (either (eqb k n)
-        (λ e. let s = eqb-true k n e in rw (s, with-same n flags, floor-apart n (omega arith))
-            (either (bitAt n flags) (λ f. rw f (omega arith)) (λ f. rw f)))
-        (λ e. let d = eqb-false k n e in rw (with-other n flags k d, floor-with k (omega arith))
-            (either (bitAt k flags) (λ f. rw f (omega arith)) (λ f. rw f))))
+        (λ e. let s = eqb-true k n e in rw (s, with-same n flags, floor-apart n (omega arith)) (either (bitAt n flags) (λ f. rw f (omega arith)) (λ f. rw f)))
+        (λ e. let d = eqb-false k n e in rw (with-other n flags k d, floor-with k (omega arith)) (either (bitAt k flags) (λ f. rw f (omega arith)) (λ f. rw f))))
 
   below-floor : {es : List Entry} (p : ℕ) → p < 16 → Stacked es → belowAll m p es ≡ ltb p (floorOf (serviceFlags es) m 12)
   unfolding belowAll serviceFlags sourcesOf flagsAt priorityOr

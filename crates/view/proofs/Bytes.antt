@@ -11,7 +11,7 @@ use lib.Dec.{leb, ltb, eqb}
 use lib.ListN.{length, getD, getElem?}
 use borrow.Author.Tests.{leb-true, leb-false, le-leb, lt-leb, ltb-true, ltb-false, eqb-true, eqb-false, eq-eqb, ne-eqb}
 use Rattle.word.specs.Choice.{if_then_else_}
-use Rattle.word.proofs.Tests.{either}
+use Rattle.word.proofs.Tests.{either, and-parts, false-unless}
 use Rattle.codec.specs.Number.{numberAt}
 use Rattle.isa.specs.Operation.{Width, w16, w32, widthBy}
 use Rattle.isa.specs.Decode.{wordBytes}
@@ -38,27 +38,26 @@ none-within low high a zero f = refl
 none-within low high a (suc n) f =
     rw (f a (omega arith) (omega arith)) (none-within low high (suc a) n (λ x l h. f x (omega arith) (omega arith)))
 
-below-bounds : (low high x : ℕ) → x < low → within low high x ≡ false
+-- one of them is, and so the two ranges overlap
+one-within : (low high a n x : ℕ) → a ≤ x → x < a + n → within low high x ≡ true → (leb low high && leb low (a + (n - 1))) && leb a high ≡ true
 unfolding within
-below-bounds low high x h = rw (lt-leb low x h)
-
-above-bounds : (low high x : ℕ) → high < x → within low high x ≡ false
-unfolding within
-above-bounds low high x h = rw (lt-leb x high h) (and-false (leb low x))
+one-within low high a n x l k w =
+    let t = and-parts (leb low x) (leb x high) w in
+    let from = leb-true low x (t .0) in
+    let to = leb-true x high (t .1) in
+    rw (le-leb low high (omega arith), le-leb low (a + (n - 1)) (omega arith), le-leb a high (omega arith))
 
 -- one of n addresses is within bounds exactly where the two ranges overlap
 overlap : (low high a n : ℕ) → 0 < n → (leb low high && leb low (a + (n - 1))) && leb a high ≡ anyWithin low high a n
 overlap low high a zero p = absurd (omega arith)
 overlap low high a (suc n) p =
-    either (leb low high)
-    (λ e. let h = leb-true low high e in either (leb low (a + (suc n - 1)))
-        (λ f. let l = leb-true low (a + (suc n - 1)) f in either (leb a high)
-            (λ g. rw (e, f, g) (sym (some-within low high a n h (omega arith) (leb-true a high g))))
-            (λ g. let u = leb-false a high g in rw (e, f, g) (sym (none-within low high a (suc n) (λ x l k. above-bounds low high x (omega arith))))))
-        (λ f. let u = leb-false low (a + (suc n - 1)) f in rw (e, f) (sym (none-within low high a (suc n) (λ x l k. below-bounds low high x (omega arith))))))
-    (λ e. let h = leb-false low high e in rw e (sym (none-within low high a (suc n) (λ x l k. either (ltb x low)
-        (λ t. below-bounds low high x (ltb-true x low t))
-        (λ t. let u = ltb-false x low t in above-bounds low high x (omega arith))))))
+    either ((leb low high && leb low (a + (suc n - 1))) && leb a high)
+    (λ e.
+    let t = and-parts (leb low high && leb low (a + (suc n - 1))) (leb a high) e in
+    let u = and-parts (leb low high) (leb low (a + (suc n - 1))) (t .0) in
+    let l = leb-true low (a + (suc n - 1)) (u .1) in
+    e ∙ sym (some-within low high a n (leb-true low high (u .0)) (omega arith) (leb-true a high (t .1))))
+    (λ e. e ∙ sym (none-within low high a (suc n) (λ x l k. false-unless (within low high x) (λ w. true≢false (sym (one-within low high a (suc n) x l k w) ∙ e)))))
 
 -- past the upper bound none is within; below it the code's test says whether the ranges overlap
 pub overlap-past : (user : Bool) (low high a n : ℕ) → 0 < n → high < a → false ≡ user && anyWithin low high a n
@@ -74,16 +73,14 @@ overlap-test user low high a n p h =
 -- by the lowest two bits
 pub alignment : (wide : Bool) (a : ℕ) → eqb (a % 2) 1 || (eqb (a / 2 % 2) 1 && wide) ≡ not (eqb (a % wordBytes (widthBy wide)) 0)
 unfolding wordBytes widthBy
-alignment true a =
-    either (eqb (a % 2) 1)
-    (λ e. let k = eqb-true (a % 2) 1 e in rw (e, ne-eqb (a % 4) 0 (λ z. omega arith)))
-    (λ e. let k = eqb-false (a % 2) 1 e in either (eqb (a / 2 % 2) 1)
-        (λ f. let l = eqb-true (a / 2 % 2) 1 f in rw (e, f, ne-eqb (a % 4) 0 (λ z. omega arith)))
-        (λ f. let l = eqb-false (a / 2 % 2) 1 f in rw (e, f, eq-eqb (a % 4) 0 (omega arith))))
-alignment false a =
-    either (eqb (a % 2) 1)
-    (λ e. let k = eqb-true (a % 2) 1 e in rw (e, ne-eqb (a % 2) 0 (λ z. omega arith)))
-    (λ e. let k = eqb-false (a % 2) 1 e in rw (e, eq-eqb (a % 2) 0 (omega arith), and-false (eqb (a / 2 % 2) 1)))
+alignment wide a = go wide (eqb (a % 2) 1) refl (eqb (a / 2 % 2) 1) refl
+  where
+    go : (wide : Bool) (b : Bool) → eqb (a % 2) 1 ≡ b → (c : Bool) → eqb (a / 2 % 2) 1 ≡ c → b || (c && wide) ≡ not (eqb (a % wordBytes (widthBy wide)) 0)
+    go true true e c f = let k = eqb-true (a % 2) 1 e in rw (ne-eqb (a % 4) 0 (λ z. omega arith))
+    go true false e true f = let k = eqb-true (a / 2 % 2) 1 f in rw (ne-eqb (a % 4) 0 (λ z. omega arith))
+    go true false e false f = let k = eqb-false (a % 2) 1 e in let l = eqb-false (a / 2 % 2) 1 f in rw (eq-eqb (a % 4) 0 (omega arith))
+    go false true e c f = let k = eqb-true (a % 2) 1 e in rw (ne-eqb (a % 2) 0 (λ z. omega arith))
+    go false false e c f = let k = eqb-false (a % 2) 1 e in rw (eq-eqb (a % 2) 0 (omega arith), and-false c)
 
 -- what is not misaligned is aligned
 pub aligned-at : (n a : ℕ) (r : Bool) → r ≡ not (eqb (a % n) 0) → r ≡ false → a % n ≡ 0
