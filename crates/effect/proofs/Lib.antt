@@ -1,6 +1,5 @@
--- Laws of effects: registers, condition registers, the position, the stack, and what is reported.
+-- Laws of effects: registers, condition registers, the position, the stack.
 pub mod Registers
 pub mod Unpacked
 pub mod Position
 pub mod Service
-pub mod Report

@@ -178,3 +178,8 @@ reportOn e words memory = reported (apply e (stateOf words memory))
 -- words become those after an effect, whatever the memory holds; the memory stays
 abbrev pub Performs : Effect → (stop : ℕ) (before after : List ℕ) → Type 0
 Performs e n before after = (memory : Memory) → reportBy n after memory ≡ reportOn e before memory
+
+-- to unfold all of these
+unfoldable pub applying : Unit {0}
+unfolding writeRegister writeFlags unpacked wordsOn nextPc advance advanceHolding jumpTo raise systemCall userReturn interruptReturn enableInterrupts switchWidth selectSets machineOnly storeCell updated apply stopNumber reported reportOn
+applying = tt

@@ -1,7 +1,7 @@
--- To unfold `effects` is to unfold all definitions of this crate and of `machine`.
+-- To unfold `effects` is to unfold all definitions of this crate and of `machine`; each file ends with its own.
 use Rattle.machine.specs.Computed.{machines}
-use Rattle.effect.specs.Apply.{writeRegister, writeFlags, unpacked, wordsOn, nextPc, advance, advanceHolding, jumpTo, raise, systemCall, userReturn, interruptReturn, enableInterrupts, switchWidth, selectSets, machineOnly, storeCell, updated, apply, stopNumber, reported, reportOn}
+use Rattle.effect.specs.Apply.{applying}
 
 unfoldable pub effects : Unit {0}
-unfolding machines writeRegister writeFlags unpacked wordsOn nextPc advance advanceHolding jumpTo raise systemCall userReturn interruptReturn enableInterrupts switchWidth selectSets machineOnly storeCell updated apply stopNumber reported reportOn
+unfolding machines applying
 effects = tt

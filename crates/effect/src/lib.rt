@@ -1,6 +1,6 @@
 // What an effect changes of the machine and the data memory.
-// Each function carries out the definition of its contract on the words that hold the machine. Those of effects tell 0: no effect but a
-// stop, which changes nothing, tells a number.
+// Each function carries out the definition of its contract on the words that hold the machine. Those of effects report 0: no effect but
+// a stop, which changes nothing, reports a number.
 ghost use mathlib.Core.Path.{_≡_};
 ghost use Prim.Native.Nat.{_%_, _<_, _^_};
 ghost use lib.ListN.{set};
@@ -138,7 +138,7 @@ fn jump_to(w: &mut [u32], target: u32)
 
 // ---- changes of mode
 
-// An exception: code, address and PSR are shown; PC is machine::EXCEP_ADDR.
+// An exception: code, address and PSR are shown; PC is EXCEP_ADDR.
 pub fn raise(w: &mut [u32], code: u32) -> u32
     requires { ⌜ MachineWords (now w) ⌝ }
     ensures { λ r. ⌜ Performs (Raised code) r (now (w .entry)) (now (w .exit)) ⌝ }
@@ -154,7 +154,7 @@ pub fn raise(w: &mut [u32], code: u32) -> u32
     0
 }
 
-// scall: the link PR31 is two words on, machine::SPSR takes PSR; PC is machine::SYSTEM_ADDR.
+// scall: the link PR31 is two words on, SPSR takes PSR; PC is SYSTEM_ADDR.
 pub fn system_call(w: &mut [u32]) -> u32
     requires { ⌜ MachineWords (now w) ⌝ }
     ensures { λ r. ⌜ Performs SystemCall r (now (w .entry)) (now (w .exit)) ⌝ }
@@ -169,7 +169,7 @@ pub fn system_call(w: &mut [u32]) -> u32
     0
 }
 
-// retu: PC from PR31; IE and IL from machine::SPSR; user mode, set 1.
+// retu: PC from PR31; IE and IL from SPSR; user mode, set 1.
 pub fn user_return(w: &mut [u32]) -> u32
     requires { ⌜ MachineWords (now w) ⌝ }
     ensures { λ r. ⌜ Performs UserReturn r (now (w .entry)) (now (w .exit)) ⌝ }

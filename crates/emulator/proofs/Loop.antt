@@ -1,12 +1,12 @@
 -- The steps of a call, one at a time: how the definition goes on, stops and ends. Assumes nothing.
 use mathlib.Core.Path.{_≡_, refl}
-use mathlib.Core.Bool.{Bool, true, false}
+use mathlib.Core.Bool.{true, false}
 use mathlib.Core.List.{List, [], _∷_}
 use Prim.Native.Nat.{ℕ, zero, suc, _-_, _≤_, _<_}
 use native.Mathlib.Omega.{arith}
 use lib.ListN.{getD}
 use Rattle.word.specs.Choice.{if_then_else_}
-use Rattle.word.proofs.Tests.{if-true}
+use Rattle.word.proofs.Tests.{either, if-true}
 use Rattle.machine.specs.Machine.{State}
 use Rattle.effect.specs.Apply.{Transition, stopNumber}
 use Rattle.step.specs.Step.{isStop, step}
@@ -75,12 +75,10 @@ module _ (p requests : List ℕ) where
     went-on : {n done : ℕ} {s : State} {ts : List Transition} {e : RunResult} → isStop (next done s .kind) ≡ false → Runs n (suc done) (next done s .after) ts e
         → Runs (suc n) done s (next done s ∷ ts) e
 
-  one-runs : (n done : ℕ) (s : State) → Runs n (suc done) (next done s .after) (run p requests n (suc done) (next done s .after)) (resultFrom p requests n (suc done) (next done s .after))
-      → (b : Bool) → isStop (next done s .kind) ≡ b → Runs (suc n) done s (run p requests (suc n) done s) (resultFrom p requests (suc n) done s)
-  one-runs n done s r true e = rw (run-stop n done s e, result-stop n done s e) (stopped e)
-  one-runs n done s r false e = rw (run-more n done s e, result-more n done s e) (went-on e r)
-
   pub runs-by : (n done : ℕ) (s : State) → Runs n done s (run p requests n done s) (resultFrom p requests n done s)
   unfolding run
   runs-by zero done s = rw (result-zero done s) limit-reached
-  runs-by (suc n) done s = one-runs n done s (runs-by n (suc done) (next done s .after)) (isStop (next done s .kind)) refl
+  runs-by (suc n) done s =
+      either (isStop (next done s .kind))
+      (λ e. rw (run-stop n done s e, result-stop n done s e) (stopped e))
+      (λ e. rw (run-more n done s e, result-more n done s e) (went-on e (runs-by n (suc done) (next done s .after))))

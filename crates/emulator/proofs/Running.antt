@@ -16,9 +16,9 @@ use Rattle.effect.specs.Apply.{Transition, stopNumber, Report, reported, report
 use Rattle.step.specs.Step.{step}
 use Rattle.step.proofs.Formed.{step-formed}
 use Rattle.step.proofs.Stops.{numbered-stop, numbered-step, stop-number}
-use Rattle.emulator.specs.Run.{Call, RunResult, resultFrom, resultBy, No, Start, ask, askedBy, outcome, runCall, asked}
+use Rattle.emulator.specs.Run.{Call, RunResult, resultFrom, resultBy, No, Start, askedBy, outcome, runCall, asked}
 use Rattle.emulator.specs.Closure.{AllYes}
-use Rattle.emulator.specs.declared.Ended.{Ended}
+use Rattle.emulator.specs.declared.RunEnd.{RunEnd}
 use Rattle.emulator.specs.declared.Answer.the-variants.{Refusal, Ran}
 use Rattle.emulator.proofs.Loop.{at-stop, at-more}
 use Rattle.emulator.proofs.Closed.{asked-yes, result-formed}
@@ -89,7 +89,7 @@ module _ (p image : List ℕ) (memory : Memory) (c : Call) (n : ℕ) (w : List �
     pub run-formed : wellFormed (machineOf w) ≡ true
     run-formed = formed-true (accepted-formed image (machineOf w) (run-yes .read))
 
-    module _ (e : Ended) (w₁ : List ℕ) (d₁ : Memory) (s : resultBy e w₁ d₁ ≡ resultFrom p (c .requests) (c .limit) 0 (stateOf w memory)) where
+    module _ (e : RunEnd) (w₁ : List ℕ) (d₁ : Memory) (s : resultBy e w₁ d₁ ≡ resultFrom p (c .requests) (c .limit) 0 (stateOf w memory)) where
       -- after the steps: the stack fits an image, and that image is the one that the call leaves
       pub run-deep : length (machineOf w₁ .stack) ≤ 12
       run-deep =

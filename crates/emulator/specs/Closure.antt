@@ -102,3 +102,8 @@ unfoldable pub LimitZero : Type 0
 LimitZero =
     (program image : List ℕ) (memory : Memory) (c : Call) (m : Machine) → ((i : ℕ) → getD image i 0 < 256) → asked program image memory c ≡ Start m
     → c .limit ≡ 0 → NoStep image memory (called program image memory c)
+
+-- to unfold all of these
+unfoldable pub closing : Unit {0}
+unfolding final Steps Closure Continuity Questions Refusals Completed LimitZero
+closing = tt

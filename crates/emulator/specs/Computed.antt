@@ -1,9 +1,10 @@
--- To unfold `runs` is to unfold all definitions of this crate's run call, of `image` and of `step`.
+-- To unfold `runs` is to unfold all definitions of this crate, of `image` and of `step`; each file ends with its own.
 use Rattle.image.specs.Computed.{images}
 use Rattle.step.specs.Computed.{steps}
-use Rattle.emulator.specs.Run.{run, resultOf, resultFrom, askCall, ask, askedBy, calledBy, called, runCall, transitions}
-use Rattle.emulator.specs.Closure.{final}
+use Rattle.emulator.specs.Run.{running}
+use Rattle.emulator.specs.Reset.{resetting}
+use Rattle.emulator.specs.Closure.{closing}
 
 unfoldable pub runs : Unit {0}
-unfolding images steps run resultOf resultFrom askCall ask askedBy calledBy called runCall transitions final
+unfolding images steps running resetting closing
 runs = tt

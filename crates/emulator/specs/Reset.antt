@@ -19,3 +19,8 @@ resetOutcome answer buffer = record { answer = answer; buffer = buffer }
 -- "Image buffer at least 708 bytes? 8"; the image is at the buffer's front, "its further bytes keep their values"
 unfoldable pub resetCall : (buffer : List ℕ) → ResetOutcome
 resetCall buffer = if leb LONGEST (length buffer) then resetOutcome 0 (over (writeImage reset) buffer) else resetOutcome 8 buffer
+
+-- to unfold it
+unfoldable pub resetting : Unit {0}
+unfolding resetCall
+resetting = tt

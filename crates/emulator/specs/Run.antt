@@ -12,7 +12,7 @@ use Rattle.formed.specs.Questions.{allBelow, Read, Refused, Accepted}
 use Rattle.image.specs.Image.{LONGEST, readImage, writeImage}
 use Rattle.effect.specs.Apply.{Transition, stopNumber}
 use Rattle.step.specs.Step.{isStop, step}
-use Rattle.emulator.specs.declared.Ended.{Ended}
+use Rattle.emulator.specs.declared.RunEnd.{RunEnd}
 use Rattle.emulator.specs.declared.Answer.{Answer}
 use Rattle.emulator.specs.declared.Answer.the-variants.{Refusal, Ran}
 
@@ -50,7 +50,7 @@ unfoldable pub resultFrom : (program requests : List ℕ) (left done : ℕ) → 
 resultFrom program requests left done s = resultOf done s (run program requests left done s)
 
 -- what the code's count of steps and ending say, with the machine's words and the memory after them
-abbrev pub resultBy : Ended → (words : List ℕ) → Memory → RunResult
+abbrev pub resultBy : RunEnd → (words : List ℕ) → Memory → RunResult
 resultBy e words memory = record { steps = e .steps; ending = e .ending; after = stateOf words memory }
 
 -- ---- the questions: "Asked in order; a no gives the number and does no step"
@@ -137,3 +137,8 @@ transitions program image memory [] = []
 transitions program image memory (c ∷ cs) =
     let d = called program image memory c in
     d .transitions ++ transitions program (d .image) (d .outcome .memory) cs
+
+-- to unfold all of these
+unfoldable pub running : Unit {0}
+unfolding run resultOf resultFrom askCall ask askedBy calledBy called runCall transitions
+running = tt

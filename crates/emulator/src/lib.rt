@@ -18,7 +18,7 @@ pub enum Answer {
 }
 
 // How the steps of a call ended.
-pub struct Ended {
+pub struct RunEnd {
     pub steps: u32,
     // 0 for the limit, or the number of a stop.
     pub ending: u32,
@@ -83,7 +83,7 @@ fn run_steps(
     cells: &mut [u32],
     requests: &[u32],
     limit: u32,
-) -> Ended
+) -> RunEnd
     requires { ⌜ MachineWords (now w) × (length (now program) ≤ MOST-MEMORY) × (wellFormed (machineOf (now w)) ≡ true) ⌝ }
     ensures { λ r. ⌜ resultBy r (now (w .exit)) (memoryOf (now (cells .exit))) ≡ resultFrom (now (program .entry)) (now (requests .entry)) limit 0 (stateOf (now (w .entry)) (memoryOf (now (cells .entry)))) ⌝ }
 {
@@ -91,14 +91,14 @@ fn run_steps(
     while done < limit {
         let stop = step::step(program, w, cells, request_at(requests, done as usize));
         if stop != 0 {
-            return Ended {
+            return RunEnd {
                 steps: done,
                 ending: stop,
             };
         }
         done += 1;
     }
-    Ended {
+    RunEnd {
         steps: done,
         ending: 0,
     }

@@ -10,10 +10,9 @@ use Rattle.isa.proofs.Rules.{available, refused}
 use Rattle.isa.specs.declared.Instruction.{Instruction}
 use Rattle.machine.specs.Machine.{userMode, widthOf}
 use Rattle.machine.specs.declared.Position.{Position}
-use Rattle.view.specs.View.{View}
-use Rattle.effect.specs.Effect.{Effect, Stopped, Raised, Next}
+use Rattle.view.specs.View.{View, conditionFalse}
+use Rattle.effect.specs.Effect.{Stopped, Raised, Next}
 use Rattle.execute.specs.Decide.{perform, ifAvailable, instruction}
-use Rattle.view.specs.View.{conditionFalse}
 
 module _ (v : View) (i : Instruction) where
   -- the code of the exception where it may not be used, or 0

@@ -9,8 +9,7 @@ use lib.IntN.{ℤ, pos, _+ℤ_}
 use Rattle.word.specs.Choice.{if_then_else_}
 use Rattle.word.specs.Word.{wordOf}
 use Rattle.word.specs.declared.Sum.{Sum}
-use Rattle.isa.specs.Operation.{Operation, nop, add, addu, sub, subu, and, or, xor, muls, mulu, mulus, muls16, mulu16, mulus16, sll, srl, sra, sext, addi, addiu, andi, ori, muli, slli, srli, srai, sexti, ld, st, mov, not, mulhi, cmp, cmpi, lli, lui, jmp, jal, jmpr, jalr, bc, begt, belt, beq, bgt, blt, bne, bnc, scall, retu, reti, chrs, di, ei, swm, trap, scon, rcon, unknown}
-use Rattle.isa.specs.Operation.{operationOf, Width, superOnly, unavailable, properties}
+use Rattle.isa.specs.Operation.{Operation, nop, add, addu, sub, subu, and, or, xor, muls, mulu, mulus, muls16, mulu16, mulus16, sll, srl, sra, sext, addi, addiu, andi, ori, muli, slli, srli, srai, sexti, ld, st, mov, not, mulhi, cmp, cmpi, lli, lui, jmp, jal, jmpr, jalr, bc, begt, belt, beq, bgt, blt, bne, bnc, scall, retu, reti, chrs, di, ei, swm, trap, scon, rcon, unknown, operationOf, Width, superOnly, unavailable, properties}
 use Rattle.isa.specs.Condition.{Condition}
 use Rattle.isa.specs.Decode.{decode}
 use Rattle.isa.specs.declared.Instruction.{Instruction}

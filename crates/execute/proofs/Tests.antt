@@ -5,6 +5,7 @@ use mathlib.Core.List.{List}
 use Prim.Native.Nat.{ℕ, _<_}
 use native.Mathlib.Omega.{arith}
 use lib.Dec.{eqb}
+use Rattle.word.proofs.Tests.{either}
 use Rattle.isa.specs.Operation.{operationOf, widthBy, Properties, properties, unavailable, codeOf}
 use Rattle.isa.specs.Decode.{opcodeOf, assembled, decode}
 use Rattle.isa.specs.Computed.{instructions}
@@ -13,11 +14,10 @@ use Rattle.isa.proofs.Decoded.{InRange, in-range}
 use Rattle.machine.specs.Machine.{Machine, psr, userMode, wideWords, widthOf, Memory}
 use Rattle.machine.specs.declared.Position.{Position}
 use Rattle.machine.specs.Words.{machineOf}
-use Rattle.view.specs.View.{View, view, viewOf}
+use Rattle.view.specs.View.{View, view, viewOf, conditionFalse}
 use Rattle.effect.specs.Effect.{Effect, Stopped, Raised, Next}
 use Rattle.operation.specs.Execute.{execute}
 use Rattle.execute.specs.Decide.{perform, fetchedThen}
-use Rattle.view.specs.View.{conditionFalse}
 use Rattle.view.specs.declared.Fetched.the-variants.{Word}
 use Rattle.execute.proofs.Order.{codeFor, transferInSlot, barred, in-slot, skipped, performed}
 use Rattle.effect.specs.Apply.{Report, reportOn}
@@ -112,11 +112,6 @@ module _ (p w : List ℕ) (memory : Memory) {word op : ℕ} {i : Instruction} (d
   -- nop: conditional or not, nothing but PC moves
   pub word-nothing : op ≡ 0 → done ≡ reportOn Next w memory
   unfolding instructions execute
-  word-nothing z = go (conditionFalse v i) refl
-    where
-      e : i .opcode ≡ 0
-      e = d .number ∙ z
-
-      go : (b : Bool) → conditionFalse v i ≡ b → done ≡ reportOn Next w memory
-      go true c = low-skipped (omega arith) c
-      go false c = low-performed (omega arith) c _ _ refl refl ∙ rw e
+  word-nothing z =
+      let e : i .opcode ≡ 0 = d .number ∙ z in
+      either (conditionFalse v i) (low-skipped (omega arith)) (λ c. low-performed (omega arith) c _ _ refl refl ∙ rw e)

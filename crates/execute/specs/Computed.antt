@@ -1,7 +1,7 @@
--- To unfold `decisions` is to unfold all definitions of this crate and of `operation`.
+-- To unfold `decisions` is to unfold all definitions of this crate and of `operation`; each file ends with its own.
 use Rattle.operation.specs.Computed.{operating}
-use Rattle.execute.specs.Decide.{perform, ifAvailable, instruction, fetchedThen, decide}
+use Rattle.execute.specs.Decide.{deciding}
 
 unfoldable pub decisions : Unit {0}
-unfolding operating perform ifAvailable instruction fetchedThen decide
+unfolding operating deciding
 decisions = tt

@@ -1,12 +1,10 @@
 -- What the next instruction does: the order of its tests (01 "Instruction order"). Assumes nothing.
-use mathlib.Core.Bool.{Bool, not, _&&_}
+use mathlib.Core.Bool.{_&&_}
 use mathlib.Core.Option.{Option, none, some}
 use Prim.Native.Nat.{ℕ}
-use lib.ListN.{getD}
 use lib.Dec.{eqb}
 use Rattle.word.specs.Choice.{if_then_else_}
 use Rattle.isa.specs.Operation.{Operation, operationOf, Properties, properties, unavailable}
-use Rattle.isa.specs.Condition.{conditionOf, holds}
 use Rattle.isa.specs.Decode.{decode}
 use Rattle.isa.specs.declared.Instruction.{Instruction}
 use Rattle.machine.specs.Machine.{userMode, widthOf}
@@ -45,3 +43,8 @@ fetchedThen v Absent = Stopped 11
 -- what the next instruction does
 unfoldable pub decide : View → Effect
 decide v = fetchedThen v (v .fetched)
+
+-- to unfold all of these
+unfoldable pub deciding : Unit {0}
+unfolding perform ifAvailable instruction fetchedThen decide
+deciding = tt

@@ -5,7 +5,7 @@ ghost use Prim.Native.Nat.{_≤_, _<_};
 ghost use lib.ListN.{length};
 ghost use Rattle.isa.specs.Operation.{operationOf, Properties, properties, unavailable, codeOf};
 ghost use Rattle.isa.specs.Decode.{opcodeOf};
-ghost use Rattle.machine.specs.Machine.{psr, userMode, widthOf, memoryOf};
+ghost use Rattle.machine.specs.Machine.{MOST-MEMORY, psr, userMode, widthOf, memoryOf};
 ghost use Rattle.machine.specs.Words.{MachineWords, machineOf};
 ghost use Rattle.view.specs.View.{viewOf};
 ghost use Rattle.view.specs.declared.Fetched.the-variants.{Word};
@@ -97,7 +97,7 @@ fn move_word(w: &mut [u32], word: u32, op: u32) -> u32
 
 // Words of operations 36 to 47: jumps and branches, stop 13 in a slot.
 fn jump_word(w: &mut [u32], word: u32, op: u32) -> u32
-    requires { ⌜ MachineWords (now w) × (machineOf (now w) .position .pc < 65536) × (op ≡ opcodeOf (widthOf (psr (machineOf (now w)))) word) × (36 ≤ op) × (op ≤ 47) ⌝ }
+    requires { ⌜ MachineWords (now w) × (machineOf (now w) .position .pc < MOST-MEMORY) × (op ≡ opcodeOf (widthOf (psr (machineOf (now w)))) word) × (36 ≤ op) × (op ≤ 47) ⌝ }
     ensures { λ r. ⌜ PerformsSeen (λ v. fetchedThen v (Word word)) r (now (w .entry)) (now (w .exit)) ⌝ }
 {
     if machine::slot(w) == 1 {
@@ -148,7 +148,7 @@ fn lower_half(w: &mut [u32], cells: &mut [u32], word: u32, op: u32) -> u32
 
 // Words of the upper half: mov to rcon, and those that are unknown.
 fn upper_half(w: &mut [u32], word: u32, op: u32) -> u32
-    requires { ⌜ MachineWords (now w) × (machineOf (now w) .position .pc < 65536) × StackShown (machineOf (now w)) × (op ≡ opcodeOf (widthOf (psr (machineOf (now w)))) word) × (29 ≤ op) ⌝ }
+    requires { ⌜ MachineWords (now w) × (machineOf (now w) .position .pc < MOST-MEMORY) × StackShown (machineOf (now w)) × (op ≡ opcodeOf (widthOf (psr (machineOf (now w)))) word) × (29 ≤ op) ⌝ }
     ensures { λ r. ⌜ PerformsSeen (λ v. fetchedThen v (Word word)) r (now (w .entry)) (now (w .exit)) ⌝ }
 {
     match op {
@@ -161,7 +161,7 @@ fn upper_half(w: &mut [u32], word: u32, op: u32) -> u32
 
 // An instruction word, by the number of its operation, in two halves: in one chain of tests the compiler takes the last groups for rare.
 fn instruction(w: &mut [u32], cells: &mut [u32], word: u32) -> u32
-    requires { ⌜ MachineWords (now w) × (machineOf (now w) .position .pc < 65536) × StackShown (machineOf (now w)) ⌝ }
+    requires { ⌜ MachineWords (now w) × (machineOf (now w) .position .pc < MOST-MEMORY) × StackShown (machineOf (now w)) ⌝ }
     ensures { λ r. ⌜ PerformsStoring (λ v. fetchedThen v (Word word)) r (now (w .entry)) (now (cells .entry)) (now (w .exit)) (now (cells .exit)) ⌝ }
 {
     let op = isa::opcode(word, wide_words(w));
@@ -174,7 +174,7 @@ fn instruction(w: &mut [u32], cells: &mut [u32], word: u32) -> u32
 
 // The next instruction: 05h, 00h or stop 11, then the instruction word.
 pub fn execute(program: &[u8], w: &mut [u32], cells: &mut [u32]) -> u32
-    requires { ⌜ MachineWords (now w) × (length (now program) ≤ 65536) × StackShown (machineOf (now w)) ⌝ }
+    requires { ⌜ MachineWords (now w) × (length (now program) ≤ MOST-MEMORY) × StackShown (machineOf (now w)) ⌝ }
     ensures { λ r. ⌜ reportBy r (now (w .exit)) (memoryOf (now (cells .exit))) ≡ reportOn (decide (viewOf (now (program .entry)) (now (w .entry)) (memoryOf (now (cells .entry))))) (now (w .entry)) (memoryOf (now (cells .entry))) ⌝ }
 {
     let fetched = view::fetch(program, w);

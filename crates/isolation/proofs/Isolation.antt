@@ -1,15 +1,15 @@
 -- The isolation of user mode, proved: `isolated`. Assumes nothing.
-use mathlib.Core.Path.{_≡_, refl, sym, ap, _∙_}
-use mathlib.Core.Bool.{Bool, true, false, true≢false, _||_}
+use mathlib.Core.Path.{_≡_, sym, ap, _∙_}
+use mathlib.Core.Bool.{false, true≢false, _||_}
 use mathlib.Core.List.{List, [], _∷_}
-use mathlib.Core.Option.{none, some}
+use mathlib.Core.Option.{some}
 use Prim.Native.Nat.{ℕ, zero, suc, _≤_, zero-le, suc-le-suc}
 use native.Mathlib.Omega.{arith}
 use native.Mathlib.Nat.{le-of-suc-le-suc}
 use lib.Dec.{lit<}
 use lib.ListN.{length, getElem?}
 use Rattle.word.specs.Choice.{if_then_else_}
-use Rattle.word.proofs.Tests.{or-parts}
+use Rattle.word.proofs.Tests.{or-parts, if-holds}
 use Rattle.machine.specs.Machine.{State}
 use Rattle.machine.specs.Control.{controlAt, IMEM-BOUND-LO, IMEM-BOUND-HI}
 use Rattle.image.proofs.Image.{accepted-formed}
@@ -20,23 +20,18 @@ use Rattle.isolation.specs.Isolation.{transition, isExit, isPreemption, 
 use Rattle.isolation.proofs.States.{Mode, Low, kept-control, kept-trans}
 use Rattle.isolation.proofs.Views.{SameBytes}
 use Rattle.isolation.proofs.Unwinding.{On, Agree, goOn, exit, step-kept, step-agree}
+use Rattle.step.proofs.Accepted.{none-some}
 use Rattle.emulator.proofs.Closed.{continuity}
 
 -- ---- the segment
 
-nothing : (t : Transition) → none ≡ some t → ⊥
-nothing t e = let z : _≡_ {A = ℕ} 0 1 = cc in omega arith
-
-segment-cases : (t : Transition) (ts : List Transition) (k : ℕ) (b : Bool) → isExit (t .kind) || isPreemption (t .kind) ≡ b
-    → suc k ≤ length (if_then_else_ b [] (t ∷ segment ts)) → On t × (k ≤ length (segment ts))
-unfolding if_then_else_
-segment-cases t ts k true e h = absurd (omega arith)
-segment-cases t ts k false e h = (or-parts (isExit (t .kind)) (isPreemption (t .kind)) e, le-of-suc-le-suc h)
-
 -- what is in the segment of a list goes on first
 first-on : (t : Transition) (ts : List Transition) (k : ℕ) → InSegment (t ∷ ts) (suc k) → On t × InSegment ts k
 unfolding segment
-first-on t ts k h = segment-cases t ts k _ refl h
+first-on t ts k =
+    if-holds (λ (l : List Transition). suc k ≤ length l → On t × InSegment ts k) (isExit (t .kind) || isPreemption (t .kind))
+    (λ _ h. absurd (omega arith))
+    (λ e h. (or-parts (isExit (t .kind)) (isPreemption (t .kind)) e, le-of-suc-le-suc h))
 
 segment-on : (t : Transition) (ts : List Transition) → On t → segment (t ∷ ts) ≡ t ∷ segment ts
 unfolding segment if_then_else_
@@ -44,7 +39,7 @@ segment-on t ts on = rw (on .0, on .1)
 
 -- a transition that goes on after some that are in the segment is in it
 in-segment : (ts : List Transition) (k : ℕ) (t : Transition) → getElem? ts k ≡ some t → On t → InSegment ts k → InSegment ts (suc k)
-in-segment [] k t e on h = absurd (nothing t e)
+in-segment [] k t e on h = absurd (none-some e)
 in-segment (u ∷ ts) zero t e on h =
     let x : u ≡ t = cc in
     rw (x, segment-on t ts on) (suc-le-suc zero-le)
@@ -60,7 +55,7 @@ first-kept p s q t e i on = rw e (step-kept p s q i (rw e at on))
 steps-kept : (p : List ℕ) (ts : List Transition) (s : State) → Steps p s ts → Mode s → (k : ℕ) (t : Transition) → getElem? ts k ≡ some t
     → InSegment ts (suc k) → Kept s (t .after)
 unfolding Steps
-steps-kept p [] s c i k t e h = absurd (nothing t e)
+steps-kept p [] s c i k t e h = absurd (none-some e)
 steps-kept p (u ∷ ts) s c i zero t e h =
     let x : u ≡ t = cc in
     rw (← x) (first-kept p s (c .0) u (c .1) i (first-on u ts zero h .0) .0)
@@ -91,8 +86,8 @@ module _ (p q : List ℕ) where
       → (k : ℕ) (t u : Transition) → getElem? ts k ≡ some t → getElem? us k ≡ some u → InSegment ts k → InSegment us k
       → isPreemption (t .kind) ≡ false → isPreemption (u .kind) ≡ false → Agree t u
   unfolding Steps
-  steps-agree [] us s r x y i j l b k t u e f g h c d = absurd (nothing t e)
-  steps-agree (t₀ ∷ ts) [] s r x y i j l b k t u e f g h c d = absurd (nothing u f)
+  steps-agree [] us s r x y i j l b k t u e f g h c d = absurd (none-some e)
+  steps-agree (t₀ ∷ ts) [] s r x y i j l b k t u e f g h c d = absurd (none-some f)
   steps-agree (t₀ ∷ ts) (u₀ ∷ us) s r x y i j l b zero t u e f g h c d =
       let v : t ≡ step p s (x .0) = cc (x .1, e) in
       let w : u ≡ step q r (y .0) = cc (y .1, f) in
@@ -122,7 +117,7 @@ session-steps a s = continuity (a .program) (a .image) (a .memory) (a .calls) (a
 
 first-half : (a : Session) → UserStart a → Integrity a
 unfolding Integrity transition
-first-half a s zero t e h = absurd (nothing t e)
+first-half a s zero t e h = absurd (none-some e)
 first-half a s (suc k) t e h = steps-kept (a .program) (transitionsOf a) (startOf a) (session-steps a s) (start-mode a s) k t e h
 
 start-low : (a b : Session) → SameStart a b → Low (startOf a) (startOf b)
@@ -146,7 +141,7 @@ same-transition a b k t u e f g h c d (exit x z) = bothExit x (ap isExit (sym z)
 
 second-half : (a b : Session) → UserStart a → UserStart b → SameStart a b → Confidentiality a b
 unfolding Confidentiality transition SameBytes
-second-half a b s r same zero t u e f g h c d = absurd (nothing t e)
+second-half a b s r same zero t u e f g h c d = absurd (none-some e)
 second-half a b s r same (suc k) t u e f g h c d =
     let g′ = le-of-suc-le-suc g in
     let h′ = le-of-suc-le-suc h in

@@ -136,3 +136,8 @@ unfoldable pub Isolation : Type 0
 Isolation =
     ((a : Session) → UserStart a → Integrity a)
     × ((a b : Session) → UserStart a → UserStart b → SameStart a b → Confidentiality a b)
+
+-- to unfold all of these
+unfoldable pub isolating : Unit {0}
+unfolding transition isExit isPreemption segment Integrity Confidentiality Isolation
+isolating = tt

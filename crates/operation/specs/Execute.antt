@@ -145,3 +145,8 @@ execute trap v i x y = Raised (224 + wordOf 5 (i .immediate))
 execute scon v i x y = Result (i .dreg) (packed (v .conditions))
 execute rcon v i x y = Conditions x
 execute unknown v i x y = Raised 0x01
+
+-- to unfold all of these
+unfoldable pub executing : Unit {0}
+unfolding checked wrapped product loaded stored afterThis targetBy jumped branch packed execute
+executing = tt

@@ -1,5 +1,5 @@
--- Jumps and branches, operations 36 to 47, by their number: what the code asks in turn. Assumes nothing; proofs/Groups.antt has that this
--- is what `execute` says.
+-- Jumps and branches, operations 36 to 47, by their number: what the code asks in turn. Assumes nothing; `jumps-are`
+-- of proofs/Alike.antt has that this is what `execute` says.
 use mathlib.Core.Bool.{Bool, true, _&&_, _||_}
 use Prim.Native.Nat.{ℕ, _-_}
 use lib.ListN.{getD}
@@ -22,3 +22,8 @@ targetOf op v i x = if leb 38 op && leb op 39 then pos x else targetBy v (i .imm
 -- it leaves a link: jal and jalr
 unfoldable pub links : (op : ℕ) → Bool
 links op = eqb op 37 || eqb op 39
+
+-- to unfold all of these
+unfoldable pub jumping : Unit {0}
+unfolding taken targetOf links
+jumping = tt

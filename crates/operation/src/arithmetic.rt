@@ -1,5 +1,4 @@
 // The operations whose result comes from two sources alone: sums, bits, products, shifts.
-ghost use mathlib.Core.Path.{_≡_};
 ghost use Prim.Native.Nat.{ℕ, _≤_};
 ghost use Rattle.isa.specs.Operation.{operationOf};
 ghost use Rattle.machine.specs.Words.{MachineWords};

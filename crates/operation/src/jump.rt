@@ -1,8 +1,8 @@
 // Jumps and branches: their targets and the tests of a taken jump.
-ghost use mathlib.Core.Path.{_≡_};
-ghost use Prim.Native.Nat.{ℕ, _+_, _≤_, _<_};
+ghost use Prim.Native.Nat.{ℕ, _≤_, _<_};
 ghost use Rattle.word.specs.Choice.{if_then_else_};
 ghost use Rattle.isa.specs.Operation.{operationOf};
+ghost use Rattle.machine.specs.Machine.{MOST-MEMORY};
 ghost use Rattle.machine.specs.Words.{MachineWords, machineOf};
 ghost use Rattle.view.specs.View.{Shows};
 ghost use Rattle.effect.specs.Effect.{Jump, JumpLink};
@@ -47,7 +47,7 @@ fn taken(w: &[u32], i: Instruction) -> bool
 
 // Where a jump or a branch leads: jmpr and jalr to the register's value, the others by the immediate.
 fn target(w: &[u32], i: Instruction, x: u32) -> i64
-    requires { ⌜ MachineWords (now w) × (machineOf (now w) .position .pc < 65536) ⌝ }
+    requires { ⌜ MachineWords (now w) × (machineOf (now w) .position .pc < MOST-MEMORY) ⌝ }
     ensures { λ r. ⌜ Shows (λ v. targetOf (i .opcode) v i x) r (now (w .entry)) ⌝ }
 {
     let op = i.opcode;
@@ -61,7 +61,7 @@ fn target(w: &[u32], i: Instruction, x: u32) -> i64
 
 // Operations 36 to 47: jmp, jal, jmpr, jalr, and branches on conditions 0 to 7.
 pub fn jumps(w: &mut [u32], i: Instruction, x: u32) -> u32
-    requires { ⌜ MachineWords (now w) × (machineOf (now w) .position .pc < 65536) × (i .creg < 8) × (36 ≤ i .opcode) × (i .opcode ≤ 47) ⌝ }
+    requires { ⌜ MachineWords (now w) × (machineOf (now w) .position .pc < MOST-MEMORY) × (i .creg < 8) × (36 ≤ i .opcode) × (i .opcode ≤ 47) ⌝ }
     ensures { λ r. ⌜ ((y : ℕ) → PerformsSeen (λ v. execute (operationOf (i .opcode)) v i x y) r (now (w .entry)) (now (w .exit))) ⌝ }
 {
     if taken(w, i) {

@@ -1,5 +1,4 @@
 // Loads and stores.
-ghost use mathlib.Core.Path.{_≡_};
 ghost use Prim.Native.Nat.{ℕ, _≤_, _<_};
 ghost use Rattle.isa.specs.Operation.{operationOf};
 ghost use Rattle.machine.specs.Words.{MachineWords};

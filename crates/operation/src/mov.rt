@@ -1,5 +1,4 @@
 // Operations that move a value: mov, not, mulhi, cmp, cmpi, lli, lui.
-ghost use mathlib.Core.Path.{_≡_};
 ghost use Prim.Native.Nat.{ℕ, _+_, _*_, _%_, _^_, _≤_, _<_};
 ghost use Rattle.word.specs.Word.{wordOf};
 ghost use Rattle.isa.specs.Operation.{operationOf, mulhi};

@@ -1,6 +1,6 @@
 // Operations on the machine's status: calls and returns, modes, all condition registers at once.
 ghost use mathlib.Core.Path.{_≡_};
-ghost use Prim.Native.Nat.{ℕ, _≤_, _<_};
+ghost use Prim.Native.Nat.{ℕ, _≤_};
 ghost use Rattle.isa.specs.Operation.{operationOf, reti};
 ghost use Rattle.machine.specs.Words.{MachineWords, machineOf};
 ghost use Rattle.operation.specs.Execute.{packed, execute};

@@ -1,6 +1,6 @@
 -- Which interrupt is accepted: a pending one that is not masked, with a priority number below those of all in service, hence one not in service. Assumes nothing.
 use mathlib.Core.Path.{_≡_, refl, ap}
-use mathlib.Core.Bool.{Bool, true, false, _&&_, _||_}
+use mathlib.Core.Bool.{true, false, _&&_}
 use mathlib.Core.List.{List, [], _∷_}
 use mathlib.Core.Option.{Option, none, some}
 use Prim.Native.Nat.{ℕ, zero, suc, _<_}
@@ -9,14 +9,13 @@ use lib.Dec.{eqb}
 use borrow.Author.Tests.{ltb-true, eqb-true}
 use Rattle.word.specs.Word.{bitAt}
 use Rattle.word.specs.Flags.{isAmong}
-use Rattle.word.proofs.Tests.{and-parts}
+use Rattle.word.proofs.Tests.{either, and-parts, if-holds}
 use Rattle.machine.specs.Machine.{Machine}
 use Rattle.machine.specs.Control.{controlAt, INT-MASK, INT-PEND}
 use Rattle.machine.specs.Stack.{sourcesOf}
 use Rattle.machine.specs.declared.Entry.{Entry}
 use Rattle.view.specs.View.{View}
 use Rattle.step.specs.Interrupt.{priority, belowAll, eligible, before, candidate, mayAccept, acceptedSource}
-use Rattle.word.proofs.Tests.{if-holds}
 
 pub record Accepted (m : Machine) (n : ℕ) : Type 0 where
   pub below : n < 12
@@ -31,15 +30,12 @@ unfolding belowAll sourcesOf isAmong
 urgent-new m n [] h = refl
 urgent-new m n (e ∷ es) h =
     let t = and-parts _ (belowAll m (priority m n) es) h in
-    other (eqb (e .source) n) refl (ltb-true _ _ (t .0)) (urgent-new m n es (t .1))
-  where
-    other : (b : Bool) → eqb (e .source) n ≡ b → priority m n < priority m (e .source) → isAmong n (sourcesOf es) ≡ false → b || isAmong n (sourcesOf es) ≡ false
-    other true q l r =
-        let same : priority m (e .source) ≡ priority m n = ap (priority m) (eqb-true (e .source) n q) in
-        absurd (omega arith)
-    other false q l r = r
+    let l : priority m n < priority m (e .source) = ltb-true _ _ (t .0) in
+    either (eqb (e .source) n)
+    (λ q. let same : priority m (e .source) ≡ priority m n = ap (priority m) (eqb-true (e .source) n q) in absurd (omega arith))
+    (λ q. rw q (urgent-new m n es (t .1)))
 
-pub none-some : {n : ℕ} → none ≡ some n → ⊥
+pub none-some : {A : Type 0} {x : A} → none ≡ some x → ⊥
 none-some e = let z : _≡_ {A = ℕ} 0 1 = cc in omega arith
 
 pub candidate-eligible : (m : Machine) (k n : ℕ) → candidate m k ≡ some n → (n < k) × (eligible m n ≡ true)

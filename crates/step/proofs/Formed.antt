@@ -3,10 +3,10 @@ use mathlib.Core.Path.{_≡_, refl, sym, ap, _∙_}
 use mathlib.Core.Bool.{Bool, true, false, true≢false}
 use mathlib.Core.List.{List, _∷_}
 use mathlib.Core.Option.{Option, none, some}
-use Prim.Native.Nat.{ℕ, zero, suc, _+_, _*_, _/_, _%_, _^_, _<_}
+use Prim.Native.Nat.{ℕ, zero, suc, _+_, _/_, _%_, _^_, _<_}
 use native.Mathlib.Omega.{arith}
 use native.Mathlib.Nat.{mod-lt}
-use lib.ListN.{length, getD, set, length-set}
+use lib.ListN.{length}
 use lib.Dec.{eqb, lit<}
 use borrow.Author.Tests.{eqb-false}
 use Rattle.word.specs.Choice.{if_then_else_}
@@ -15,11 +15,10 @@ use Rattle.word.specs.Flags.{isAmong}
 use Rattle.word.proofs.Flags.{without-below}
 use Rattle.codec.proofs.Laws.{Below}
 use Rattle.machine.specs.Machine.{Machine, State, PSR, SPSR, LINK, SUPER, psr, userMode, readsSet2, writesSet2, wideWords, interruptsEnabled, statusOf, withRegister, written}
-use Rattle.machine.specs.Control.{controlAt, registers, registerAt, holdsAs, INT-VECTORS, INT-MODE-IL, INT-MODE-UM, INT-PEND, SYSTEM-ADDR, EXCEP-ADDR, EXCEPTION-CS, EXCEPTION-PC, EXCEPTION-PSR, withPending}
-use Rattle.machine.proofs.Lists.{each-set}
+use Rattle.machine.specs.Control.{controlAt, registers, registerAt, holdsAs, INT-VECTORS, INT-PEND, SYSTEM-ADDR, EXCEP-ADDR, EXCEPTION-CS, EXCEPTION-PC, EXCEPTION-PSR, withPending}
 use Rattle.machine.proofs.Bits.{status-small, status-low, status-user, status-kept}
 use Rattle.machine.proofs.Registers.{holds-small}
-use Rattle.formed.proofs.Formed.{sized-set, StatusOk, registers-below, Stacked, pushed, stacked-depth, WellFormed}
+use Rattle.formed.proofs.Formed.{sized-set, StatusOk, registers-below, Stacked, pushed, WellFormed}
 use Rattle.view.specs.View.{View, view}
 use Rattle.effect.specs.Apply.{writeRegister, writeFlags, unpacked, wordsOn, nextPc, advance, advanceHolding, jumpTo, raise, systemCall, userReturn, interruptReturn, enableInterrupts, switchWidth, selectSets, machineOnly, storeCell, updated, apply}
 use Rattle.execute.specs.Decide.{decide}
@@ -231,10 +230,6 @@ accept-formed {m} {n} a f =
     (stack-formed (accepted-stacked a f)
     (pending-formed (without-below n (controlAt m INT-PEND) 12 pending) f)))
 
--- one is accepted only where the stack has room
-pub accepted-room : {m : Machine} {n : ℕ} → Accepted m n → WellFormed m → length (m .stack) < 12
-accepted-room a f = stacked-depth (accepted-stacked a f)
-
 -- ---- the step
 
 -- what holds of the state before it, of what an accepted interrupt leaves and of what the decided effect leaves, holds of the state after it
@@ -261,30 +256,3 @@ step-formed p s q f =
     let v = view p r in
     let g = requests-formed s q f in
     step-holds (λ (t : State). WellFormed (t .machine)) p s q f (λ n a. accept-formed a g) (apply-formed p r (decide v) (decide-safe v) g)
-
--- ---- the data memory
-
--- what holds of it and goes on holding when a cell takes a word holds after an effect, and after a step
-module _ (P : List ℕ → Type 0) (more : (l : List ℕ) (a x : ℕ) → P l → P (set l a (x % 2 ^ 32))) where
-  pub apply-cells : (e : Effect) (s : State) → P (s .memory .cells) → P (apply e s .after .memory .cells)
-  unfolding apply machineOnly storeCell
-  apply-cells (Stopped n) s h = h
-  apply-cells (Raised c) s h = h
-  apply-cells SystemCall s h = h
-  apply-cells InterruptReturn s h = h
-  apply-cells (StoreCell a x) s h = more (s .memory .cells) a x h
-  apply-cells (Updates u) s h = h
-
-  pub step-cells : (program : List ℕ) (s : State) (requests : ℕ) → P (s .memory .cells) → P (step program s requests .after .memory .cells)
-  unfolding withRequests
-  step-cells p s q h =
-      let r = withRequests q s in
-      step-holds (λ (t : State). P (t .memory .cells)) p s q h (λ n a. h) (apply-cells (decide (view p r)) r h)
-
--- as many cells as before
-pub step-count : (program : List ℕ) (s : State) (requests : ℕ) → length (step program s requests .after .memory .cells) ≡ length (s .memory .cells)
-step-count p s q = step-cells (λ (l : List ℕ). length l ≡ length (s .memory .cells)) (λ l a x h. length-set l a (x % 2 ^ 32) ∙ h) p s q refl
-
--- and each of them a word
-pub step-words : (program : List ℕ) (s : State) (requests : ℕ) → Below (2 ^ 32) (s .memory .cells) → Below (2 ^ 32) (step program s requests .after .memory .cells)
-step-words p s q h = step-cells (Below (2 ^ 32)) (λ l a x b. each-set (λ j y. y < 2 ^ 32) l a (x % 2 ^ 32) b (mod-lt x (lit< tt))) p s q h

@@ -1,4 +1,4 @@
--- The numbers of stops: 11 to 15 (01 "One step"), so that 0 tells a step. Assumes nothing.
+-- The numbers of stops: 11 to 15 (01 "One step"), so that 0 reports a step. Assumes nothing.
 use mathlib.Core.Path.{_≡_, refl, sym}
 use mathlib.Core.Bool.{true, false, true≢false}
 use mathlib.Core.List.{List}

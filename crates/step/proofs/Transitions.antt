@@ -39,7 +39,7 @@ module _ (program : List ℕ) (s : State) (requests : ℕ) (r : State) (added : 
   unfolding step interruptOr machineOnly isStop if_then_else_ reported stopNumber
   step-accepts n o = rw (← added, o)
 
-  -- no source is accepted: the instruction is carried out, and t is what that tells
+  -- no source is accepted: the instruction is carried out, and t is what that reports
   module _ (t : Report) (o : acceptedSource (view program r) (r .machine) ≡ none) (done : t ≡ reported (apply (decide (view program r)) r)) where
     abbrev instruction : Transition
     instruction = apply (decide (view program r)) r

@@ -1,6 +1,6 @@
 -- The search for the source to accept: what one turn of it does, and that it finds the candidate of a well-formed machine. Assumes nothing.
 use mathlib.Core.Path.{_≡_, refl, sym, ap, _∙_}
-use mathlib.Core.Bool.{Bool, true, false, _&&_, and-false}
+use mathlib.Core.Bool.{Bool, true, false, _&&_, and-true, and-false, and-assoc}
 use mathlib.Core.List.{List}
 use mathlib.Core.Option.{Option, none, some}
 use Prim.Native.Nat.{ℕ, zero, suc, _/_, _%_, _^_, _≤_, _<_, min}
@@ -13,7 +13,7 @@ use Rattle.word.specs.Choice.{if_then_else_}
 use Rattle.word.specs.Word.{bitAt}
 use Rattle.word.specs.Arithmetic.{andOf}
 use Rattle.word.specs.Flags.{withFlag, flagsAt}
-use Rattle.word.proofs.Tests.{and-parts}
+use Rattle.word.proofs.Tests.{either, and-parts, if-holds}
 use Rattle.word.proofs.Bounds.{field-below}
 use Rattle.word.proofs.Bitwise.{and-is}
 use Rattle.word.proofs.Flags.{with-same, with-other}
@@ -25,17 +25,9 @@ use Rattle.formed.proofs.Formed.{Stacked, empty, pushed, registers-below, WellF
 use Rattle.view.specs.View.{View}
 use Rattle.step.specs.Interrupt.{priority, belowAll, eligible, before, candidate, mayAccept, acceptedSource}
 use Rattle.step.specs.Search.{sourceNumber, waiting, priorityOr, mostUrgent, serviceFloor}
-use Rattle.word.proofs.Tests.{if-holds}
 use Rattle.step.proofs.Accepted.{none-some, candidate-eligible}
 
 -- ---- tests
-
--- a test moved to another place
-and-last : (a b c : Bool) → (a && (b && c)) && true ≡ (a && b) && c
-and-last true true true = refl
-and-last true true false = refl
-and-last true false c = refl
-and-last false b c = refl
 
 -- a test that another implies
 and-implied : (a b c d : Bool) → (d ≡ true → c ≡ true) → (a && (b && c)) && d ≡ (a && b) && d
@@ -93,23 +85,16 @@ abbrev floorOf : (flags : ℕ) (m : Machine) (k : ℕ) → ℕ
 floorOf flags m k = priorityOr 16 m (mostUrgent flags 16 m k)
 
 module _ (m : Machine) where
-  floor-nearer : (flags k : ℕ) → bitAt k flags ≡ true → (b : Bool) → ltb (priority m k) (floorOf flags m k) ≡ b
-      → floorOf flags m (suc k) ≡ min (priority m k) (floorOf flags m k)
+  floor-nearer : (flags k : ℕ) → bitAt k flags ≡ true → floorOf flags m (suc k) ≡ min (priority m k) (floorOf flags m k)
   unfolding priorityOr
-  floor-nearer flags k e true l =
-      let h : priority m k < floorOf flags m k = ltb-true _ _ l in
-      rw (more-urgent flags 16 m k e h) (omega arith)
-  floor-nearer flags k e false l =
-      let h : floorOf flags m k ≤ priority m k = ltb-false _ _ l in
-      rw (less-urgent flags 16 m k h) (omega arith)
+  floor-nearer flags k e =
+      either (ltb (priority m k) (floorOf flags m k))
+      (λ l. let h : priority m k < floorOf flags m k = ltb-true _ _ l in rw (more-urgent flags 16 m k e h) (omega arith))
+      (λ l. let h : floorOf flags m k ≤ priority m k = ltb-false _ _ l in rw (less-urgent flags 16 m k h) (omega arith))
 
   floor-step : (flags k : ℕ) → floorOf flags m (suc k) ≡ if_then_else_ (bitAt k flags) (min (priority m k) (floorOf flags m k)) (floorOf flags m k)
-  unfolding if_then_else_
-  floor-step flags k = go (bitAt k flags) refl
-    where
-      go : (b : Bool) → bitAt k flags ≡ b → floorOf flags m (suc k) ≡ if_then_else_ b (min (priority m k) (floorOf flags m k)) (floorOf flags m k)
-      go true e = floor-nearer flags k e (ltb (priority m k) (floorOf flags m k)) refl
-      go false e = ap (priorityOr 16 m) (no-flag flags 16 m k e)
+  floor-step flags k =
+      if-holds (λ p. floorOf flags m (suc k) ≡ p) (bitAt k flags) (floor-nearer flags k) (λ e. ap (priorityOr 16 m) (no-flag flags 16 m k e))
 
   -- one flag more
   module _ (n flags : ℕ) where
@@ -123,15 +108,11 @@ module _ (m : Machine) where
     floor-with : (k : ℕ) → n < k → floorOf (withFlag n flags) m k ≡ min (priority m n) (floorOf flags m k)
     unfolding if_then_else_
     floor-with zero h = absurd (omega arith)
-    floor-with (suc k) h = rw (floor-step (withFlag n flags) k, floor-step flags k) (go (floor-with k) (eqb k n) refl (bitAt k flags) refl)
-      where
-        go : (n < k → floorOf (withFlag n flags) m k ≡ min (priority m n) (floorOf flags m k)) → (same : Bool) → eqb k n ≡ same → (b : Bool) → bitAt k flags ≡ b
-            → if_then_else_ (bitAt k (withFlag n flags)) (min (priority m k) (floorOf (withFlag n flags) m k)) (floorOf (withFlag n flags) m k)
-            ≡ min (priority m n) (if_then_else_ b (min (priority m k) (floorOf flags m k)) (floorOf flags m k))
-        go r true e true f = let s = eqb-true k n e in rw (s, with-same n flags, floor-apart n (omega arith)) (omega arith)
-        go r true e false f = let s = eqb-true k n e in rw (s, with-same n flags, floor-apart n (omega arith))
-        go r false e true f = let d = eqb-false k n e in rw (with-other n flags k d, f, r (omega arith)) (omega arith)
-        go r false e false f = let d = eqb-false k n e in rw (with-other n flags k d, f, r (omega arith))
+    floor-with (suc k) h =
+        rw (floor-step (withFlag n flags) k, floor-step flags k)
+        (either (eqb k n)
+        (λ e. let s = eqb-true k n e in rw (s, with-same n flags, floor-apart n (omega arith)) (either (bitAt n flags) (λ f. rw f (omega arith)) (λ f. rw f)))
+        (λ e. let d = eqb-false k n e in rw (with-other n flags k d, floor-with k (omega arith)) (either (bitAt k flags) (λ f. rw f (omega arith)) (λ f. rw f))))
 
   below-floor : {es : List Entry} (p : ℕ) → p < 16 → Stacked es → belowAll m p es ≡ ltb p (floorOf (serviceFlags es) m 12)
   unfolding belowAll serviceFlags sourcesOf flagsAt priorityOr
@@ -184,7 +165,7 @@ module _ (m : Machine) (f : WellFormed m) where
   unfolding eligible before priorityOr
   candidate-test k none e =
       rw (waiting-bit m k f, below-service m (priority m k) (priority-small m k) f)
-      (and-last (bitAt k (controlAt m INT-PEND)) (bitAt k (controlAt m INT-MASK)) (ltb (priority m k) (serviceFloor m)))
+      (and-true _ ∙ sym (and-assoc (bitAt k (controlAt m INT-PEND)) (bitAt k (controlAt m INT-MASK)) (ltb (priority m k) (serviceFloor m))))
   candidate-test k (some j) e =
       rw (waiting-bit m k f)
       (and-implied (bitAt k (controlAt m INT-PEND)) (bitAt k (controlAt m INT-MASK)) (belowAll m (priority m k) (m .stack)) (ltb (priority m k) (priority m j))

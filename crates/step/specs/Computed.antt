@@ -1,10 +1,10 @@
--- To unfold `steps` is to unfold all definitions of this crate, of `apply`, and the bytes of numbers.
+-- To unfold `steps` is to unfold all definitions of this crate and of `execute`, and the bytes of numbers; each file ends with its own.
 use Rattle.codec.specs.Number.{bytesOf}
 use Rattle.execute.specs.Computed.{decisions}
-use Rattle.step.specs.Interrupt.{withRequests, priority, belowAll, eligible, before, candidate, isMulhi, mayAccept, acceptedSource, servicePsr, entryFor, accept}
-use Rattle.step.specs.Step.{isStop, interruptOr, step}
-use Rattle.step.specs.Search.{sourceNumber, waiting, priorityOr, mostUrgent, serviceFloor}
+use Rattle.step.specs.Interrupt.{interrupting}
+use Rattle.step.specs.Step.{stepping}
+use Rattle.step.specs.Search.{searching}
 
 unfoldable pub steps : Unit {0}
-unfolding decisions bytesOf withRequests priority belowAll eligible before candidate isMulhi mayAccept acceptedSource servicePsr entryFor accept isStop interruptOr step sourceNumber waiting priorityOr mostUrgent serviceFloor
+unfolding bytesOf decisions interrupting stepping searching
 steps = tt

@@ -94,3 +94,8 @@ accept n m =
     (withPsr (servicePsr n m)
     (withStack (entryFor n m ∷ m .stack)
     (withPending (withoutFlag n (controlAt m INT-PEND)) m)))
+
+-- to unfold all of these
+unfoldable pub interrupting : Unit {0}
+unfolding withRequests priority belowAll eligible before candidate isMulhi mayAccept acceptedSource servicePsr entryFor accept
+interrupting = tt

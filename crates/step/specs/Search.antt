@@ -34,3 +34,8 @@ mostUrgent flags bound m (suc k) =
 -- the smallest priority number in service; 16, above all, when nothing is
 unfoldable pub serviceFloor : Machine → ℕ
 serviceFloor m = priorityOr 16 m (mostUrgent (controlAt m INT-SERV) 16 m 12)
+
+-- to unfold all of these
+unfoldable pub searching : Unit {0}
+unfolding sourceNumber waiting priorityOr mostUrgent serviceFloor
+searching = tt

@@ -35,3 +35,8 @@ stepSeeing see s requests =
 -- one step of a program
 unfoldable pub step : (program : List ℕ) → State → (requests : ℕ) → Transition
 step program = stepSeeing (view program)
+
+-- to unfold all of these
+unfoldable pub stepping : Unit {0}
+unfolding isStop interruptOr step
+stepping = tt

@@ -1,7 +1,6 @@
 -- The worked examples of 01 that are marked *, as a table: one step from a start, what is shown of it, and what that must be. Assumes nothing.
-use mathlib.Core.Bool.{Bool, true, false}
 use mathlib.Core.List.{List, [], _∷_}
-use Prim.Native.Nat.{ℕ, _+_, _*_, _/_, _%_, _^_}
+use Prim.Native.Nat.{ℕ, _+_, _*_, _^_}
 use lib.ListN.{getD, set, replicate}
 use Rattle.isa.specs.Operation.{Operation, add, sub, subu, muls, mulu, mulus, ld, jmp, Properties, properties}
 use Rattle.machine.specs.Machine.{Machine, memoryOf, State, PSR, positionAt}

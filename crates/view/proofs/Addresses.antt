@@ -9,14 +9,13 @@ use lib.IntN.{ℤ}
 use lib.ListN.{length}
 use borrow.Author.Tests.{leb-true, ltb-true}
 use Rattle.word.specs.Word.{wordOf, isAddress}
-use Rattle.word.proofs.Tests.{and-parts}
+use Rattle.word.proofs.Tests.{and-parts, if-holds}
 use Rattle.word.proofs.Bounds.{word-below}
 use Rattle.machine.specs.Machine.{State, psr, userMode}
 use Rattle.machine.specs.Control.{controlAt, protectedCell, CCB-BASE}
 use Rattle.view.specs.View.{View, inBlock, foundAt, placeAt, view}
 use Rattle.view.specs.declared.Place.{Place}
 use Rattle.view.specs.declared.Place.the-variants.{Block, Cell, Denied, Missing}
-use Rattle.word.proofs.Tests.{if-holds}
 
 -- some data address names a place
 abbrev pub Reached : View → Place → Type 0

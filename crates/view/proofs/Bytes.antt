@@ -1,6 +1,6 @@
 -- The bytes of an instruction word: which are protected, which are there. Assumes nothing.
 use mathlib.Core.Path.{_≡_, refl, sym, ap, _∙_}
-use mathlib.Core.Bool.{Bool, true, false, not, _&&_, _||_, and-false, true≢false}
+use mathlib.Core.Bool.{Bool, true, false, not, _&&_, _||_, and-true, and-false, and-assoc, and-comm, true≢false}
 use mathlib.Core.List.{List, [], _∷_}
 use mathlib.Core.Option.{none, some}
 use Prim.Native.Nat.{ℕ, zero, suc, _+_, _-_, _*_, _/_, _%_, _^_, _≤_, _<_}
@@ -11,6 +11,7 @@ use lib.Dec.{leb, ltb, eqb}
 use lib.ListN.{length, getD, getElem?}
 use borrow.Author.Tests.{leb-true, leb-false, le-leb, lt-leb, ltb-true, ltb-false, eqb-true, eqb-false, eq-eqb, ne-eqb}
 use Rattle.word.specs.Choice.{if_then_else_}
+use Rattle.word.proofs.Tests.{either, and-parts, false-unless}
 use Rattle.codec.specs.Number.{numberAt}
 use Rattle.isa.specs.Operation.{Width, w16, w32, widthBy}
 use Rattle.isa.specs.Decode.{wordBytes}
@@ -25,11 +26,10 @@ use Rattle.view.specs.declared.Fetched.the-variants.{Word, Fault, Absent
 some-within : (low high a n : ℕ) → low ≤ high → low ≤ a + n → a ≤ high → anyWithin low high a (suc n) ≡ true
 unfolding anyWithin within
 some-within low high a zero h l k = let e : low ≤ a = omega arith in simp (le-leb low a e, le-leb a high k)
-some-within low high a (suc n) h l k = go (leb low a) refl (some-within low high (suc a) n h)
-  where
-    go : (b : Bool) → leb low a ≡ b → (low ≤ suc a + n → suc a ≤ high → anyWithin low high (suc a) (suc n) ≡ true) → anyWithin low high a (suc (suc n)) ≡ true
-    go true e later = simp (e, le-leb a high k)
-    go false e later = let f : a < low = leb-false low a e in rw e (later (omega arith) (omega arith))
+some-within low high a (suc n) h l k =
+    either (leb low a)
+    (λ e. simp (e, le-leb a high k))
+    (λ e. let f : a < low = leb-false low a e in rw e (some-within low high (suc a) n h (omega arith) (omega arith)))
 
 -- none of them is within the bounds
 none-within : (low high a n : ℕ) → ((x : ℕ) → a ≤ x → x < a + n → within low high x ≡ false) → anyWithin low high a n ≡ false
@@ -38,52 +38,35 @@ none-within low high a zero f = refl
 none-within low high a (suc n) f =
     rw (f a (omega arith) (omega arith)) (none-within low high (suc a) n (λ x l h. f x (omega arith) (omega arith)))
 
-below-bounds : (low high x : ℕ) → x < low → within low high x ≡ false
+-- one of them is, and so the two ranges overlap
+one-within : (low high a n x : ℕ) → a ≤ x → x < a + n → within low high x ≡ true → (leb low high && leb low (a + (n - 1))) && leb a high ≡ true
 unfolding within
-below-bounds low high x h = rw (lt-leb low x h)
-
-above-bounds : (low high x : ℕ) → high < x → within low high x ≡ false
-unfolding within
-above-bounds low high x h = rw (lt-leb x high h) (and-false (leb low x))
+one-within low high a n x l k w =
+    let t = and-parts (leb low x) (leb x high) w in
+    let from = leb-true low x (t .0) in
+    let to = leb-true x high (t .1) in
+    rw (le-leb low high (omega arith), le-leb low (a + (n - 1)) (omega arith), le-leb a high (omega arith))
 
 -- one of n addresses is within bounds exactly where the two ranges overlap
 overlap : (low high a n : ℕ) → 0 < n → (leb low high && leb low (a + (n - 1))) && leb a high ≡ anyWithin low high a n
 overlap low high a zero p = absurd (omega arith)
-overlap low high a (suc n) p = go (leb low high) refl (leb low (a + (suc n - 1))) refl (leb a high) refl
-  where
-    go : (b : Bool) → leb low high ≡ b → (c : Bool) → leb low (a + (suc n - 1)) ≡ c → (d : Bool) → leb a high ≡ d
-        → (b && c) && d ≡ anyWithin low high a (suc n)
-    go true e true f true g =
-        let h = leb-true low high e in
-        let l = leb-true low (a + (suc n - 1)) f in
-        sym (some-within low high a n h (omega arith) (leb-true a high g))
-    go true e true f false g =
-        let h = leb-false a high g in
-        sym (none-within low high a (suc n) (λ x l k. above-bounds low high x (omega arith)))
-    go true e false f d g =
-        let h = leb-false low (a + (suc n - 1)) f in
-        sym (none-within low high a (suc n) (λ x l k. below-bounds low high x (omega arith)))
-    go false e c f d g =
-        let h = leb-false low high e in
-        sym (none-within low high a (suc n) (λ x l k. apart x (ltb x low) refl))
-      where
-        apart : (x : ℕ) (b : Bool) → ltb x low ≡ b → within low high x ≡ false
-        apart x true t = below-bounds low high x (ltb-true x low t)
-        apart x false t = let k = ltb-false x low t in let h = leb-false low high e in above-bounds low high x (omega arith)
+overlap low high a (suc n) p =
+    either ((leb low high && leb low (a + (suc n - 1))) && leb a high)
+    (λ e.
+    let t = and-parts (leb low high && leb low (a + (suc n - 1))) (leb a high) e in
+    let u = and-parts (leb low high) (leb low (a + (suc n - 1))) (t .0) in
+    let l = leb-true low (a + (suc n - 1)) (u .1) in
+    e ∙ sym (some-within low high a n (leb-true low high (u .0)) (omega arith) (leb-true a high (t .1))))
+    (λ e. e ∙ sym (none-within low high a (suc n) (λ x l k. false-unless (within low high x) (λ w. true≢false (sym (one-within low high a (suc n) x l k w) ∙ e)))))
 
 -- past the upper bound none is within; below it the code's test says whether the ranges overlap
 pub overlap-past : (user : Bool) (low high a n : ℕ) → 0 < n → high < a → false ≡ user && anyWithin low high a n
 overlap-past user low high a n p h = rw (← (overlap low high a n p), lt-leb a high h, and-false (leb low high && leb low (a + (n - 1)))) (sym (and-false user))
 
 pub overlap-test : (user : Bool) (low high a n : ℕ) → 0 < n → a ≤ high → (user && leb low (a + (n - 1))) && leb low high ≡ user && anyWithin low high a n
-overlap-test user low high a n p h = rw (← (overlap low high a n p), le-leb a high h) (go user (leb low high) (leb low (a + (n - 1))))
-  where
-    go : (u b c : Bool) → (u && c) && b ≡ u && ((b && c) && true)
-    go true true true = refl
-    go true true false = refl
-    go true false true = refl
-    go true false false = refl
-    go false b c = refl
+overlap-test user low high a n p h =
+    rw (← (overlap low high a n p), le-leb a high h, and-true (leb low high && leb low (a + (n - 1))))
+    (and-assoc user (leb low (a + (n - 1))) (leb low high) ∙ ap (λ t. user && t) (and-comm (leb low (a + (n - 1))) (leb low high)))
 
 -- ---- alignment
 
@@ -101,11 +84,7 @@ alignment wide a = go wide (eqb (a % 2) 1) refl (eqb (a / 2 % 2) 1) refl
 
 -- what is not misaligned is aligned
 pub aligned-at : (n a : ℕ) (r : Bool) → r ≡ not (eqb (a % n) 0) → r ≡ false → a % n ≡ 0
-aligned-at n a r e f = go (eqb (a % n) 0) refl
-  where
-    go : (b : Bool) → eqb (a % n) 0 ≡ b → a % n ≡ 0
-    go true t = eqb-true (a % n) 0 t
-    go false t = absurd (true≢false (sym (e ∙ ap not t) ∙ f))
+aligned-at n a r e f = either (eqb (a % n) 0) (eqb-true (a % n) 0) (λ t. absurd (true≢false (sym (e ∙ ap not t) ∙ f)))
 
 -- ---- presence
 
@@ -135,13 +114,10 @@ bytes-there program (suc n) a w h =
 pub bytes-absent : (program : List ℕ) (n a w : ℕ) → 0 < n → length program < a + n → bytesAt program n a w ≡ Absent
 unfolding bytesAt byteThen
 bytes-absent program zero a w p h = absurd (omega arith)
-bytes-absent program (suc n) a w p h = go (ltb a (length program)) refl (bytes-absent program n (suc a) (w * 256 + getD program a 0))
-  where
-    go : (b : Bool) → ltb a (length program) ≡ b
-        → (0 < n → length program < suc a + n → bytesAt program n (suc a) (w * 256 + getD program a 0) ≡ Absent)
-        → bytesAt program (suc n) a w ≡ Absent
-    go true t later = let l = ltb-true a (length program) t in rw (element-there program a l) (later (omega arith) (omega arith))
-    go false t later = rw (element-absent program a (ltb-false a (length program) t))
+bytes-absent program (suc n) a w p h =
+    either (ltb a (length program))
+    (λ t. let l = ltb-true a (length program) t in rw (element-there program a l) (bytes-absent program n (suc a) _ (omega arith) (omega arith)))
+    (λ t. rw (element-absent program a (ltb-false a (length program) t)))
 
 -- a word is fetched only where all bytes are there
 not-fetched : (b c : Bool) (f : Fetched) (w : ℕ) → f ≡ Absent → (if b then Fault 0x05 else if c then Fault 0x00 else f) ≡ Word w → ⊥
@@ -153,11 +129,9 @@ not-fetched false false f w a e = let z : _≡_ {A = ℕ} 0 1 = cc in omega arit
 pub fetched-inside : (program : List ℕ) (low high : ℕ) (user : Bool) (n pc w : ℕ) → 0 < n
     → fetchAt program low high user n pc ≡ Word w → pc + n ≤ length program
 unfolding fetchAt
-fetched-inside program low high user n pc w p e = go (leb (pc + n) (length program)) refl
-  where
-    go : (b : Bool) → leb (pc + n) (length program) ≡ b → pc + n ≤ length program
-    go true t = leb-true (pc + n) (length program) t
-    go false t = absurd (not-fetched _ _ _ w (bytes-absent program n pc 0 p (leb-false (pc + n) (length program) t)) e)
+fetched-inside program low high user n pc w p e =
+    either (leb (pc + n) (length program)) (leb-true (pc + n) (length program))
+    (λ t. absurd (not-fetched _ _ _ w (bytes-absent program n pc 0 p (leb-false (pc + n) (length program) t)) e))
 
 -- words of 32 and of 16 bits
 pub four-bytes : (program : List ℕ) (a : ℕ) → a + 4 ≤ length program → bytesAt program 4 a 0 ≡ Word (numberAt program a)

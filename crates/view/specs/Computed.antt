@@ -1,7 +1,7 @@
--- To unfold `views` is to unfold all definitions of this crate and of `machine`.
+-- To unfold `views` is to unfold all definitions of this crate and of `machine`; each file ends with its own.
 use Rattle.machine.specs.Computed.{machines}
-use Rattle.view.specs.View.{anyWithin, byteThen, bytesAt, fetchAt, inBlock, foundAt, placeAt, heldAt, nestedBy, view, conditionFalse}
+use Rattle.view.specs.View.{seeing}
 
 unfoldable pub views : Unit {0}
-unfolding machines anyWithin byteThen bytesAt fetchAt inBlock foundAt placeAt heldAt nestedBy view conditionFalse
+unfolding machines seeing
 views = tt

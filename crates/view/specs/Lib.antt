@@ -1,4 +1,3 @@
--- What the next instruction does: what it may see (View), what it can do (Effect), what each operation does (Execute), the order of the
--- tests (Decide).
+-- What the next instruction may see of the machine and the memories (View).
 pub mod View
 pub mod Computed

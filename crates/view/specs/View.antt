@@ -9,7 +9,6 @@ use lib.Dec.{leb, ltb, eqb}
 use lib.IntN.{ℤ}
 use Rattle.word.specs.Choice.{if_then_else_}
 use Rattle.word.specs.Word.{wordOf, isAddress}
-use Rattle.isa.specs.Operation.{Width}
 use Rattle.isa.specs.Condition.{conditionOf, holds}
 use Rattle.isa.specs.declared.Instruction.{Instruction}
 use Rattle.isa.specs.Decode.{wordBytes}
@@ -127,3 +126,8 @@ Shows f r words = (program : List ℕ) (memory : Memory) → r ≡ f (viewOf pro
 -- a conditional instruction whose condition is false of its condition register
 unfoldable pub conditionFalse : View → Instruction → Bool
 conditionFalse v i = i .conditional && not (holds (conditionOf (i .condition)) (getD (v .conditions) (i .creg) 0))
+
+-- to unfold all of these
+unfoldable pub seeing : Unit {0}
+unfolding anyWithin byteThen bytesAt fetchAt inBlock foundAt placeAt heldAt nestedBy view conditionFalse
+seeing = tt

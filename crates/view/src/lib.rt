@@ -1,5 +1,4 @@
 // What the next instruction may see: the instruction word, its sources, what a data address names, whether its condition holds.
-ghost use mathlib.Core.Path.{_≡_};
 ghost use Prim.Native.Nat.{_<_};
 ghost use Rattle.machine.specs.Words.{MachineWords};
 ghost use Rattle.view.specs.View.{View, Shows, conditionFalse};

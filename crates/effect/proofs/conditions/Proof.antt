@@ -1,11 +1,11 @@
 -- `effect::conditions` meets its contract. Assumes nothing.
-use Rattle.effect.proofs.Report.{reports}
 use borrow.Author.Needs.{needs}
+use Rattle.effect.specs.Apply.{applying}
 use Rattle.effect.proofs.conditions.Statement.{statement}
 use Rattle.effect.proofs.conditions.Tie as tie
 
 returns : tie.Need-returns
-unfolding reports
+unfolding applying
 returns c memory =
     let c1 = c .before .before in
     let c2 = c1 .before .before .before .before in

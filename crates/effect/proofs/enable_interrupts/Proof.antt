@@ -1,12 +1,11 @@
 -- `effect::enable_interrupts` meets its contract. Assumes nothing.
-use Rattle.effect.specs.Apply.{enableInterrupts}
-use Rattle.effect.proofs.Report.{reports}
+use Rattle.effect.specs.Apply.{applying}
 use borrow.Author.Needs.{needs}
 use Rattle.effect.proofs.enable_interrupts.Statement.{statement}
 use Rattle.effect.proofs.enable_interrupts.Tie as tie
 
 returns : tie.Need-returns
-unfolding enableInterrupts reports
+unfolding applying
 returns c memory =
     let c1 = c .before .before in
     let c2 = c1 .before .before .before .before in

@@ -1,8 +1,7 @@
 -- `effect::interrupt_return` meets its contract: the top is read before it is popped. Assumes nothing.
 use Rattle.machine.specs.Stack.{withStack}
 use Rattle.machine.proofs.Stack.{depth-most}
-use Rattle.effect.specs.Apply.{interruptReturn}
-use Rattle.effect.proofs.Report.{reports}
+use Rattle.effect.specs.Apply.{applying}
 use borrow.Author.Needs.{needs}
 use Rattle.effect.proofs.interrupt_return.Statement.{statement}
 use Rattle.effect.proofs.interrupt_return.Tie as tie
@@ -11,7 +10,7 @@ top-requires : tie.Need-top-requires
 top-requires c κs = (search needs, depth-most _ (c .before .before .pre .1 .distinct))
 
 returns : tie.Need-returns
-unfolding interruptReturn withStack reports
+unfolding withStack applying
 returns c memory =
     let c1 = c .before .before in
     let c2 = c1 .before .before .before .before in

@@ -1,11 +1,11 @@
 -- `effect::next` meets its contract. Assumes nothing.
-use Rattle.effect.proofs.Report.{reports}
 use borrow.Author.Needs.{needs}
+use Rattle.effect.specs.Apply.{applying}
 use Rattle.effect.proofs.next.Statement.{statement}
 use Rattle.effect.proofs.next.Tie as tie
 
 returns : tie.Need-returns
-unfolding reports
+unfolding applying
 returns c memory = rw (c .before .before .advance .ensures)
 
 pub next-spec : {M : Type 1} → statement M

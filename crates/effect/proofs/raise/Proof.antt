@@ -1,13 +1,12 @@
 -- `effect::raise` meets its contract: store by store. Assumes nothing.
 use Rattle.machine.specs.Machine.{withControl}
-use Rattle.effect.specs.Apply.{raise}
-use Rattle.effect.proofs.Report.{reports}
+use Rattle.effect.specs.Apply.{applying}
 use borrow.Author.Needs.{needs}
 use Rattle.effect.proofs.raise.Statement.{statement}
 use Rattle.effect.proofs.raise.Tie as tie
 
 returns : tie.Need-returns
-unfolding raise withControl reports
+unfolding withControl applying
 returns c memory =
     let c1 = c .before .before in
     let c2 = c1 .before .before .before .before in

@@ -1,14 +1,13 @@
 -- `effect::result` meets its contract: the write leaves where control goes on. Assumes nothing.
 use Rattle.machine.specs.Words.{machineOf}
-use Rattle.effect.specs.Apply.{advance}
-use Rattle.effect.proofs.Report.{reports}
+use Rattle.effect.specs.Apply.{applying}
 use Rattle.effect.proofs.Position.{next-written}
 use borrow.Author.Needs.{needs}
 use Rattle.effect.proofs.result.Statement.{statement}
 use Rattle.effect.proofs.result.Tie as tie
 
 returns : tie.Need-returns
-unfolding advance reports
+unfolding applying
 returns c memory =
     let c1 = c .before .before in
     let c2 = c1 .before .before .before .before in

@@ -1,14 +1,13 @@
 -- `effect::result_flags` meets its contract: the writes leave where control goes on. Assumes nothing.
 use Rattle.machine.specs.Words.{machineOf}
-use Rattle.effect.specs.Apply.{writeRegister, advance}
-use Rattle.effect.proofs.Report.{reports}
+use Rattle.effect.specs.Apply.{writeRegister, applying}
 use Rattle.effect.proofs.Position.{next-written, next-flags}
 use borrow.Author.Needs.{needs}
 use Rattle.effect.proofs.result_flags.Statement.{statement}
 use Rattle.effect.proofs.result_flags.Tie as tie
 
 returns : tie.Need-returns
-unfolding advance reports
+unfolding applying
 returns c memory =
     let c1 = c .before .before in
     let c2 = c1 .before .before .before .before in

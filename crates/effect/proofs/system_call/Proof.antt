@@ -1,13 +1,12 @@
 -- `effect::system_call` meets its contract: store by store. Assumes nothing.
 use Rattle.machine.specs.Machine.{withRegister, withSet2}
-use Rattle.effect.specs.Apply.{systemCall}
-use Rattle.effect.proofs.Report.{reports}
+use Rattle.effect.specs.Apply.{applying}
 use borrow.Author.Needs.{needs}
 use Rattle.effect.proofs.system_call.Statement.{statement}
 use Rattle.effect.proofs.system_call.Tie as tie
 
 returns : tie.Need-returns
-unfolding systemCall withRegister withSet2 reports
+unfolding withRegister withSet2 applying
 returns c memory =
     let c1 = c .before .before in
     let c2 = c1 .before .before .before .before in

@@ -1,13 +1,12 @@
 -- `effect::user_return` meets its contract. Assumes nothing.
 use Rattle.machine.specs.Machine.{setBy, wideWords, interruptsEnabled}
-use Rattle.effect.specs.Apply.{userReturn}
-use Rattle.effect.proofs.Report.{reports}
+use Rattle.effect.specs.Apply.{applying}
 use borrow.Author.Needs.{needs}
 use Rattle.effect.proofs.user_return.Statement.{statement}
 use Rattle.effect.proofs.user_return.Tie as tie
 
 returns : tie.Need-returns
-unfolding userReturn setBy wideWords interruptsEnabled reports
+unfolding setBy wideWords interruptsEnabled applying
 returns c memory =
     let c1 = c .before .before in
     let c2 = c1 .before .before .before .before in

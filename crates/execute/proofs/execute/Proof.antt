@@ -5,12 +5,11 @@ use denote.Ref.{now}
 use borrow.Author.Needs.{needs}
 use Rattle.machine.specs.Machine.{psr, widthOf, memoryOf}
 use Rattle.machine.specs.Words.{machineOf}
-use Rattle.view.specs.View.{View, view, viewOf}
-use Rattle.effect.specs.Effect.{Effect}
+use Rattle.view.specs.View.{view, viewOf}
 use Rattle.execute.specs.Decide.{fetchedThen, decide}
 use Rattle.view.specs.declared.Fetched.{Fetched}
 use Rattle.view.proofs.Bytes.{bytes-positive, fetched-inside}
-use Rattle.effect.specs.Apply.{apply, stopNumber, reported, reportOn}
+use Rattle.effect.specs.Apply.{reportOn, applying}
 use Rattle.execute.proofs.execute.Statement.{statement}
 use Rattle.execute.proofs.execute.Tie as tie
 
@@ -50,7 +49,7 @@ returns-2 c =
     c .before .before .raise .ensures (memoryOf (now (entry (match .before) .args .cells))) ∙ given (match .before) _ (c .before .before .before .before .before .fetched2 .given .1)
 
 returns-3 : tie.Need-returns-3
-unfolding fetchedThen reportOn reported stopNumber apply
+unfolding fetchedThen applying
 returns-3 c = given (c .before .before) _ (c .enum-told .given .1)
 
 pub execute-spec : {M : Type 1} → statement M

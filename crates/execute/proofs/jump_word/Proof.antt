@@ -10,7 +10,7 @@ use Rattle.isa.specs.Operation.{operationOf, Properties, properties, unavailabl
 use Rattle.machine.specs.Machine.{Machine, psr, userMode, widthOf}
 use Rattle.machine.specs.Words.{machineOf}
 use Rattle.machine.specs.declared.Position.{Position}
-use Rattle.effect.specs.Apply.{apply, stopNumber, reported, reportOn}
+use Rattle.effect.specs.Apply.{applying}
 use Rattle.isa.proofs.Groups.{usable-jump, transfers}
 use Rattle.execute.proofs.Tests.{Decoded, decoded, decoded-word, word-in-slot, word-skipped, word-performed}
 use Rattle.execute.proofs.jump_word.Statement.{statement}
@@ -32,7 +32,7 @@ usable : (c : tie.After-decode-jump) → let m = machineOf (now (entry c .args .
 usable c = usable-jump _ _ (entry c .args .op) (omega arith) (omega arith)
 
 returns : tie.Need-returns
-unfolding reportOn reported stopNumber apply
+unfolding applying
 returns c p memory =
     let s = c .before .before .before .before in
     sym (word-in-slot p _ memory (decoded-word (now (s .args .w)) _ _ (s .pre .2)) (usable-jump _ _ (s .args .op) (omega arith) (omega arith))

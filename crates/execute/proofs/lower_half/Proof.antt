@@ -1,5 +1,5 @@
 -- `execute::lower_half` meets its contract: the group that the number is in. Assumes nothing.
-use mathlib.Core.Path.{_≡_, sym, _∙_}
+use mathlib.Core.Path.{sym, _∙_}
 use denote.Ref.{now}
 use borrow.Author.Needs.{needs}
 use Rattle.execute.proofs.Tests.{decoded-word, word-nothing}

@@ -8,7 +8,7 @@ use Rattle.isa.specs.Operation.{operationOf, Properties, properties, unavailabl
 use Rattle.machine.specs.Machine.{Machine, psr, userMode, widthOf}
 use Rattle.machine.specs.Words.{machineOf}
 use Rattle.machine.specs.declared.Position.{Position}
-use Rattle.effect.specs.Apply.{apply, stopNumber, reported, reportOn}
+use Rattle.effect.specs.Apply.{applying}
 use Rattle.execute.proofs.Tests.{Decoded, decoded, decoded-word, word-barred, word-in-slot, word-skipped, word-performed}
 use Rattle.execute.proofs.system_word.Statement.{statement}
 use Rattle.execute.proofs.system_word.Tie as tie
@@ -37,7 +37,7 @@ returns c p memory =
     ∙ sym (word-barred p _ memory (decoded-word (now (s .args .w)) _ _ (s .pre .2)) _ (reported .unavailability .ensures) (c .before .before .before .before .if1 .taken))
 
 returns-2 : tie.Need-returns-2
-unfolding reportOn reported stopNumber apply
+unfolding applying
 returns-2 c p memory =
     let free = c .before .before .before .before in
     let s = c .before .before .before .before .before .before .before .before in

@@ -1,6 +1,6 @@
 -- `execute::unavailability` meets its contract: by the bits of PSR. Assumes nothing.
 use borrow.Author.Needs.{needs}
-use Rattle.machine.specs.Machine.{userMode, widthOf}
+use Rattle.machine.specs.Machine.{widthOf}
 use Rattle.execute.proofs.unavailability.Statement.{statement}
 use Rattle.execute.proofs.unavailability.Tie as tie
 

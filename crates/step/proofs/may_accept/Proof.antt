@@ -1,8 +1,6 @@
 -- `may_accept` meets its contract: its first two tests are asked as one. Assumes nothing.
 use mathlib.Core.Path.{_≡_}
-use mathlib.Core.Bool.{Bool, true, false, not, _&&_}
-use mathlib.Core.List.{List}
-use Prim.Native.Nat.{ℕ}
+use mathlib.Core.Bool.{Bool, true, false, not, _&&_, and-assoc}
 use lib.Dec.{eqb}
 use borrow.Author.Tests.{eq-eqb, ne-eqb}
 use Rattle.machine.specs.Machine.{widthOf, Memory}
@@ -12,10 +10,6 @@ use Rattle.step.specs.Interrupt.{isMulhi, mayAccept}
 use borrow.Author.Needs.{needs}
 use Rattle.step.proofs.may_accept.Statement.{statement}
 use Rattle.step.proofs.may_accept.Tie as tie
-
-joined : (a b c t : Bool) → a && b ≡ t → t && c ≡ a && (b && c)
-joined true b c t e = rw e
-joined false b c t e = rw (← e)
 
 -- IE and the slot are asked as one
 abbrev entry : tie.After-slot → tie.Start
@@ -27,7 +21,7 @@ seen c memory = viewOf (entry c .args .program .now) (entry c .args .w .now) mem
 first-two : (c : tie.After-slot) (memory : Memory) (t : Bool) → c .before .interrupts-enabled .result && not (eqb (c .slot .result) 1) ≡ t
     → t && not (eqb (machineOf (entry c .args .w .now) .position .held) 1 && isMulhi (widthOf (seen c memory .status)) (seen c memory .fetched)) ≡ mayAccept (seen c memory)
 unfolding mayAccept view
-first-two c memory t e = rw (← (c .before .interrupts-enabled .ensures), ← (c .slot .ensures)) (joined (c .before .interrupts-enabled .result) (not (eqb (c .slot .result) 1)) _ t e)
+first-two c memory t e = rw (← (c .before .interrupts-enabled .ensures), ← (c .slot .ensures), ← e) (and-assoc (c .before .interrupts-enabled .result) (not (eqb (c .slot .result) 1)) _)
 
 returns : tie.Need-returns
 unfolding view

@@ -1,7 +1,6 @@
 -- `view::condition_false` meets its contract: by the conditional bit. Assumes nothing.
 use borrow.Author.Needs.{needs}
-use Rattle.view.specs.View.{conditionFalse}
-use Rattle.view.specs.View.{view}
+use Rattle.view.specs.View.{conditionFalse, view}
 use Rattle.view.proofs.condition_false.Statement.{statement}
 use Rattle.view.proofs.condition_false.Tie as tie
 

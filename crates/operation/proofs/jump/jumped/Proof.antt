@@ -8,7 +8,7 @@ use borrow.Author.Needs.{needs}
 use Rattle.word.specs.Choice.{if_then_else_}
 use Rattle.word.specs.Word.{wordOf, isAddress}
 use Rattle.isa.specs.Operation.{widthBy}
-use Rattle.machine.specs.Machine.{userMode, wideWords, widthOf, Memory}
+use Rattle.machine.specs.Machine.{widthOf, Memory}
 use Rattle.view.specs.View.{view, viewOf}
 use Rattle.effect.specs.Effect.{Effect, Raised}
 use Rattle.operation.specs.Execute.{jumped}

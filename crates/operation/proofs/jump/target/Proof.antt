@@ -6,7 +6,7 @@ use borrow.Author.Needs.{needs}
 use Rattle.word.specs.Choice.{if_then_else_}
 use Rattle.word.proofs.Integers.{back}
 use Rattle.isa.specs.Operation.{widthBy}
-use Rattle.machine.specs.Machine.{wideWords, widthOf}
+use Rattle.machine.specs.Machine.{widthOf}
 use Rattle.operation.specs.Execute.{afterThis, targetBy}
 use Rattle.view.specs.View.{view}
 use Rattle.view.proofs.Bytes.{bytes-most}

@@ -10,10 +10,10 @@ use denote.Ref.{now}
 use borrow.Author.Needs.{needs}
 use Rattle.word.proofs.Integers.{back}
 use Rattle.isa.specs.Operation.{operations, operationOf}
-use Rattle.machine.specs.Machine.{userMode, memoryOf}
+use Rattle.machine.specs.Machine.{memoryOf}
 use Rattle.operation.specs.Execute.{loaded, stored, execute}
 use Rattle.view.specs.View.{View, heldAt, view, viewOf}
-use Rattle.effect.specs.Apply.{apply, stopNumber, reported, reportOn}
+use Rattle.effect.specs.Apply.{applying}
 use Rattle.operation.proofs.Alike.{access-refused, access-missing}
 use Rattle.operation.proofs.memory.access.Statement.{statement}
 use Rattle.operation.proofs.memory.access.Tie as tie
@@ -99,7 +99,7 @@ returns-5 c y p =
     (b .raise .ensures _)
 
 returns-6 : tie.Need-returns-6
-unfolding apply stopNumber reported reportOn
+unfolding applying
 returns-6 c y p =
     let s = c .before .before .before .before .before .before .before .before .before in
     let a = s .args in

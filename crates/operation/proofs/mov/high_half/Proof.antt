@@ -5,7 +5,7 @@ use borrow.Author.Tests.{eq-eqb, ne-eqb}
 use Rattle.word.specs.Choice.{if_then_else_}
 use Rattle.view.specs.View.{view}
 use Rattle.operation.specs.Execute.{execute}
-use Rattle.effect.specs.Apply.{apply, stopNumber, reported, reportOn}
+use Rattle.effect.specs.Apply.{applying}
 use Rattle.operation.proofs.mov.high_half.Statement.{statement}
 use Rattle.operation.proofs.mov.high_half.Tie as tie
 
@@ -19,7 +19,7 @@ returns c x y p memory =
     (c .before .before .result .ensures memory)
 
 returns-2 : tie.Need-returns-2
-unfolding if_then_else_ view execute apply stopNumber reported reportOn
+unfolding if_then_else_ view execute applying
 returns-2 c x y p memory = rw (ne-eqb _ 1 (λ e. c .if1 .left (c .before .held .ensures ∙ e)))
 
 pub high-half-spec : {M : Type 1} → statement M

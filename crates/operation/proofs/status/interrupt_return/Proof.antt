@@ -5,12 +5,12 @@ use Rattle.word.specs.Choice.{if_then_else_}
 use Rattle.operation.specs.Execute.{execute}
 use Rattle.view.specs.View.{view}
 use Rattle.operation.proofs.Values.{nested-none, nested-some}
-use Rattle.effect.specs.Apply.{apply, stopNumber, reported, reportOn}
+use Rattle.effect.specs.Apply.{applying}
 use Rattle.operation.proofs.status.interrupt_return.Statement.{statement}
 use Rattle.operation.proofs.status.interrupt_return.Tie as tie
 
 returns : tie.Need-returns
-unfolding if_then_else_ view execute apply stopNumber reported reportOn
+unfolding if_then_else_ view execute applying
 returns c x y q memory = rw (nested-none _ (sym (c .before .depth .ensures) ∙ c .if1 .taken))
 
 returns-2 : tie.Need-returns-2

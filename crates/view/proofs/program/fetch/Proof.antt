@@ -1,14 +1,12 @@
 -- `view::program::fetch` meets its contract: test by test. Assumes nothing.
 use mathlib.Core.Path.{_≡_}
 use mathlib.Core.Bool.{_&&_}
-use mathlib.Core.List.{List}
-use Prim.Native.Nat.{ℕ}
 use native.Mathlib.Omega.{arith}
 use denote.Ref.{now}
 use borrow.Author.Needs.{needs}
 use Rattle.word.specs.Choice.{if_then_else_}
 use Rattle.isa.specs.Operation.{widthBy}
-use Rattle.machine.specs.Machine.{Machine, psr, userMode, widthOf, Memory}
+use Rattle.machine.specs.Machine.{psr, userMode, widthOf, Memory}
 use Rattle.machine.specs.Control.{controlAt, IMEM-BOUND-LO, IMEM-BOUND-HI}
 use Rattle.machine.specs.Words.{machineOf}
 use Rattle.view.specs.View.{View, anyWithin, bytesAt, fetchAt, view, viewOf}
