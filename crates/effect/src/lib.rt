@@ -176,8 +176,8 @@ pub fn user_return(w: &mut [u32]) -> u32
 {
     let pc = machine::register(w, true, machine::LINK);
     let saved = machine::register(w, true, machine::SPSR);
-    let wide = word::has_flag(saved, 3);
-    let enabled = word::has_flag(saved, 4);
+    let wide = word::has_flag(saved, machine::IL);
+    let enabled = word::has_flag(saved, machine::IE);
     machine::set_psr(w, machine::status(true, false, false, wide, enabled));
     go_to(w, pc);
     0

@@ -76,7 +76,7 @@ pub record TopOk (e : Entry) : Type 0 where
   pub c0 : e .c0 < 8
 
 pub top-shown : {es : List Entry} → Stacked es → TopOk (shownTop es)
-unfolding shownTop userMode
+unfolding shownTop
 top-shown empty = record { address = lit< tt; status = record { small = lit< tt; sets = λ _. refl }; c0 = lit< tt }
 top-shown (pushed k n s) = record { address = k .address; status = k .status; c0 = k .c0 }
 

@@ -1,12 +1,12 @@
 // What makes a machine well formed: questions 3 to 5 (01 "Machine image"), asked of the machine's words.
 ghost use mathlib.Core.Path.{_≡_};
 ghost use mathlib.Core.Bool.{true};
-ghost use Prim.Native.Nat.{_+_, _*_, _≤_, _<_};
+ghost use Prim.Native.Nat.{_≤_, _<_};
 ghost use lib.Dec.{eqb};
 ghost use lib.ListN.{length};
 ghost use Rattle.machine.specs.Control.{registerAt, canHold};
 ghost use Rattle.machine.specs.Stack.{serviceFlags};
-ghost use Rattle.machine.specs.Words.{OFFSETS, SOURCES, MachineWords, ENTRIES, section, entryOf, machineOf};
+ghost use Rattle.machine.specs.Words.{OFFSETS, SOURCES, MachineWords, machineOf};
 ghost use Rattle.formed.specs.Questions.{all, implies, allBelow, allHeld, positionTests, setsFit, question3, question4, question5, askMachine, readBy};
 ghost use Rattle.formed.specs.Entries.{passes as passesOf, allPass};
 
@@ -18,20 +18,6 @@ pub enum Test {
 }
 
 // ---- stack entries
-
-// Entry i of the stack, counted from the bottom.
-fn entry(w: &[u32], i: usize) -> machine::Entry
-    requires { ⌜ MachineWords (now w) × (i < SOURCES) ⌝ }
-    ensures { λ r. ⌜ r ≡ entryOf (section (ENTRIES + 4 * i) 4 (now (w .entry))) ⌝ }
-{
-    let at = machine::ENTRIES + 4 * i;
-    machine::Entry {
-        source: w[at],
-        address: w[at + 1],
-        psr: w[at + 2],
-        c0: w[at + 3],
-    }
-}
 
 // Whether a status with UM 1 has both set bits 0.
 fn sets_fit(psr: u32) -> bool
@@ -59,7 +45,7 @@ fn entries_pass(t: Test, w: &[u32]) -> bool
     let n = machine::depth(w) as usize;
     let mut all = true;
     for i in 0..n {
-        all = passes(t, entry(w, i)) & all;
+        all = passes(t, machine::entry_at(w, i)) & all;
     }
     all
 }
@@ -163,7 +149,7 @@ fn service_flags(w: &[u32]) -> u32
     let n = machine::depth(w) as usize;
     let mut flags = 0;
     for i in 0..n {
-        let e = entry(w, i);
+        let e = machine::entry_at(w, i);
         flags = word::with_flag(flags, e.source);
     }
     flags

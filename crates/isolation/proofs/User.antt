@@ -17,15 +17,12 @@ use Rattle.effect.specs.Apply.{writeRegister, writeFlags, wordsOn, nextPc, adva
 -- ---- the status in user mode: UM 1, both set bits 0
 
 pub user-bit : (q : ℕ) → q % 8 ≡ 1 → userMode q ≡ true
-unfolding userMode
 user-bit q h = let e : q / 2 ^ 0 % 2 ≡ 1 = omega arith in rw e
 
 pub read-bit : (q : ℕ) → q % 8 ≡ 1 → readsSet2 q ≡ false
-unfolding readsSet2
 read-bit q h = let e : q / 2 ^ 1 % 2 ≡ 0 = omega arith in rw e
 
 pub write-bit : (q : ℕ) → q % 8 ≡ 1 → writesSet2 q ≡ false
-unfolding writesSet2
 write-bit q h = let e : q / 2 ^ 2 % 2 ≡ 0 = omega arith in rw e
 
 -- a machine in user mode, PSR being one of its registers

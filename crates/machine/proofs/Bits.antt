@@ -6,7 +6,7 @@ use native.Mathlib.Omega.{arith}
 use native.Mathlib.Nat.{div-div-eq-div-mul}
 use lib.Dec.{eqb, lit<}
 use Rattle.word.specs.Word.{bitOf}
-use Rattle.machine.specs.Machine.{userMode, readsSet2, writesSet2, statusOf}
+use Rattle.machine.specs.Machine.{userMode, readsSet2, writesSet2, statusOf, SUPER}
 
 bit-small : (b : Bool) → bitOf b < 2
 bit-small true = lit< tt
@@ -28,6 +28,11 @@ bits-low n =
     let eights : n / 4 / 2 ≡ n / 8 = div-div-eq-div-mul n 4 2 in
     omega arith
 
+-- "PSR becomes 0Eh" (01 "One step")
+pub super-is : SUPER ≡ 0x0E
+unfolding statusOf
+super-is = refl
+
 module _ (user read write wide enabled : Bool) where
   abbrev made : ℕ
   made = statusOf user read write wide enabled
@@ -42,14 +47,13 @@ module _ (user read write wide enabled : Bool) where
   status-low = omega (arith, bit-small user, bit-small read, bit-small write, bit-small wide, bit-small enabled)
 
   pub status-user : userMode made ≡ user
-  unfolding statusOf userMode
+  unfolding statusOf
   status-user =
       let e : made / 2 ^ 0 % 2 ≡ bitOf user = omega (arith, bit-small user, bit-small read, bit-small write, bit-small wide, bit-small enabled) in
       rw e (bit-is user)
 
 -- a status with IL and IE set anew keeps the three lowest
 pub status-kept : (q : ℕ) (wide enabled : Bool) → statusOf (userMode q) (readsSet2 q) (writesSet2 q) wide enabled % 8 ≡ q % 8
-unfolding userMode readsSet2 writesSet2
 status-kept q wide enabled =
     status-low _ _ _ wide enabled
     ∙ (let a = is-bit (q / 2 ^ 0 % 2) (omega arith) in

@@ -24,7 +24,7 @@ pub record Machine : Type 0 where
 pub record Memory : Type 0 where
   pub cells : List ℕ
 
--- bytes of the longest program, and cells of the largest data memory
+-- bytes of the longest program, and cells of the largest data memory (01 "Memories")
 abbrev pub MOST-MEMORY : ℕ
 MOST-MEMORY = 65536
 
@@ -93,23 +93,23 @@ written second n x m = if second && eqb n PSR then m else withRegister second n 
 -- ---- the bits of PSR (002 section 2.4)
 
 -- UM
-unfoldable pub userMode : (psr : ℕ) → Bool
+abbrev pub userMode : (psr : ℕ) → Bool
 userMode q = bitAt 0 q
 
 -- RSRD
-unfoldable pub readsSet2 : (psr : ℕ) → Bool
+abbrev pub readsSet2 : (psr : ℕ) → Bool
 readsSet2 q = bitAt 1 q
 
 -- RSWR
-unfoldable pub writesSet2 : (psr : ℕ) → Bool
+abbrev pub writesSet2 : (psr : ℕ) → Bool
 writesSet2 q = bitAt 2 q
 
 -- IL
-unfoldable pub wideWords : (psr : ℕ) → Bool
+abbrev pub wideWords : (psr : ℕ) → Bool
 wideWords q = bitAt 3 q
 
 -- IE
-unfoldable pub interruptsEnabled : (psr : ℕ) → Bool
+abbrev pub interruptsEnabled : (psr : ℕ) → Bool
 interruptsEnabled q = bitAt 4 q
 
 -- the length of instruction words
@@ -126,5 +126,5 @@ SUPER = statusOf false true true true false
 
 -- to unfold `states` is to unfold all definitions of this file
 unfoldable pub states : Unit {0}
-unfolding positionAt withSet1 withSet2 withConditions withControl withPosition setBy withRegister psr withPsr written userMode readsSet2 writesSet2 wideWords interruptsEnabled widthOf statusOf
+unfolding positionAt withSet1 withSet2 withConditions withControl withPosition setBy withRegister psr withPsr written widthOf statusOf
 states = tt

@@ -3,13 +3,14 @@
 ghost use mathlib.Core.Path.{_≡_};
 ghost use mathlib.Core.Bool.{true, false};
 ghost use mathlib.Core.List.{_∷_};
-ghost use Prim.Native.Nat.{_+_, _<_, _≤_};
+ghost use Prim.Native.Nat.{_+_, _*_, _<_, _≤_};
 ghost use lib.ListN.{length, getD, set};
+ghost use Rattle.word.specs.Word.{bitAt};
 ghost use Rattle.word.specs.Flags.{distinctBelow};
 ghost use Rattle.machine.specs.Machine.{psr, userMode, readsSet2, writesSet2, wideWords, interruptsEnabled, statusOf, SUPER, setBy, withRegister, written, withPsr, withConditions, withControl, withPosition};
 ghost use Rattle.machine.specs.Control.{registerAt, controlAt, largest, keptBy, isWritable, storeControl, within, INT-SERV};
 ghost use Rattle.machine.specs.Stack.{popped, sourcesOf, serviceFlags, shownTop, showTop, withStack};
-ghost use Rattle.machine.specs.Words.{REGISTERS, FLAGS, OFFSETS, SOURCES, MachineWords, startBy, machineOf};
+ghost use Rattle.machine.specs.Words.{REGISTERS, FLAGS, OFFSETS, SOURCES, MachineWords, ENTRIES, startBy, section, entryOf, machineOf};
 use word::has_flag;
 use word::with_flag;
 use word::without_flag;
@@ -135,6 +136,17 @@ pub const RETI_PSR: u32 = 0x29;
 
 pub const RETI_CR0: u32 = 0x2A;
 
+// The bits of PSR and SPSR (002 section 2.4).
+pub const UM: u32 = 0;
+
+pub const RSRD: u32 = 1;
+
+pub const RSWR: u32 = 2;
+
+pub const IL: u32 = 3;
+
+pub const IE: u32 = 4;
+
 // Special registers of set 2, and the link register of both sets.
 pub const SPSR: u32 = 30;
 
@@ -168,12 +180,20 @@ pub fn psr(w: &[u32]) -> u32
 
 // ---- the status, by its bits
 
+// A bit of PSR.
+fn status_bit(w: &[u32], n: u32) -> bool
+    requires { ⌜ MachineWords (now w) × (n < 32) ⌝ }
+    ensures { λ r. ⌜ r ≡ bitAt n (psr (machineOf (now (w .entry)))) ⌝ }
+{
+    has_flag(psr(w), n)
+}
+
 // UM: user mode.
 pub fn user_mode(w: &[u32]) -> bool
     requires { ⌜ MachineWords (now w) ⌝ }
     ensures { λ r. ⌜ r ≡ userMode (psr (machineOf (now (w .entry)))) ⌝ }
 {
-    has_flag(psr(w), 0)
+    status_bit(w, UM)
 }
 
 // RSRD: registers are read from set 2.
@@ -181,7 +201,7 @@ pub fn reads_set2(w: &[u32]) -> bool
     requires { ⌜ MachineWords (now w) ⌝ }
     ensures { λ r. ⌜ r ≡ readsSet2 (psr (machineOf (now (w .entry)))) ⌝ }
 {
-    has_flag(psr(w), 1)
+    status_bit(w, RSRD)
 }
 
 // RSWR: registers are written in set 2.
@@ -189,7 +209,7 @@ pub fn writes_set2(w: &[u32]) -> bool
     requires { ⌜ MachineWords (now w) ⌝ }
     ensures { λ r. ⌜ r ≡ writesSet2 (psr (machineOf (now (w .entry)))) ⌝ }
 {
-    has_flag(psr(w), 2)
+    status_bit(w, RSWR)
 }
 
 // IL: words have 32 bits.
@@ -197,7 +217,7 @@ pub fn wide_words(w: &[u32]) -> bool
     requires { ⌜ MachineWords (now w) ⌝ }
     ensures { λ r. ⌜ r ≡ wideWords (psr (machineOf (now (w .entry)))) ⌝ }
 {
-    has_flag(psr(w), 3)
+    status_bit(w, IL)
 }
 
 // IE: interrupts are enabled.
@@ -205,7 +225,7 @@ pub fn interrupts_enabled(w: &[u32]) -> bool
     requires { ⌜ MachineWords (now w) ⌝ }
     ensures { λ r. ⌜ r ≡ interruptsEnabled (psr (machineOf (now (w .entry)))) ⌝ }
 {
-    has_flag(psr(w), 4)
+    status_bit(w, IE)
 }
 
 // A status by its bits.
@@ -446,6 +466,20 @@ pub fn depth(w: &[u32]) -> u32
     w[DEPTH]
 }
 
+// Entry i of the stack, counted from the bottom.
+pub fn entry_at(w: &[u32], i: usize) -> Entry
+    requires { ⌜ MachineWords (now w) × (i < SOURCES) ⌝ }
+    ensures { λ r. ⌜ r ≡ entryOf (section (ENTRIES + 4 * i) 4 (now (w .entry))) ⌝ }
+{
+    let at = ENTRIES + 4 * i;
+    Entry {
+        source: w[at],
+        address: w[at + 1],
+        psr: w[at + 2],
+        c0: w[at + 3],
+    }
+}
+
 // What the RETI_ registers show of the stack: its top, or 1, 9, 0 when it is empty.
 pub fn top(w: &[u32]) -> Entry
     requires { ⌜ MachineWords (now w) × (length (machineOf (now w) .stack) ≤ SOURCES) ⌝ }
@@ -460,13 +494,7 @@ pub fn top(w: &[u32]) -> Entry
             c0: 0,
         }
     } else {
-        let at = ENTRIES + 4 * (n - 1);
-        Entry {
-            source: w[at],
-            address: w[at + 1],
-            psr: w[at + 2],
-            c0: w[at + 3],
-        }
+        entry_at(w, n - 1)
     }
 }
 

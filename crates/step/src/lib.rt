@@ -15,13 +15,11 @@ ghost use Rattle.step.specs.Step.{step};
 ghost use Rattle.step.specs.Search.{sourceNumber, waiting, mostUrgent, serviceFloor};
 use machine::Entry;
 use machine::Position;
+use machine::SOURCES;
 use view::Fetched;
 
 // The operation mulhi.
 const MULHI: u32 = 31;
-
-// The number of interrupt sources, and by it none of them.
-const SOURCES: u32 = 12;
 
 // ---- requests
 

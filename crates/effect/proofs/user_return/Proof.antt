@@ -6,7 +6,7 @@ use Rattle.effect.proofs.user_return.Statement.{statement}
 use Rattle.effect.proofs.user_return.Tie as tie
 
 returns : tie.Need-returns
-unfolding setBy wideWords interruptsEnabled applying
+unfolding setBy applying
 returns c memory =
     let c1 = c .before .before in
     let c2 = c1 .before .before .before .before in

@@ -19,13 +19,13 @@ loop-holds : tie.Need-loop-holds Inv-loop μ-loop
 loop-holds c = let args = c .before .before .args in
     (search needs, pass-none (args .t) (args .w .now))
 
-entry-requires : tie.Need-entry-requires Inv-loop μ-loop
-entry-requires c κs = omega arith
+entry-at-requires : tie.Need-entry-at-requires Inv-loop μ-loop
+entry-at-requires c κs = omega arith
 
 loop-again : tie.Need-loop-again Inv-loop μ-loop
 loop-again c = let args = c .before .before .before .before .before .before .args in
     let l = c .before .before .before .loop in
-    (search needs, rw (c .passes .ensures, c .before .entry .ensures, l .inv .1) (pass-more (args .t) (args .w .now) (l .i)))
+    (search needs, rw (c .passes .ensures, c .before .entry-at .ensures, l .inv .1) (pass-more (args .t) (args .w .now) (l .i)))
 
 returns : tie.Need-returns Inv-loop μ-loop
 returns c = let args = c .before .before .before .before .args in
@@ -41,7 +41,7 @@ entries-pass-spec =
     μ-loop
     (λ c κs. search needs) (λ c. search needs)
     loop-holds
-    entry-requires
+    entry-at-requires
     (λ c κs. search needs) (λ c. search needs) (λ c. search needs)
     loop-again
     returns)

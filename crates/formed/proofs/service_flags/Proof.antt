@@ -21,8 +21,8 @@ abbrev μ-loop : tie.MeasureT-loop
 loop-holds : tie.Need-loop-holds Inv-loop μ-loop
 loop-holds c = (search needs, flags-none (c .before .before .args .w .now))
 
-entry-requires : tie.Need-entry-requires Inv-loop μ-loop
-entry-requires c κs = omega arith
+entry-at-requires : tie.Need-entry-at-requires Inv-loop μ-loop
+entry-at-requires c κs = omega arith
 
 with-flag-requires : tie.Need-with-flag-requires Inv-loop μ-loop
 with-flag-requires c κs = let start = c .before .before .before .before .before in
@@ -30,12 +30,12 @@ with-flag-requires c κs = let start = c .before .before .before .before .before
     let n = c .before .before .before .depth in
     let all : allPass Source (stackOf (n .result) w) ≡ true = ap (allPass Source) (stack-of w (n .result) (n .ensures)) ∙ start .pre .1 in
     let e = source-small _ (pass-at Source w (n .result) (c .before .before .loop .i) all (c .before .loop-test .taken)) in
-    rw (c .entry .ensures) (omega arith)
+    rw (c .entry-at .ensures) (omega arith)
 
 loop-again : tie.Need-loop-again Inv-loop μ-loop
 loop-again c = let w = c .before .before .before .before .before .before .args .w .now in
     let l = c .before .before .before .loop in
-    (search needs, rw (c .with-flag .ensures, c .before .entry .ensures, l .inv .1) (flags-more w (l .i)))
+    (search needs, rw (c .with-flag .ensures, c .before .entry-at .ensures, l .inv .1) (flags-more w (l .i)))
 
 returns : tie.Need-returns Inv-loop μ-loop
 returns c = let w = c .before .before .before .before .args .w .now in
@@ -51,7 +51,7 @@ service-flags-spec =
     μ-loop
     (λ c κs. search needs) (λ c. search needs)
     loop-holds
-    entry-requires
+    entry-at-requires
     with-flag-requires
     (λ c. search needs) (λ c. search needs)
     loop-again

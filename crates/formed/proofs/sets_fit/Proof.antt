@@ -8,11 +8,11 @@ use Rattle.formed.proofs.sets_fit.Statement.{statement}
 use Rattle.formed.proofs.sets_fit.Tie as tie
 
 returns : tie.Need-returns
-unfolding setsFit implies userMode
+unfolding setsFit implies
 returns c = simp (eq-eqb (c .before .args .psr / 1 % 2) 1 (omega arith))
 
 returns-2 : tie.Need-returns-2
-unfolding setsFit implies userMode
+unfolding setsFit implies
 returns-2 c = simp (ne-eqb (c .before .args .psr / 1 % 2) 1 (λ e. c .if1 .left (omega arith)))
 
 pub sets-fit-spec : {M : Type 1} → statement M
