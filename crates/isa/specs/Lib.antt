@@ -4,5 +4,4 @@ pub mod Operation
 pub mod Condition
 pub mod Format
 pub mod Decode
-pub mod Worked
 pub mod Computed
