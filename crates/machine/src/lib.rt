@@ -340,7 +340,7 @@ pub fn limit(offset: u32) -> u32
 }
 
 // Whether a store to the control register at an offset changes it.
-pub fn writable(offset: u32) -> bool
+fn writable(offset: u32) -> bool
     ensures { λ r. ⌜ r ≡ isWritable (registerAt offset .access) ⌝ }
 {
     match offset {
@@ -354,7 +354,7 @@ pub fn writable(offset: u32) -> bool
 }
 
 // What a store of x leaves in a writable control register.
-pub fn kept(offset: u32, x: u32) -> u32
+fn kept(offset: u32, x: u32) -> u32
     ensures { λ r. ⌜ r ≡ keptBy (registerAt offset) x ⌝ }
 {
     let bits = x & limit(offset);
@@ -421,7 +421,7 @@ pub fn high(w: &[u32]) -> u32
 }
 
 // Its low word.
-pub fn low(w: &[u32]) -> u32
+fn low(w: &[u32]) -> u32
     requires { ⌜ MachineWords (now w) ⌝ }
     ensures { λ r. ⌜ r ≡ machineOf (now (w .entry)) .position .low ⌝ }
 {
