@@ -5,14 +5,14 @@ use mathlib.Core.Bool.{Bool, true, false, _&&_}
 use mathlib.Core.List.{List, [], _∷_, reverse, reverse-reverse}
 use Prim.Native.Nat.{ℕ, zero, suc, _+_, _-_, _*_, _≤_, _<_}
 use native.Mathlib.Omega.{arith}
-use lib.Dec.{leb, ltb, eqb, lit<}
-use lib.ListN.{length, getD, take, drop, length-take, length-drop}
+use lib.Dec.{ltb, eqb}
+use lib.ListN.{length, getD, drop, length-take, length-drop}
 use lib.Seq.{getD-drop, ext-getD}
 use borrow.Author.Tests.{ltb-true, ltb-false, leb-false, lt-leb, eqb-false, ne-eqb}
 use Rattle.word.specs.Flags.{isAmong}
 use Rattle.word.proofs.Tests.{either, and-parts, or-parts}
 use Rattle.machine.specs.Machine.{Machine}
-use Rattle.machine.specs.Words.{SET1, SET2, CONDITIONS, CONTROL, POSITION, DEPTH, ENTRIES, WORDS, section, positionOf, entryOf, entriesOf, machineOf, COUNTS, isFree}
+use Rattle.machine.specs.Words.{SET1, SET2, CONDITIONS, CONTROL, POSITION, DEPTH, ENTRIES, section, positionOf, entryOf, entriesOf, machineOf, COUNTS, isFree}
 use Rattle.machine.specs.Theorems.{FreePlaces}
 use Rattle.machine.specs.declared.Position.{Position}
 use Rattle.machine.specs.declared.Entry.{Entry}
