@@ -167,7 +167,7 @@ pub record Report : Type 0 where
 unfoldable pub reported : Transition → Report
 reported t = record { stop = stopNumber (t .kind); after = t .after }
 
--- the same by a function's answer, and the words and the memory that are left
+-- the same by a function's answer, and the words and the memory that are left; free places of the words (machine/Words: isFree) hold any numbers
 abbrev pub reportBy : (stop : ℕ) (words : List ℕ) → Memory → Report
 reportBy n words memory = record { stop = n; after = stateOf words memory }
 
@@ -175,7 +175,7 @@ reportBy n words memory = record { stop = n; after = stateOf words memory }
 unfoldable pub reportOn : Effect → (words : List ℕ) → Memory → Report
 reportOn e words memory = reported (apply e (stateOf words memory))
 
--- words become those after an effect, whatever the memory holds; the memory stays
+-- words become those after an effect, but for free places (machine/Words: isFree), whatever the memory holds; the memory stays
 abbrev pub Performs : Effect → (stop : ℕ) (before after : List ℕ) → Type 0
 Performs e n before after = (memory : Memory) → reportBy n after memory ≡ reportOn e before memory
 

@@ -6,7 +6,7 @@ ghost use Prim.Native.Nat.{_%_, _<_, _^_};
 ghost use lib.ListN.{set};
 ghost use Rattle.machine.specs.Machine.{psr, userMode, readsSet2, writesSet2, statusOf, positionAt, withConditions, withPosition, memoryOf};
 ghost use Rattle.machine.specs.Stack.{popped, withStack, StackShown};
-ghost use Rattle.machine.specs.Words.{MachineWords, machineOf};
+ghost use Rattle.machine.specs.Words.{MachineWords, machineOf, Says};
 ghost use Rattle.effect.specs.Effect.{Raised, Next, Result, ResultFlags, ResultProduct, Compare, Conditions, StoreControl, StoreCell, Jump, JumpLink, EnableInterrupts, SwitchWidth, SystemCall, InterruptReturn, UserReturn, SelectSets};
 ghost use Rattle.effect.specs.Apply.{writeRegister, writeFlags, unpacked, wordsOn, nextPc, advance, advanceHolding, jumpTo, reportBy, reportOn, Performs};
 use machine::Position;
@@ -16,7 +16,7 @@ use machine::Position;
 // Register d of the set that RSWR names takes x; a write to PSR is ignored.
 fn write_register(w: &mut [u32], d: u32, x: u32)
     requires { ⌜ MachineWords (now w) ⌝ }
-    ensures { λ _. ⌜ machineOf (now (w .exit)) ≡ writeRegister d x (machineOf (now (w .entry))) ⌝ }
+    ensures { λ _. ⌜ Says (now (w .exit)) (writeRegister d x (machineOf (now (w .entry)))) ⌝ }
 {
     let second = machine::writes_set2(w);
     machine::write_register(w, second, d % 32, x);
@@ -25,7 +25,7 @@ fn write_register(w: &mut [u32], d: u32, x: u32)
 // Condition register c takes flags.
 fn write_flags(w: &mut [u32], c: u32, flags: u32)
     requires { ⌜ MachineWords (now w) ⌝ }
-    ensures { λ _. ⌜ machineOf (now (w .exit)) ≡ writeFlags c flags (machineOf (now (w .entry))) ⌝ }
+    ensures { λ _. ⌜ Says (now (w .exit)) (writeFlags c flags (machineOf (now (w .entry)))) ⌝ }
 {
     machine::set_condition(w, c % 8, flags % 8);
 }
@@ -33,7 +33,7 @@ fn write_flags(w: &mut [u32], c: u32, flags: u32)
 // All condition registers are taken from a word: Cn from bits 3n+2..3n.
 fn unpack(w: &mut [u32], x: u32)
     requires { ⌜ MachineWords (now w) ⌝ }
-    ensures { λ _. ⌜ machineOf (now (w .exit)) ≡ withConditions (unpacked 8 x) (machineOf (now (w .entry))) ⌝ }
+    ensures { λ _. ⌜ Says (now (w .exit)) (withConditions (unpacked 8 x) (machineOf (now (w .entry)))) ⌝ }
 {
     machine::set_condition(w, 0, x % 8);
     machine::set_condition(w, 1, x / 0x8 % 8);
@@ -74,7 +74,7 @@ fn next_pc(w: &[u32]) -> u32
 // PC takes an address, with no slot and no product.
 fn go_to(w: &mut [u32], pc: u32)
     requires { ⌜ MachineWords (now w) ⌝ }
-    ensures { λ _. ⌜ machineOf (now (w .exit)) ≡ withPosition (positionAt pc) (machineOf (now (w .entry))) ⌝ }
+    ensures { λ _. ⌜ Says (now (w .exit)) (withPosition (positionAt pc) (machineOf (now (w .entry)))) ⌝ }
 {
     machine::set_position(
         w,
@@ -92,7 +92,7 @@ fn go_to(w: &mut [u32], pc: u32)
 // PC goes on; the slot is used up and a product dropped.
 fn advance(w: &mut [u32])
     requires { ⌜ MachineWords (now w) ⌝ }
-    ensures { λ _. ⌜ machineOf (now (w .exit)) ≡ advance (machineOf (now (w .entry))) ⌝ }
+    ensures { λ _. ⌜ Says (now (w .exit)) (advance (machineOf (now (w .entry)))) ⌝ }
 {
     let pc = next_pc(w);
     go_to(w, pc);
@@ -101,7 +101,7 @@ fn advance(w: &mut [u32])
 // The same with a product held.
 fn advance_holding(w: &mut [u32], high: u32, low: u32)
     requires { ⌜ MachineWords (now w) ⌝ }
-    ensures { λ _. ⌜ machineOf (now (w .exit)) ≡ advanceHolding high low (machineOf (now (w .entry))) ⌝ }
+    ensures { λ _. ⌜ Says (now (w .exit)) (advanceHolding high low (machineOf (now (w .entry)))) ⌝ }
 {
     let pc = next_pc(w);
     machine::set_position(
@@ -120,7 +120,7 @@ fn advance_holding(w: &mut [u32], high: u32, low: u32)
 // A taken jump: the next word is its slot.
 fn jump_to(w: &mut [u32], target: u32)
     requires { ⌜ MachineWords (now w) ⌝ }
-    ensures { λ _. ⌜ machineOf (now (w .exit)) ≡ jumpTo target (machineOf (now (w .entry))) ⌝ }
+    ensures { λ _. ⌜ Says (now (w .exit)) (jumpTo target (machineOf (now (w .entry)))) ⌝ }
 {
     let pc = next_pc(w);
     machine::set_position(
@@ -186,7 +186,7 @@ pub fn user_return(w: &mut [u32]) -> u32
 // The top leaves the stack, if there is one.
 fn pop(w: &mut [u32])
     requires { ⌜ MachineWords (now w) × StackShown (machineOf (now w)) ⌝ }
-    ensures { λ _. ⌜ machineOf (now (w .exit)) ≡ withStack (popped (machineOf (now (w .entry)) .stack)) (machineOf (now (w .entry))) ⌝ }
+    ensures { λ _. ⌜ Says (now (w .exit)) (withStack (popped (machineOf (now (w .entry)) .stack)) (machineOf (now (w .entry)))) ⌝ }
 {
     if 0 < machine::depth(w) {
         machine::pop(w);

@@ -49,7 +49,7 @@ resultOf done s (t ∷ ts) =
 unfoldable pub resultFrom : (program requests : List ℕ) (left done : ℕ) → State → RunResult
 resultFrom program requests left done s = resultOf done s (run program requests left done s)
 
--- what the code's count of steps and ending say, with the machine's words and the memory after them
+-- what the code's count of steps and ending say, with the machine's words and the memory after them; free places of the words (machine/Words: isFree) hold any numbers
 abbrev pub resultBy : RunEnd → (words : List ℕ) → Memory → RunResult
 resultBy e words memory = record { steps = e .steps; ending = e .ending; after = stateOf words memory }
 

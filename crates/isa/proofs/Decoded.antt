@@ -16,6 +16,7 @@ use Rattle.word.proofs.Integers.{signed-range}
 use Rattle.isa.specs.Operation.{Width, w16, w32}
 use Rattle.isa.specs.Format.{fieldsWidth, fieldsOf, operationField, cregField, conditionField, Immediate}
 use Rattle.isa.specs.Decode.{registerOf, immediateOf, operandsOf, opcodeOf, assembled, decode}
+use Rattle.isa.specs.Theorems.{NarrowRegisters}
 use Rattle.isa.specs.declared.Instruction.{Instruction}
 use Rattle.isa.proofs.Fields.{fields-below}
 use Rattle.isa.proofs.Rows.{registerWidth, immediateFits, rows-sound}
@@ -77,12 +78,6 @@ in-range width word =
       immediate = immediate-below _ word (row .immediate);
     }
 
--- the registers of 16-bit words are 24 to 31, where there are any
-pub record HighRegisters (i : Instruction) : Type 0 where
-  pub dreg : (i .dreg ≡ 0) ⊎ (24 ≤ i .dreg)
-  pub sreg1 : (i .sreg1 ≡ 0) ⊎ (24 ≤ i .sreg1)
-  pub sreg2 : (i .sreg2 ≡ 0) ⊎ (24 ≤ i .sreg2)
-
-pub narrow-registers : (word : ℕ) → HighRegisters (decode w16 word)
+pub narrow-registers : NarrowRegisters
 unfolding decode assembled operandsOf
 narrow-registers word = record { dreg = register-high _ word; sreg1 = register-high _ word; sreg2 = register-high _ word }

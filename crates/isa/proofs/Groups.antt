@@ -5,8 +5,8 @@ use Prim.Native.Nat.{ℕ, _≤_, _<_}
 use native.Mathlib.Omega.{arith}
 use Rattle.isa.specs.Operation.{operationOf, Width, w16, w32, Properties, properties}
 use Rattle.isa.specs.Computed.{instructions}
+use Rattle.isa.specs.Theorems.{codeAt}
 use Rattle.isa.proofs.Table.{values, agree, unknown-from}
-use Rattle.isa.proofs.Rules.{codeAt}
 
 -- nop to cmpi may be used anywhere
 pub usable-low : (width : Width) (user : Bool) (n : ℕ) → n < 34 → codeAt width user n ≡ 0

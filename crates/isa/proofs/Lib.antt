@@ -5,4 +5,3 @@ pub mod Rules
 pub mod Groups
 pub mod Rows
 pub mod Decoded
-pub mod Worked

@@ -2,27 +2,23 @@
 use mathlib.Core.Path.{_≡_, refl}
 use mathlib.Core.Logic.{_≢_}
 use mathlib.Core.Option.{Option, none, some}
-use mathlib.Core.Bool.{Bool, true, false, not, _&&_, _||_, and-false}
+use mathlib.Core.Bool.{Bool, true, false, _||_, and-false}
 use Prim.Native.Nat.{ℕ, _≤_, _<_}
 use native.Mathlib.Omega.{arith}
 use lib.Dec.{leb, eqb}
 use lib.ListN.{length}
 use borrow.Author.Tests.{leb-true, le-leb, lt-leb, ne-eqb}
-use Rattle.word.specs.Choice.{if_then_else_}
 use Rattle.isa.specs.Operation.{operationOf, Width, w16, w32, widthBy, Availability, anywhere, wideOnly, superOnly, nowhere, unavailable, codeOf, properties}
 use Rattle.isa.specs.Computed.{instructions}
+use Rattle.isa.specs.Theorems.{Numbered, between, ConditionalIs, TransferIs, codeAt, codeBy, UnavailableIs}
 use Rattle.isa.proofs.Table.{values, agree, by-number}
 
--- n is one of low to high
-abbrev pub between : (low high n : ℕ) → Bool
-between low high n = leb low n && leb n high
-
--- it is not, past high
+-- no number past high is one of low to high
 not-between : (low high n : ℕ) → high < n → between low high n ≡ false
 not-between low high n h = rw (lt-leb n high h) (and-false (leb low n))
 
 -- each row has its own number
-pub numbered : (n : ℕ) → n < 58 → properties (operationOf n) .number ≡ n
+pub numbered : Numbered
 unfolding instructions values
 numbered n h = agree (λ n. properties (operationOf n) .number) (λ n. n) 0 58 refl n (omega arith) h
 
@@ -31,34 +27,21 @@ pub mnemonic-short : (n : ℕ) → length (properties (operationOf n) .mnemonic)
 unfolding instructions values
 mnemonic-short n = leb-true _ 8 (by-number (λ o. leb (length (properties o .mnemonic)) 8) (λ n. true) refl (λ n h. refl) n)
 
--- "Never conditional, bit 25 ignored: nop, cmp, cmpi .., lli, lui, jumps with an immediate, branches, 49 to 57"
-pub conditional-is : (n : ℕ) → properties (operationOf n) .conditional ≡ (between 1 31 n || between 38 39 n) || eqb n 48
+pub conditional-is : ConditionalIs
 unfolding instructions values
 conditional-is = by-number (λ o. properties o .conditional) (λ n. (between 1 31 n || between 38 39 n) || eqb n 48) refl high
   where
     high : (n : ℕ) → 64 ≤ n → (between 1 31 n || between 38 39 n) || eqb n 48 ≡ false
     high n h = rw (not-between 1 31 n (omega arith), not-between 38 39 n (omega arith), ne-eqb n 48 (λ e. omega arith))
 
--- "control transfer in a slot (stop 13; operations 36 to 50 and swm ..)"
-pub transfer-is : (n : ℕ) → properties (operationOf n) .transfer ≡ between 36 50 n || eqb n 54
+pub transfer-is : TransferIs
 unfolding instructions values
 transfer-is = by-number (λ o. properties o .transfer) (λ n. between 36 50 n || eqb n 54) refl high
   where
     high : (n : ℕ) → 64 ≤ n → between 36 50 n || eqb n 54 ≡ false
     high n h = rw (not-between 36 50 n (omega arith), ne-eqb n 54 (λ e. omega arith))
 
--- the code of the exception where an operation may not be used, 0 where it may
-abbrev pub codeAt : Width → (user : Bool) (n : ℕ) → ℕ
-codeAt width user n = codeOf (unavailable (properties (operationOf n) .availability) width user)
-
--- "58 to 63 are unknown (code 01h)"; "Code 02h: lli, lui in 16-bit; those two (retu, chrs) in user mode"
-abbrev pub codeBy : (wide user : Bool) (n : ℕ) → ℕ
-codeBy wide user n =
-    if leb 58 n then 0x01
-    else if (between 34 35 n && not wide) || (eqb n 49 || eqb n 51) && user then 0x02
-    else 0
-
-pub unavailable-is : (wide user : Bool) (n : ℕ) → codeAt (widthBy wide) user n ≡ codeBy wide user n
+pub unavailable-is : UnavailableIs
 unfolding instructions values
 unavailable-is wide user = by-number (λ o. codeOf (unavailable (properties o .availability) (widthBy wide) user)) (codeBy wide user) (computed wide user) high
   where

@@ -10,6 +10,7 @@ use borrow.Author.Tests.{ltb-true, ltb-false}
 use Rattle.word.proofs.Tests.{either}
 use Rattle.isa.specs.Operation.{Operation, unknown, operations, operationOf, widthBy, Form, properties}
 use Rattle.isa.specs.Decode.{operandsOf}
+use Rattle.isa.specs.Theorems.{UnknownFrom}
 use Rattle.isa.specs.declared.Operands.{Operands}
 
 module _ {A : Type 0} where
@@ -49,7 +50,7 @@ by-number f g e high n =
     ap f (beyond n l) ∙ last ∙ sym (high n l))
 
 -- 58 to 63 are unknown, and beyond them there is nothing
-pub unknown-from : (n : ℕ) → 58 ≤ n → operationOf n ≡ unknown
+pub unknown-from : UnknownFrom
 unfolding values operationOf operations
 unknown-from n l =
     either (ltb n 64) (λ t. agree operationOf (λ n. unknown) 58 6 refl n l (ltb-true n 64 t)) (λ t. beyond n (ltb-false n 64 t))

@@ -6,7 +6,8 @@ use native.Mathlib.Omega.{arith}
 use native.Mathlib.Nat.{div-div-eq-div-mul}
 use lib.Dec.{eqb, lit<}
 use Rattle.word.specs.Word.{bitOf}
-use Rattle.machine.specs.Machine.{userMode, readsSet2, writesSet2, statusOf, SUPER}
+use Rattle.machine.specs.Machine.{userMode, readsSet2, writesSet2, statusOf}
+use Rattle.machine.specs.Theorems.{SuperIs}
 
 bit-small : (b : Bool) → bitOf b < 2
 bit-small true = lit< tt
@@ -28,8 +29,7 @@ bits-low n =
     let eights : n / 4 / 2 ≡ n / 8 = div-div-eq-div-mul n 4 2 in
     omega arith
 
--- "PSR becomes 0Eh" (01 "One step")
-pub super-is : SUPER ≡ 0x0E
+pub super-is : SuperIs
 unfolding statusOf
 super-is = refl
 

@@ -42,7 +42,7 @@ store-short w m n i v h = ap (take n) (drop-set-lt m w i v h)
 abbrev pub apart : (start count m n : ℕ) → Bool
 apart start count m n = leb (start + count) m || leb (m + n) start
 
-split-apart : {A : Type 0} (start count m n : ℕ) → apart start count m n ≡ true → (start + count ≤ m → A) → (m + n ≤ start → A) → A
+pub split-apart : {A : Type 0} (start count m n : ℕ) → apart start count m n ≡ true → (start + count ≤ m → A) → (m + n ≤ start → A) → A
 split-apart {A} start count m n e f g = go (leb (start + count) m) (leb (m + n) start) refl refl e
   where
     go : (a b : Bool) → leb (start + count) m ≡ a → leb (m + n) start ≡ b → a || b ≡ true → A
@@ -165,7 +165,7 @@ length-entries zero l = refl
 length-entries (suc n) l = ap suc (length-entries n (drop 4 l))
 
 -- n entries lie in the first 4 × n words
-entries-front : (n : ℕ) (l : List ℕ) → entriesOf n (take (4 * n) l) ≡ entriesOf n l
+pub entries-front : (n : ℕ) (l : List ℕ) → entriesOf n (take (4 * n) l) ≡ entriesOf n l
 unfolding entriesOf
 entries-front zero l = refl
 entries-front (suc n) l =
@@ -208,7 +208,7 @@ stack-top n w =
     ∙ rw (drop-drop (4 * n) ENTRIES w) (ap (λ e. e ∷ stackOf n w) (sym (entry-front (drop (ENTRIES + 4 * n) w))))
 
 -- it depends on its entries' words alone
-stack-by : (n : ℕ) (w k : List ℕ) → section ENTRIES (4 * n) k ≡ section ENTRIES (4 * n) w → stackOf n k ≡ stackOf n w
+pub stack-by : (n : ℕ) (w k : List ℕ) → section ENTRIES (4 * n) k ≡ section ENTRIES (4 * n) w → stackOf n k ≡ stackOf n w
 stack-by n w k e = ap reverse (sym (entries-front n (drop ENTRIES k)) ∙ ap (entriesOf n) e ∙ entries-front n (drop ENTRIES w))
 
 pub depth-is : (w : List ℕ) → length (machineOf w .stack) ≡ getD w DEPTH 0

@@ -3,6 +3,7 @@ pub mod Lists
 pub mod Registers
 pub mod Stack
 pub mod Flat
+pub mod Free
 pub mod Widths
 pub mod Bits
 pub mod Service

@@ -5,12 +5,12 @@ use mathlib.Core.List.{[]}
 use Prim.Native.Nat.{ℕ, _/_, _%_, _^_, _≤_, _<_}
 use native.Mathlib.Omega.{arith}
 use native.Mathlib.Nat.{mod-lt, div-mul-le-self, mul-mod-left, mod-one, lt-of-le-of-lt}
-use lib.ListN.{length, List·getD-eq-default}
+use lib.ListN.{List·getD-eq-default}
 use lib.Pow.{pow-pos, pow-mono}
 use lib.Dec.{leb, ltb}
 use borrow.Author.Tests.{leb-true, ltb-true, lt-ltb, eq-eqb}
 use Rattle.machine.specs.Control.{Access, writable, readOnly, constant, Register, registers, registerAt, holdsAs, canHold, keptBy, isWritable}
-use Rattle.machine.specs.Words.{OFFSETS}
+use Rattle.machine.specs.Theorems.{RegistersCount, KeptHolds}
 use Rattle.word.specs.Flags.{isAmong}
 use Rattle.word.proofs.Tests.{and-parts, and-both}
 use Rattle.machine.proofs.Widths.{holdsBelow, beyond, otherwise}
@@ -44,16 +44,14 @@ pub kept-small : (r : Register) (x : ℕ) → keptBy r x < 2 ^ r .width
 unfolding keptBy
 kept-small r x = lt-of-le-of-lt (div-mul-le-self (x % 2 ^ r .width) (2 ^ r .zeros)) (mod-lt x (pow-pos (r .width)))
 
--- a store leaves what the register can hold
-pub kept-holds : (r : Register) (x : ℕ) → isWritable (r .access) ≡ true → canHold r (keptBy r x) ≡ true
+pub kept-holds : KeptHolds
 unfolding canHold
 kept-holds r x w =
     and-both _ _ (lt-ltb _ (2 ^ r .width) (kept-small r x)) (and-both _ _ (eq-eqb _ 0 (kept-zeros r x)) (writable-holds (r .access) (r .reset) _ w))
 
 -- ---- the table
 
--- as many as there are offsets
-pub registers-count : length registers ≡ OFFSETS
+pub registers-count : RegistersCount
 unfolding registers
 registers-count = refl
 

@@ -1,4 +1,4 @@
--- The stack of interrupts in service: its depth (`ones-depth` is 01's sentence, see docs/MAP.md), its flags, and the control registers that show it.
+-- The stack of interrupts in service: its depth, its flags, and the control registers that show it.
 -- Assumes nothing.
 use mathlib.Core.Path.{_≡_, refl, sym, _∙_}
 use mathlib.Core.Bool.{true, false}
@@ -6,11 +6,12 @@ use mathlib.Core.List.{List, _∷_}
 use Prim.Native.Nat.{ℕ, _^_, _≤_, _<_}
 use native.Mathlib.Omega.{arith}
 use lib.ListN.{length, getD, length-set, length-map}
-use Rattle.word.specs.Flags.{onesOf, withFlag, withoutFlag, flagsAt, isAmong, distinctBelow}
+use Rattle.word.specs.Flags.{withFlag, withoutFlag, flagsAt, isAmong, distinctBelow}
 use Rattle.word.proofs.Flags.{ones-flags, flags-below-all, length-most, flags-pop}
 use Rattle.machine.proofs.Lists.{get-same, get-other}
 use Rattle.machine.specs.Control.{INT-SERV, RETI-ADDR, RETI-PSR, RETI-CR0}
 use Rattle.machine.specs.Stack.{sourcesOf, serviceFlags, shownTop, showStack}
+use Rattle.machine.specs.Theorems.{OnesDepth}
 use Rattle.machine.specs.declared.Entry.{Entry}
 
 length-sources : (es : List Entry) → length (sourcesOf es) ≡ length es
@@ -27,10 +28,9 @@ module _ (es : List Entry) (d : distinctBelow 12 (sourcesOf es) ≡ true) where
   unfolding serviceFlags
   service-below = flags-below-all 12 (sourcesOf es) d
 
-  -- as many entries as INT_SERV has ones
-  pub ones-depth : onesOf 12 (serviceFlags es) ≡ length es
-  unfolding serviceFlags
-  ones-depth = ones-flags 12 (sourcesOf es) d ∙ length-sources es
+pub ones-depth : OnesDepth
+unfolding serviceFlags
+ones-depth es d = ones-flags 12 (sourcesOf es) d ∙ length-sources es
 
 -- ---- an entry pushed and popped
 

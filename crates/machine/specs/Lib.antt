@@ -3,4 +3,5 @@ pub mod Machine
 pub mod Control
 pub mod Stack
 pub mod Words
+pub mod Theorems
 pub mod Computed

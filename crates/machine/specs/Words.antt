@@ -1,9 +1,11 @@
 -- The running machine as one list of words at fixed places; what an image's numbers say is image/Image: machineIn. Assumes nothing.
 use mathlib.Core.Path.{_≡_}
-use mathlib.Core.Bool.{Bool, true, false}
+use mathlib.Core.Bool.{Bool, true, false, _||_}
 use mathlib.Core.List.{List, [], _∷_, reverse}
 use Prim.Native.Nat.{ℕ, zero, suc, _+_, _*_}
 use lib.ListN.{length, getD, take, drop}
+use lib.Dec.{leb}
+use Rattle.word.specs.Flags.{isAmong}
 use Rattle.machine.specs.Machine.{Machine, Memory, State}
 use Rattle.machine.specs.declared.Position.{Position}
 use Rattle.machine.specs.declared.Entry.{Entry}
@@ -75,7 +77,7 @@ unfoldable pub entriesOf : (count : ℕ) (words : List ℕ) → List Entry
 entriesOf zero l = []
 entriesOf (suc n) l = entryOf l ∷ entriesOf n (drop 4 l)
 
--- the machine that words at these places say; the words for counts, and those past the last entry, say nothing
+-- the machine that words at these places say
 unfoldable pub machineOf : (words : List ℕ) → Machine
 machineOf ws =
     record {
@@ -87,11 +89,25 @@ machineOf ws =
       stack = reverse (entriesOf (getD ws DEPTH 0) (drop ENTRIES ws));
     }
 
--- the state that words and a memory hold
+-- ---- what is free ("an answer that these papers leave free is named, with what holds of it", 01 "Machine image")
+
+-- the places of the words for the counts of the sections before the stack
+abbrev pub COUNTS : List ℕ
+COUNTS = 0 ∷ (SET1 + REGISTERS) ∷ (SET2 + REGISTERS) ∷ (CONDITIONS + FLAGS) ∷ (CONTROL + OFFSETS) ∷ []
+
+-- a place that says nothing of a machine with so many stack entries: that of a count, and each past the last entry
+unfoldable pub isFree : (depth place : ℕ) → Bool
+isFree depth n = isAmong n COUNTS || leb (ENTRIES + 4 * depth) n
+
+-- words say a machine; the places that are free (isFree) may hold any numbers, and nothing else may differ (Theorems: FreePlaces)
+abbrev pub Says : (words : List ℕ) → Machine → Type 0
+Says words m = machineOf words ≡ m
+
+-- the state that words and a memory hold; of the words, the places that are free (isFree) may hold any numbers
 abbrev pub stateOf : (words : List ℕ) → Memory → State
 stateOf words memory = record { machine = machineOf words; memory = memory }
 
 -- to unfold `layout` is to unfold all definitions of this file
 unfoldable pub layout : Unit {0}
-unfolding positionOf entriesOf machineOf
+unfolding positionOf entriesOf machineOf isFree
 layout = tt

@@ -1,5 +1,5 @@
 // The running machine: one flat slice of words, at fixed places, read and written through these functions.
-// Their contracts speak of the machine that the words say, so that no other crate says where a number lies.
+// Their contracts speak of the machine that the words say (specs/Words: Says, which leaves the free places open), so that no other crate says where a number lies.
 ghost use mathlib.Core.Path.{_≡_};
 ghost use mathlib.Core.Bool.{true, false};
 ghost use mathlib.Core.List.{_∷_};
@@ -10,7 +10,7 @@ ghost use Rattle.word.specs.Flags.{distinctBelow};
 ghost use Rattle.machine.specs.Machine.{psr, userMode, readsSet2, writesSet2, wideWords, interruptsEnabled, statusOf, SUPER, setBy, withRegister, written, withPsr, withConditions, withControl, withPosition};
 ghost use Rattle.machine.specs.Control.{registerAt, controlAt, largest, keptBy, isWritable, storeControl, within, INT-SERV};
 ghost use Rattle.machine.specs.Stack.{popped, sourcesOf, serviceFlags, shownTop, showTop, withStack};
-ghost use Rattle.machine.specs.Words.{REGISTERS, FLAGS, OFFSETS, SOURCES, MachineWords, ENTRIES, startBy, section, entryOf, machineOf};
+ghost use Rattle.machine.specs.Words.{REGISTERS, FLAGS, OFFSETS, SOURCES, MachineWords, ENTRIES, startBy, section, entryOf, machineOf, Says};
 use word::has_flag;
 use word::with_flag;
 use word::without_flag;
@@ -255,7 +255,7 @@ pub fn condition(w: &[u32], n: u32) -> u32
 // Register n of the set that a bit of PSR names takes x.
 pub fn set_register(w: &mut [u32], second: bool, n: u32, x: u32)
     requires { ⌜ MachineWords (now w) × (n < REGISTERS) ⌝ }
-    ensures { λ _. ⌜ machineOf (now (w .exit)) ≡ withRegister second n x (machineOf (now (w .entry))) ⌝ }
+    ensures { λ _. ⌜ Says (now (w .exit)) (withRegister second n x (machineOf (now (w .entry)))) ⌝ }
 {
     w[place(second, n)] = x;
 }
@@ -263,7 +263,7 @@ pub fn set_register(w: &mut [u32], second: bool, n: u32, x: u32)
 // Register n of the set that a bit of PSR names takes x; a write to PSR is ignored.
 pub fn write_register(w: &mut [u32], second: bool, n: u32, x: u32)
     requires { ⌜ MachineWords (now w) × (n < REGISTERS) ⌝ }
-    ensures { λ _. ⌜ machineOf (now (w .exit)) ≡ written second n x (machineOf (now (w .entry))) ⌝ }
+    ensures { λ _. ⌜ Says (now (w .exit)) (written second n x (machineOf (now (w .entry)))) ⌝ }
 {
     let at = place(second, n);
     if at != PSR {
@@ -274,7 +274,7 @@ pub fn write_register(w: &mut [u32], second: bool, n: u32, x: u32)
 // The program status register takes q.
 pub fn set_psr(w: &mut [u32], q: u32)
     requires { ⌜ MachineWords (now w) ⌝ }
-    ensures { λ _. ⌜ machineOf (now (w .exit)) ≡ withPsr q (machineOf (now (w .entry))) ⌝ }
+    ensures { λ _. ⌜ Says (now (w .exit)) (withPsr q (machineOf (now (w .entry)))) ⌝ }
 {
     w[PSR] = q;
 }
@@ -282,7 +282,7 @@ pub fn set_psr(w: &mut [u32], q: u32)
 // Condition register n takes x.
 pub fn set_condition(w: &mut [u32], n: u32, x: u32)
     requires { ⌜ MachineWords (now w) × (n < FLAGS) ⌝ }
-    ensures { λ _. ⌜ machineOf (now (w .exit)) ≡ withConditions (set (machineOf (now (w .entry)) .conditions) n x) (machineOf (now (w .entry))) ⌝ }
+    ensures { λ _. ⌜ Says (now (w .exit)) (withConditions (set (machineOf (now (w .entry)) .conditions) n x) (machineOf (now (w .entry)))) ⌝ }
 {
     w[CONDITIONS + n as usize] = x;
 }
@@ -312,7 +312,7 @@ pub fn control_at(w: &[u32], n: u32) -> u32
 // The control register at an offset takes x.
 pub fn set_control(w: &mut [u32], n: u32, x: u32)
     requires { ⌜ MachineWords (now w) × (n < OFFSETS) ⌝ }
-    ensures { λ _. ⌜ machineOf (now (w .exit)) ≡ withControl (set (machineOf (now (w .entry)) .control) n x) (machineOf (now (w .entry))) ⌝ }
+    ensures { λ _. ⌜ Says (now (w .exit)) (withControl (set (machineOf (now (w .entry)) .control) n x) (machineOf (now (w .entry)))) ⌝ }
 {
     w[CONTROL + n as usize] = x;
 }
@@ -340,7 +340,7 @@ pub fn limit(offset: u32) -> u32
 }
 
 // Whether a store to the control register at an offset changes it.
-pub fn writable(offset: u32) -> bool
+fn writable(offset: u32) -> bool
     ensures { λ r. ⌜ r ≡ isWritable (registerAt offset .access) ⌝ }
 {
     match offset {
@@ -354,7 +354,7 @@ pub fn writable(offset: u32) -> bool
 }
 
 // What a store of x leaves in a writable control register.
-pub fn kept(offset: u32, x: u32) -> u32
+fn kept(offset: u32, x: u32) -> u32
     ensures { λ r. ⌜ r ≡ keptBy (registerAt offset) x ⌝ }
 {
     let bits = x & limit(offset);
@@ -364,7 +364,7 @@ pub fn kept(offset: u32, x: u32) -> u32
 // A store of x to the control block at an offset.
 pub fn store_control(w: &mut [u32], offset: u32, x: u32)
     requires { ⌜ MachineWords (now w) ⌝ }
-    ensures { λ _. ⌜ machineOf (now (w .exit)) ≡ storeControl offset x (machineOf (now (w .entry))) ⌝ }
+    ensures { λ _. ⌜ Says (now (w .exit)) (storeControl offset x (machineOf (now (w .entry)))) ⌝ }
 {
     if writable(offset) {
         set_control(w, offset, kept(offset, x));
@@ -421,7 +421,7 @@ pub fn high(w: &[u32]) -> u32
 }
 
 // Its low word.
-pub fn low(w: &[u32]) -> u32
+fn low(w: &[u32]) -> u32
     requires { ⌜ MachineWords (now w) ⌝ }
     ensures { λ r. ⌜ r ≡ machineOf (now (w .entry)) .position .low ⌝ }
 {
@@ -446,7 +446,7 @@ pub fn position_of(w: &[u32]) -> Position
 // The program position takes p.
 pub fn set_position(w: &mut [u32], p: Position)
     requires { ⌜ MachineWords (now w) ⌝ }
-    ensures { λ _. ⌜ machineOf (now (w .exit)) ≡ withPosition p (machineOf (now (w .entry))) ⌝ }
+    ensures { λ _. ⌜ Says (now (w .exit)) (withPosition p (machineOf (now (w .entry)))) ⌝ }
 {
     w[PC] = p.pc;
     w[SLOT] = p.slot;
@@ -501,7 +501,7 @@ pub fn top(w: &[u32]) -> Entry
 // INT_SERV takes flags, and the RETI_ registers show an entry.
 fn show(w: &mut [u32], flags: u32, e: Entry)
     requires { ⌜ MachineWords (now w) ⌝ }
-    ensures { λ _. ⌜ machineOf (now (w .exit)) ≡ withControl (showTop flags e (machineOf (now (w .entry)) .control)) (machineOf (now (w .entry))) ⌝ }
+    ensures { λ _. ⌜ Says (now (w .exit)) (withControl (showTop flags e (machineOf (now (w .entry)) .control)) (machineOf (now (w .entry)))) ⌝ }
 {
     w[SERVED] = flags;
     w[RETURN_ADDRESS] = e.address;
@@ -514,7 +514,7 @@ pub fn push(w: &mut [u32], e: Entry)
     requires { ⌜ MachineWords (now w) ⌝ }
     requires flags { ⌜ controlAt (machineOf (now w)) INT-SERV ≡ serviceFlags (machineOf (now w) .stack) ⌝ }
     requires sources { ⌜ distinctBelow SOURCES (sourcesOf (e ∷ machineOf (now w) .stack)) ≡ true ⌝ }
-    ensures { λ _. ⌜ machineOf (now (w .exit)) ≡ withStack (e ∷ machineOf (now (w .entry)) .stack) (machineOf (now (w .entry))) ⌝ }
+    ensures { λ _. ⌜ Says (now (w .exit)) (withStack (e ∷ machineOf (now (w .entry)) .stack) (machineOf (now (w .entry)))) ⌝ }
 {
     let n = depth(w);
     let flags = with_flag(w[SERVED], e.source);
@@ -533,7 +533,7 @@ pub fn pop(w: &mut [u32])
     requires flags { ⌜ controlAt (machineOf (now w)) INT-SERV ≡ serviceFlags (machineOf (now w) .stack) ⌝ }
     requires sources { ⌜ distinctBelow SOURCES (sourcesOf (machineOf (now w) .stack)) ≡ true ⌝ }
     requires entry { ⌜ 0 < length (machineOf (now w) .stack) ⌝ }
-    ensures { λ _. ⌜ machineOf (now (w .exit)) ≡ withStack (popped (machineOf (now (w .entry)) .stack)) (machineOf (now (w .entry))) ⌝ }
+    ensures { λ _. ⌜ Says (now (w .exit)) (withStack (popped (machineOf (now (w .entry)) .stack)) (machineOf (now (w .entry)))) ⌝ }
 {
     let n = depth(w);
     let e = top(w);

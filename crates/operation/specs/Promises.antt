@@ -7,12 +7,12 @@ use Rattle.view.specs.View.{View, viewOf}
 use Rattle.effect.specs.Effect.{Effect}
 use Rattle.effect.specs.Apply.{reportBy, reportOn}
 
--- words become those after the effect that their view gives, whatever the program and the memory hold; the memory stays
+-- words become those after the effect that their view gives, but for free places (machine/Words: isFree), whatever the program and the memory hold; the memory stays
 abbrev pub PerformsSeen : (View → Effect) → (stop : ℕ) (before after : List ℕ) → Type 0
 PerformsSeen e n before after =
     (program : List ℕ) (memory : Memory) → reportBy n after memory ≡ reportOn (e (viewOf program before memory)) before memory
 
--- words and cells become those after the effect that their view gives, whatever the program holds
+-- words, but for free places (machine/Words: isFree), and cells become those after the effect that their view gives, whatever the program holds
 abbrev pub PerformsStoring : (View → Effect) → (stop : ℕ) (before cells after stored : List ℕ) → Type 0
 PerformsStoring e n before cells after stored =
     (program : List ℕ)

@@ -15,17 +15,11 @@ use Rattle.machine.specs.Control.{controlAt, INT-MASK, INT-PEND}
 use Rattle.machine.specs.Stack.{sourcesOf}
 use Rattle.machine.specs.declared.Entry.{Entry}
 use Rattle.view.specs.View.{View}
+use Rattle.step.specs.Theorems.{Accepted, CandidateAccepted}
 use Rattle.step.specs.Interrupt.{priority, belowAll, eligible, before, candidate, mayAccept, acceptedSource}
 
-pub record Accepted (m : Machine) (n : ℕ) : Type 0 where
-  pub below : n < 12
-  pub pending : bitAt n (controlAt m INT-PEND) ≡ true
-  pub unmasked : bitAt n (controlAt m INT-MASK) ≡ true
-  pub urgent : belowAll m (priority m n) (m .stack) ≡ true
-  pub new : isAmong n (sourcesOf (m .stack)) ≡ false
-
 -- no number is below itself: a source whose priority number is below those of all in service is none of them
-pub urgent-new : (m : Machine) (n : ℕ) (es : List Entry) → belowAll m (priority m n) es ≡ true → isAmong n (sourcesOf es) ≡ false
+urgent-new : (m : Machine) (n : ℕ) (es : List Entry) → belowAll m (priority m n) es ≡ true → isAmong n (sourcesOf es) ≡ false
 unfolding belowAll sourcesOf isAmong
 urgent-new m n [] h = refl
 urgent-new m n (e ∷ es) h =
@@ -46,7 +40,7 @@ candidate-eligible m (suc k) n =
     (λ b e. let same : k ≡ n = cc in (omega arith, rw same at (and-parts (eligible m k) (before m k (candidate m k)) b .0)))
     (λ _ e. let r = candidate-eligible m k n e in let l : n < k = r .0 in (omega arith, r .1))
 
-pub candidate-accepted : (m : Machine) (n : ℕ) → candidate m 12 ≡ some n → Accepted m n
+pub candidate-accepted : CandidateAccepted
 unfolding eligible
 candidate-accepted m n e =
     let c = candidate-eligible m 12 n e in

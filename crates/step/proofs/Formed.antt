@@ -18,7 +18,7 @@ use Rattle.machine.specs.Machine.{Machine, State, PSR, SPSR, LINK, SUPER, psr, 
 use Rattle.machine.specs.Control.{controlAt, registers, registerAt, holdsAs, INT-VECTORS, INT-PEND, SYSTEM-ADDR, EXCEP-ADDR, EXCEPTION-CS, EXCEPTION-PC, EXCEPTION-PSR, withPending}
 use Rattle.machine.proofs.Bits.{status-small, status-low, status-user, status-kept}
 use Rattle.machine.proofs.Registers.{holds-small}
-use Rattle.formed.proofs.Formed.{sized-set, StatusOk, registers-below, Stacked, pushed, WellFormed}
+use Rattle.formed.proofs.Formed.{sized-set, StatusOk, registers-below, Stacked, pushed, WellFormed, true-formed, formed-true}
 use Rattle.view.specs.View.{View, view}
 use Rattle.effect.specs.Apply.{writeRegister, writeFlags, unpacked, wordsOn, nextPc, advance, advanceHolding, jumpTo, raise, systemCall, userReturn, interruptReturn, enableInterrupts, switchWidth, selectSets, machineOnly, storeCell, updated, apply}
 use Rattle.execute.specs.Decide.{decide}
@@ -30,7 +30,8 @@ use Rattle.effect.specs.Effect.{Effect, Stopped, Raised, SystemCall, InterruptR
 use Rattle.execute.proofs.Safe.{SafeUpdate, Safe, decide-safe}
 use Rattle.word.proofs.Tests.{if-holds}
 use Rattle.formed.proofs.Stored.{control-of, control-put, top-shown, rest-stacked}
-use Rattle.step.proofs.Accepted.{Accepted, source-accepted}
+use Rattle.step.specs.Theorems.{Accepted, StaysFormed}
+use Rattle.step.proofs.Accepted.{source-accepted}
 use Rattle.formed.proofs.Parts.{second-of, second-set, set1-formed, set2-formed, psr-formed, conditions-formed, control-formed, stored-formed, position-formed, stack-formed, moved-formed}
 
 -- ---- status: PSR
@@ -256,3 +257,6 @@ step-formed p s q f =
     let v = view p r in
     let g = requests-formed s q f in
     step-holds (λ (t : State). WellFormed (t .machine)) p s q f (λ n a. accept-formed a g) (apply-formed p r (decide v) (decide-safe v) g)
+
+pub stays-formed : StaysFormed
+stays-formed p s q h = formed-true (step-formed p s q (true-formed (s .machine) h))

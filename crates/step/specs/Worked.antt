@@ -1,5 +1,6 @@
 -- The worked examples of 01 that are marked *, as a table: one step from a start, what is shown of it, and what that must be. Assumes nothing.
-use mathlib.Core.List.{List, [], _∷_}
+use mathlib.Core.Path.{_≡_}
+use mathlib.Core.List.{List, [], _∷_, map}
 use Prim.Native.Nat.{ℕ, _+_, _*_, _^_}
 use lib.ListN.{getD, set, replicate}
 use Rattle.isa.specs.Operation.{Operation, add, sub, subu, muls, mulu, mulus, ld, jmp, Properties, properties}
@@ -70,20 +71,24 @@ load a kind expected =
 
 unfoldable pub cases : List Case
 cases =
+    -- "add 7FFFFFFFh + 0 passes; + 1 is 06h, C0 untouched"
     sum add 0x7FFF_FFFF 0 Ordinary (0x7FFF_FFFF ∷ 0 ∷ []) ∷
     sum add 0x7FFF_FFFF 1 (Exception 0x06) (0 ∷ 5 ∷ []) ∷
+    -- "sub 80000000h − 1 is 06h; subu gives 7FFFFFFFh"
     sum sub 0x8000_0000 1 (Exception 0x06) (0 ∷ 5 ∷ []) ∷
     sum subu 0x8000_0000 1 Ordinary (0x7FFF_FFFF ∷ 1 ∷ []) ∷
+    -- "mulu FFFFFFFFh by itself: low 1, high FFFFFFFEh; mulus: low 1, high FFFFFFFFh; muls: 1, 0"
     product mulu 0xFFFF_FFFF 0xFFFF_FFFF (1 ∷ 0xFFFF_FFFE ∷ []) ∷
     product mulus 0xFFFF_FFFF 0xFFFF_FFFF (1 ∷ 0xFFFF_FFFF ∷ []) ∷
     product muls 0xFFFF_FFFF 0xFFFF_FFFF (1 ∷ 0 ∷ []) ∷
-    -- 0C11h, 16-bit words: R25 becomes R26 - R25
+    -- "0C11h: R25 becomes R26 − R25", a 16-bit word
     record { psr = 0x01; program = 0x0C ∷ 0x11 ∷ []; r1 = 0; r2 = 0; r25 = 3; r26 = 10; shown = λ s. getD (s .machine .set1) 25 0 ∷ []; kind = Ordinary; expected = 7 ∷ [] } ∷
+    -- "at 0, jmp 1 is 03h, jmp 2 goes to 8"
     jump 1 (Exception 0x03) (0 ∷ 0 ∷ []) ∷
     jump 2 Ordinary (1 ∷ 8 ∷ []) ∷
-    -- swm 0 at 0
+    -- "swm 0 (D8000000h) at 0: PC 12"
     wide (word 0xD800_0000) 0 0 (λ s. s .machine .position .pc ∷ []) Ordinary (12 ∷ []) ∷
-    -- LO - 1, HI + 1, LO, HI
+    -- "user ld at LO−1 and HI+1, cells being there, passes; at LO and HI it is 07h"
     load 0x0F Ordinary (77 ∷ []) ∷
     load 0x14 Ordinary (77 ∷ []) ∷
     load 0x10 (Exception 0x07) (0 ∷ []) ∷
@@ -103,3 +108,7 @@ given c =
 
 unfoldable pub wanted : Case → Seen
 wanted c = record { kind = c .kind; shown = c .expected }
+
+-- the definitions give what they must, at each case
+abbrev pub Worked : Type 0
+Worked = map given cases ≡ map wanted cases

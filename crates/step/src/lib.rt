@@ -6,7 +6,7 @@ ghost use lib.ListN.{length};
 ghost use Rattle.word.specs.Flags.{isAmong};
 ghost use Rattle.machine.specs.Machine.{psr, widthOf, MOST-MEMORY, Memory, memoryOf};
 ghost use Rattle.machine.specs.Stack.{sourcesOf};
-ghost use Rattle.machine.specs.Words.{MachineWords, machineOf, stateOf};
+ghost use Rattle.machine.specs.Words.{MachineWords, machineOf, Says, stateOf};
 ghost use Rattle.formed.specs.Questions.{wellFormed};
 ghost use Rattle.view.specs.View.{viewOf};
 ghost use Rattle.effect.specs.Apply.{reported, reportBy};
@@ -26,7 +26,7 @@ const MULHI: u32 = 31;
 // The step's requests are added to INT_PEND.
 fn add_requests(w: &mut [u32], requests: u32)
     requires { ⌜ MachineWords (now w) × (wellFormed (machineOf (now w)) ≡ true) ⌝ }
-    ensures { λ _. ⌜ machineOf (now (w .exit)) ≡ addRequests requests (machineOf (now (w .entry))) ⌝ }
+    ensures { λ _. ⌜ Says (now (w .exit)) (addRequests requests (machineOf (now (w .entry)))) ⌝ }
 {
     let flags = word::or(machine::control(w, machine::INT_PEND), requests);
     machine::set_control(w, machine::INT_PEND, flags % 4096);
@@ -170,7 +170,7 @@ fn entry_for(w: &[u32], n: u32) -> Entry
 fn accept(w: &mut [u32], n: u32)
     requires { ⌜ MachineWords (now w) × (wellFormed (machineOf (now w)) ≡ true) ⌝ }
     requires new { ⌜ (n < 12) × (isAmong n (sourcesOf (machineOf (now w) .stack)) ≡ false) ⌝ }
-    ensures { λ _. ⌜ machineOf (now (w .exit)) ≡ accept n (machineOf (now (w .entry))) ⌝ }
+    ensures { λ _. ⌜ Says (now (w .exit)) (accept n (machineOf (now (w .entry)))) ⌝ }
 {
     let entry = entry_for(w, n);
     let psr = service_psr(w, n);

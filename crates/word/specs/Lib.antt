@@ -4,4 +4,3 @@ pub mod Word
 pub mod Arithmetic
 pub mod Flags
 pub mod Computed
-pub mod Worked

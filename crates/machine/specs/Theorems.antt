@@ -1,0 +1,36 @@
+-- What is proved of machines: the statements, each with the sentence that it says. Assumes nothing.
+use mathlib.Core.Path.{_≡_}
+use mathlib.Core.Logic.{_↔_}
+use mathlib.Core.Bool.{true, false}
+use mathlib.Core.List.{List}
+use Prim.Native.Nat.{ℕ}
+use lib.ListN.{length, getD}
+use Rattle.word.specs.Flags.{onesOf, distinctBelow}
+use Rattle.machine.specs.Machine.{SUPER}
+use Rattle.machine.specs.Control.{Register, registers, canHold, keptBy, isWritable}
+use Rattle.machine.specs.Stack.{sourcesOf, serviceFlags}
+use Rattle.machine.specs.Words.{OFFSETS, SOURCES, DEPTH, MachineWords, machineOf, isFree, Says}
+use Rattle.machine.specs.declared.Entry.{Entry}
+
+-- "an answer that these papers leave free is named, with what holds of it": two lists of words say the same machine exactly where they agree at each place that is
+-- not free, the count of stack entries among these
+abbrev pub FreePlaces : Type 0
+FreePlaces =
+    (words others : List ℕ) → MachineWords words → MachineWords others
+    → Says words (machineOf others) ↔ ((place : ℕ) → isFree (getD words DEPTH 0) place ≡ false → getD words place 0 ≡ getD others place 0)
+
+-- "Offsets 00h to 2Ch": the table of control registers has a row for each offset
+abbrev pub RegistersCount : Type 0
+RegistersCount = length registers ≡ OFFSETS
+
+-- "A short register keeps its low bits ..; CCB_BASE's low byte is stored 0": a store leaves what the register can hold (question 3)
+abbrev pub KeptHolds : Type 0
+KeptHolds = (r : Register) (x : ℕ) → isWritable (r .access) ≡ true → canHold r (keptBy r x) ≡ true
+
+-- "The stack has as many entries as INT_SERV has ones"
+abbrev pub OnesDepth : Type 0
+OnesDepth = (stack : List Entry) → distinctBelow SOURCES (sourcesOf stack) ≡ true → onesOf SOURCES (serviceFlags stack) ≡ length stack
+
+-- "PSR becomes 0Eh"
+abbrev pub SuperIs : Type 0
+SuperIs = SUPER ≡ 0x0E
