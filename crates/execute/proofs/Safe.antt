@@ -2,10 +2,11 @@
 use mathlib.Core.Path.{_≡_, refl}
 use mathlib.Core.Bool.{Bool, true, false}
 use mathlib.Core.Option.{Option, none, some}
+use mathlib.Core.List.{List}
 use Prim.Native.Nat.{ℕ, _≤_}
 use native.Mathlib.Omega.{arith}
 use lib.Dec.{lit≤}
-use lib.IntN.{ℤ, pos, _+ℤ_}
+use lib.IntN.{ℤ}
 use Rattle.word.specs.Choice.{if_then_else_}
 use Rattle.word.specs.Word.{wordOf}
 use Rattle.word.specs.declared.Sum.{Sum}
@@ -13,16 +14,13 @@ use Rattle.isa.specs.Operation.{Operation, nop, add, addu, sub, subu, and, or, 
 use Rattle.isa.specs.Condition.{Condition}
 use Rattle.isa.specs.Decode.{decode}
 use Rattle.isa.specs.declared.Instruction.{Instruction}
-use Rattle.machine.specs.Machine.{userMode, widthOf}
-use Rattle.view.specs.View.{View}
+use Rattle.machine.specs.Machine.{State, userMode, widthOf}
+use Rattle.view.specs.View.{Attempt, Found, Raises, Stops, Location, Block, Cell, View, view}
 use Rattle.view.proofs.Addresses.{Reached}
+use Rattle.view.proofs.Answers.{Numbered, StopsNumbered, view-numbered}
 use Rattle.word.proofs.Tests.{if-holds}
-use Rattle.operation.specs.Execute.{checked, wrapped, product, loaded, stored, targetBy, jumped, branch, execute}
+use Rattle.operation.specs.Execute.{checked, wrapped, product, onFound, stored, targetBy, jumped, branch, execute}
 use Rattle.execute.specs.Decide.{perform, ifAvailable, instruction, fetchedThen, decide}
-use Rattle.view.specs.declared.Fetched.{Fetched}
-use Rattle.view.specs.declared.Fetched.the-variants.{Word, Fault, Absent}
-use Rattle.view.specs.declared.Place.{Place}
-use Rattle.view.specs.declared.Place.the-variants.{Block, Cell, Denied, Missing}
 use Rattle.effect.specs.Update.{Update}
 use Rattle.effect.specs.Update as update
 use Rattle.effect.specs.Effect.{Effect, Stopped, Raised, SystemCall, InterruptReturn, StoreCell, Updates, Jump, JumpLink}
@@ -62,19 +60,16 @@ module _ (v : View) where
   unfolding checked
   checked-safe d s = if-safe _ _ _ (λ _. tt) (λ _. tt)
 
-  loaded-safe : (d x : ℕ) (p : Place) → Safe v (loaded d x p)
-  unfolding loaded
-  loaded-safe d x (Block n) = tt
-  loaded-safe d x (Cell a) = tt
-  loaded-safe d x (Denied c) = tt
-  loaded-safe d x Missing = (lit≤ tt, lit≤ tt)
+  found-safe : {A : Type 0} (f : A → Effect) (t : Attempt A) → Numbered t → ((x : A) → t ≡ Found x → Safe v (f x)) → Safe v (onFound f t)
+  unfolding onFound
+  found-safe f (Found x) n h = h x refl
+  found-safe f (Raises c) n h = tt
+  found-safe f (Stops k) n h = n
 
-  stored-safe : (x : ℕ) (p : Place) → Reached v p → Safe v (stored x p)
+  stored-safe : (x : ℕ) (l : Location) → Reached v l → Safe v (stored x l)
   unfolding stored
   stored-safe x (Block n) h = h
   stored-safe x (Cell a) h = h
-  stored-safe x (Denied c) h = tt
-  stored-safe x Missing h = (lit≤ tt, lit≤ tt)
 
   jumped-safe : (z : ℤ) (taken : ℕ → Effect) → ((t : ℕ) → Safe v (taken t)) → Safe v (jumped v z taken)
   unfolding jumped
@@ -95,7 +90,7 @@ unfolding unavailable
 super-only w true e = absurd (let z : _≡_ {A = ℕ} 0 1 = cc in omega arith)
 super-only w false e = refl
 
-module _ (v : View) (i : Instruction) (x y : ℕ) where
+module _ (v : View) (h : StopsNumbered v) (i : Instruction) (x y : ℕ) where
   execute-safe : (op : Operation) → Available v op → Safe v (execute op v i x y)
   unfolding execute wrapped product properties
   execute-safe nop e = tt
@@ -125,8 +120,8 @@ module _ (v : View) (i : Instruction) (x y : ℕ) where
   execute-safe srli e = tt
   execute-safe srai e = tt
   execute-safe sexti e = tt
-  execute-safe ld e = let a = pos x +ℤ i .immediate in loaded-safe v (i .dreg) (v .load a) (v .place a)
-  execute-safe st e = let a = pos x +ℤ i .immediate in stored-safe v (v .source (i .dreg)) (v .place a) (a, refl)
+  execute-safe ld e = found-safe v _ _ (h .loading _) (λ w _. tt)
+  execute-safe st e = found-safe v _ _ (h .access _) (λ l r. stored-safe v (v .source (i .dreg)) l (_, r))
   execute-safe mov e = tt
   execute-safe not e = tt
   execute-safe mulhi e = if-safe v _ _ _ (λ _. tt) (λ _. (lit≤ tt, lit≤ tt))
@@ -160,19 +155,19 @@ module _ (v : View) (i : Instruction) (x y : ℕ) where
 
 -- ---- the order of the tests
 
-available-safe : (v : View) (i : Instruction) (op : Operation) (o : Option ℕ)
-    → unavailable (properties op .availability) (widthOf (v .status)) (userMode (v .status)) ≡ o → Safe v (ifAvailable v i op o)
-unfolding ifAvailable perform
-available-safe v i op (some c) e = tt
-available-safe v i op none e =
-    if-safe v _ _ _ (λ _. (lit≤ tt, lit≤ tt)) (λ _. if-safe v _ _ _ (λ _. tt) (λ _. execute-safe v i (v .source (i .sreg1)) (v .source (i .sreg2)) op e))
+module _ (v : View) (h : StopsNumbered v) where
+  available-safe : (i : Instruction) (op : Operation) (o : Option ℕ)
+      → unavailable (properties op .availability) (widthOf (v .status)) (userMode (v .status)) ≡ o → Safe v (ifAvailable v i op o)
+  unfolding ifAvailable perform
+  available-safe i op (some c) e = tt
+  available-safe i op none e =
+      if-safe v _ _ _ (λ _. (lit≤ tt, lit≤ tt)) (λ _. if-safe v _ _ _ (λ _. tt) (λ _. execute-safe v h i (v .source (i .sreg1)) (v .source (i .sreg2)) op e))
 
-fetched-safe : (v : View) (f : Fetched) → Safe v (fetchedThen v f)
-unfolding fetchedThen instruction
-fetched-safe v (Word w) = let i = decode (widthOf (v .status)) w in available-safe v i (operationOf (i .opcode)) _ refl
-fetched-safe v (Fault c) = tt
-fetched-safe v Absent = (lit≤ tt, lit≤ tt)
+  decided-safe : Safe v (decide v)
+  unfolding decide fetchedThen instruction
+  decided-safe =
+      found-safe v _ (v .fetched) (h .fetch) (λ w _. let i = decode (widthOf (v .status)) w in available-safe i (operationOf (i .opcode)) _ refl)
 
-pub decide-safe : (v : View) → Safe v (decide v)
-unfolding decide
-decide-safe v = fetched-safe v (v .fetched)
+-- what the view of a state decides
+pub decide-safe : (program : List ℕ) (s : State) → Safe (view program s) (decide (view program s))
+decide-safe program s = decided-safe (view program s) (view-numbered program s)

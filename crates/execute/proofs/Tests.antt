@@ -14,11 +14,10 @@ use Rattle.isa.proofs.Decoded.{InRange, in-range}
 use Rattle.machine.specs.Machine.{Machine, psr, userMode, wideWords, widthOf, Memory}
 use Rattle.machine.specs.declared.Position.{Position}
 use Rattle.machine.specs.Words.{machineOf}
-use Rattle.view.specs.View.{View, view, viewOf, conditionFalse}
+use Rattle.view.specs.View.{Found, View, view, viewOf, conditionFalse}
 use Rattle.effect.specs.Effect.{Effect, Stopped, Raised, Next}
-use Rattle.operation.specs.Execute.{execute}
+use Rattle.operation.specs.Execute.{onFound, execute}
 use Rattle.execute.specs.Decide.{perform, fetchedThen}
-use Rattle.view.specs.declared.Fetched.the-variants.{Word}
 use Rattle.execute.proofs.Order.{codeFor, transferInSlot, barred, in-slot, skipped, performed}
 use Rattle.effect.specs.Apply.{Report, reportOn}
 use Rattle.isa.proofs.Groups.{usable-low, no-transfer}
@@ -51,9 +50,9 @@ module _ (p w : List ℕ) (memory : Memory) {word op : ℕ} {i : Instruction} (d
 
   -- the word carried out
   abbrev done : Report
-  done = reportOn (fetchedThen v (Word word)) w memory
+  done = reportOn (fetchedThen v (Found word)) w memory
 
-  by : (e : Effect) → fetchedThen v (Word word) ≡ e → done ≡ reportOn e w memory
+  by : (e : Effect) → fetchedThen v (Found word) ≡ e → done ≡ reportOn e w memory
   by e = ap (λ (e : Effect). reportOn e w memory)
 
   -- ---- its tests, by its number
@@ -76,25 +75,25 @@ module _ (p w : List ℕ) (memory : Memory) {word op : ℕ} {i : Instruction} (d
 
   -- it may not be used
   pub word-barred : (code : ℕ) → code ≡ code-now → (code ≡ 0 → ⊥) → done ≡ reportOn (Raised code) w memory
-  unfolding view fetchedThen
+  unfolding view onFound fetchedThen
   word-barred code c n = by (Raised code) (rw (← (d .same)) (barred v i code (c ∙ sym same-code) n))
 
   module _ (usable : code-now ≡ 0) where
     -- stop 13
     pub word-in-slot : transfer-now ≡ true → done ≡ reportOn (Stopped 13) w memory
-    unfolding view fetchedThen
+    unfolding view onFound fetchedThen
     word-in-slot t = by (Stopped 13) (rw (← (d .same)) (in-slot v i (same-code ∙ usable) (same-transfer ∙ t)))
 
     module _ (t : transfer-now ≡ false) where
       -- its condition is false
       pub word-skipped : conditionFalse v i ≡ true → done ≡ reportOn Next w memory
-      unfolding view fetchedThen
+      unfolding view onFound fetchedThen
       word-skipped c = by Next (rw (← (d .same)) (skipped v i (same-code ∙ usable) (same-transfer ∙ t) c))
 
       -- its own effect, on its two sources
       pub word-performed : conditionFalse v i ≡ false → (x y : ℕ) → x ≡ v .source (i .sreg1) → y ≡ v .source (i .sreg2)
           → done ≡ reportOn (execute (operationOf (i .opcode)) v i x y) w memory
-      unfolding view fetchedThen perform
+      unfolding view onFound fetchedThen perform
       word-performed c x y a b = by (execute (operationOf (i .opcode)) v i x y) (rw (← (d .same), a, b) (performed v i (same-code ∙ usable) (same-transfer ∙ t) c))
 
   -- nop to cmpi: only the condition is asked

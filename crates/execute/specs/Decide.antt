@@ -9,10 +9,8 @@ use Rattle.isa.specs.Decode.{decode}
 use Rattle.isa.specs.declared.Instruction.{Instruction}
 use Rattle.machine.specs.Machine.{userMode, widthOf}
 use Rattle.machine.specs.declared.Position.{Position}
-use Rattle.view.specs.View.{View, conditionFalse}
-use Rattle.operation.specs.Execute.{execute}
-use Rattle.view.specs.declared.Fetched.{Fetched}
-use Rattle.view.specs.declared.Fetched.the-variants.{Word, Fault, Absent}
+use Rattle.view.specs.View.{Attempt, View, conditionFalse}
+use Rattle.operation.specs.Execute.{onFound, execute}
 use Rattle.effect.specs.Effect.{Effect, Stopped, Raised, Next}
 
 -- its own effect, on its two sources
@@ -34,11 +32,9 @@ instruction v i =
     let op = operationOf (i .opcode) in
     ifAvailable v i op (unavailable (properties op .availability) (widthOf (v .status)) (userMode (v .status)))
 
--- what was fetched: 05h and 00h, stop 11, or an instruction word of the width that IL says
-unfoldable pub fetchedThen : View → Fetched → Effect
-fetchedThen v (Word w) = instruction v (decode (widthOf (v .status)) w)
-fetchedThen v (Fault c) = Raised c
-fetchedThen v Absent = Stopped 11
+-- what was fetched: an instruction word of the width that IL says; else the exception or the stop
+unfoldable pub fetchedThen : View → Attempt ℕ → Effect
+fetchedThen v = onFound (λ w. instruction v (decode (widthOf (v .status)) w))
 
 -- what the next instruction does
 unfoldable pub decide : View → Effect

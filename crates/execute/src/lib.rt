@@ -7,8 +7,7 @@ ghost use Rattle.isa.specs.Operation.{operationOf, Properties, properties, unav
 ghost use Rattle.isa.specs.Decode.{opcodeOf};
 ghost use Rattle.machine.specs.Machine.{MOST-MEMORY, psr, userMode, widthOf, memoryOf};
 ghost use Rattle.machine.specs.Words.{MachineWords, machineOf};
-ghost use Rattle.view.specs.View.{viewOf};
-ghost use Rattle.view.specs.declared.Fetched.the-variants.{Word};
+ghost use Rattle.view.specs.View.{Found, viewOf};
 ghost use Rattle.execute.specs.Decide.{fetchedThen, decide};
 ghost use Rattle.effect.specs.Apply.{reportBy, reportOn};
 ghost use Rattle.machine.specs.Stack.{StackShown};
@@ -36,7 +35,7 @@ fn unavailability(w: &[u32], op: u32) -> u32
 // Words of operations 1 to 17: add to sext.
 fn register_word(w: &mut [u32], word: u32, op: u32) -> u32
     requires { ⌜ MachineWords (now w) × (op ≡ opcodeOf (widthOf (psr (machineOf (now w)))) word) × (1 ≤ op) × (op ≤ 17) ⌝ }
-    ensures { λ r. ⌜ PerformsSeen (λ v. fetchedThen v (Word word)) r (now (w .entry)) (now (w .exit)) ⌝ }
+    ensures { λ r. ⌜ PerformsSeen (λ v. fetchedThen v (Found word)) r (now (w .entry)) (now (w .exit)) ⌝ }
 {
     let i = isa::decode_registers(word, wide_words(w), op);
     if condition_false(w, i) {
@@ -51,7 +50,7 @@ fn register_word(w: &mut [u32], word: u32, op: u32) -> u32
 // Words of operations 18 to 26: addi to sexti.
 fn immediate_word(w: &mut [u32], word: u32, op: u32) -> u32
     requires { ⌜ MachineWords (now w) × (op ≡ opcodeOf (widthOf (psr (machineOf (now w)))) word) × (18 ≤ op) × (op ≤ 26) ⌝ }
-    ensures { λ r. ⌜ PerformsSeen (λ v. fetchedThen v (Word word)) r (now (w .entry)) (now (w .exit)) ⌝ }
+    ensures { λ r. ⌜ PerformsSeen (λ v. fetchedThen v (Found word)) r (now (w .entry)) (now (w .exit)) ⌝ }
 {
     let i = isa::decode_immediate(word, wide_words(w), op);
     if condition_false(w, i) {
@@ -65,7 +64,7 @@ fn immediate_word(w: &mut [u32], word: u32, op: u32) -> u32
 // Words of operations 27 and 28: ld and st.
 fn access_word(w: &mut [u32], cells: &mut [u32], word: u32, op: u32) -> u32
     requires { ⌜ MachineWords (now w) × (op ≡ opcodeOf (widthOf (psr (machineOf (now w)))) word) × (27 ≤ op) × (op ≤ 28) ⌝ }
-    ensures { λ r. ⌜ PerformsStoring (λ v. fetchedThen v (Word word)) r (now (w .entry)) (now (cells .entry)) (now (w .exit)) (now (cells .exit)) ⌝ }
+    ensures { λ r. ⌜ PerformsStoring (λ v. fetchedThen v (Found word)) r (now (w .entry)) (now (cells .entry)) (now (w .exit)) (now (cells .exit)) ⌝ }
 {
     let i = isa::decode_access(word, wide_words(w), op);
     if condition_false(w, i) {
@@ -79,7 +78,7 @@ fn access_word(w: &mut [u32], cells: &mut [u32], word: u32, op: u32) -> u32
 // Words of operations 29 to 35: mov to lui. lli and lui are not there in 16-bit words.
 fn move_word(w: &mut [u32], word: u32, op: u32) -> u32
     requires { ⌜ MachineWords (now w) × (op ≡ opcodeOf (widthOf (psr (machineOf (now w)))) word) × (29 ≤ op) × (op ≤ 35) ⌝ }
-    ensures { λ r. ⌜ PerformsSeen (λ v. fetchedThen v (Word word)) r (now (w .entry)) (now (w .exit)) ⌝ }
+    ensures { λ r. ⌜ PerformsSeen (λ v. fetchedThen v (Found word)) r (now (w .entry)) (now (w .exit)) ⌝ }
 {
     let code = unavailability(w, op);
     if code != 0 {
@@ -98,7 +97,7 @@ fn move_word(w: &mut [u32], word: u32, op: u32) -> u32
 // Words of operations 36 to 47: jumps and branches, stop 13 in a slot.
 fn jump_word(w: &mut [u32], word: u32, op: u32) -> u32
     requires { ⌜ MachineWords (now w) × (machineOf (now w) .position .pc < MOST-MEMORY) × (op ≡ opcodeOf (widthOf (psr (machineOf (now w)))) word) × (36 ≤ op) × (op ≤ 47) ⌝ }
-    ensures { λ r. ⌜ PerformsSeen (λ v. fetchedThen v (Word word)) r (now (w .entry)) (now (w .exit)) ⌝ }
+    ensures { λ r. ⌜ PerformsSeen (λ v. fetchedThen v (Found word)) r (now (w .entry)) (now (w .exit)) ⌝ }
 {
     if machine::slot(w) == 1 {
         return 13;
@@ -115,7 +114,7 @@ fn jump_word(w: &mut [u32], word: u32, op: u32) -> u32
 // Words of operations 48 to 57: scall to rcon.
 fn system_word(w: &mut [u32], word: u32, op: u32) -> u32
     requires { ⌜ MachineWords (now w) × StackShown (machineOf (now w)) × (op ≡ opcodeOf (widthOf (psr (machineOf (now w)))) word) × (48 ≤ op) × (op ≤ 57) ⌝ }
-    ensures { λ r. ⌜ PerformsSeen (λ v. fetchedThen v (Word word)) r (now (w .entry)) (now (w .exit)) ⌝ }
+    ensures { λ r. ⌜ PerformsSeen (λ v. fetchedThen v (Found word)) r (now (w .entry)) (now (w .exit)) ⌝ }
 {
     let code = unavailability(w, op);
     if code != 0 {
@@ -136,7 +135,7 @@ fn system_word(w: &mut [u32], word: u32, op: u32) -> u32
 // Words of the lower half of the operations, 0 to 28: nop to st.
 fn lower_half(w: &mut [u32], cells: &mut [u32], word: u32, op: u32) -> u32
     requires { ⌜ MachineWords (now w) × (op ≡ opcodeOf (widthOf (psr (machineOf (now w)))) word) × (op < 29) ⌝ }
-    ensures { λ r. ⌜ PerformsStoring (λ v. fetchedThen v (Word word)) r (now (w .entry)) (now (cells .entry)) (now (w .exit)) (now (cells .exit)) ⌝ }
+    ensures { λ r. ⌜ PerformsStoring (λ v. fetchedThen v (Found word)) r (now (w .entry)) (now (cells .entry)) (now (w .exit)) (now (cells .exit)) ⌝ }
 {
     match op {
         0 => next(w),
@@ -149,7 +148,7 @@ fn lower_half(w: &mut [u32], cells: &mut [u32], word: u32, op: u32) -> u32
 // Words of the upper half: mov to rcon, and those that are unknown.
 fn upper_half(w: &mut [u32], word: u32, op: u32) -> u32
     requires { ⌜ MachineWords (now w) × (machineOf (now w) .position .pc < MOST-MEMORY) × StackShown (machineOf (now w)) × (op ≡ opcodeOf (widthOf (psr (machineOf (now w)))) word) × (29 ≤ op) ⌝ }
-    ensures { λ r. ⌜ PerformsSeen (λ v. fetchedThen v (Word word)) r (now (w .entry)) (now (w .exit)) ⌝ }
+    ensures { λ r. ⌜ PerformsSeen (λ v. fetchedThen v (Found word)) r (now (w .entry)) (now (w .exit)) ⌝ }
 {
     match op {
         0..=35 => move_word(w, word, op),
@@ -162,7 +161,7 @@ fn upper_half(w: &mut [u32], word: u32, op: u32) -> u32
 // An instruction word, by the number of its operation, in two halves: in one chain of tests the compiler takes the last groups for rare.
 fn instruction(w: &mut [u32], cells: &mut [u32], word: u32) -> u32
     requires { ⌜ MachineWords (now w) × (machineOf (now w) .position .pc < MOST-MEMORY) × StackShown (machineOf (now w)) ⌝ }
-    ensures { λ r. ⌜ PerformsStoring (λ v. fetchedThen v (Word word)) r (now (w .entry)) (now (cells .entry)) (now (w .exit)) (now (cells .exit)) ⌝ }
+    ensures { λ r. ⌜ PerformsStoring (λ v. fetchedThen v (Found word)) r (now (w .entry)) (now (cells .entry)) (now (w .exit)) (now (cells .exit)) ⌝ }
 {
     let op = isa::opcode(word, wide_words(w));
     if op < 29 {

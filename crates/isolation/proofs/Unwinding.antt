@@ -165,7 +165,7 @@ step-as p s q e =
     ap (settled s) (unpreempted (view p r) (acceptedSource (view p r) (r .machine)) r e)
 
 instructed-kept : (p : List ℕ) (s : State) → Mode s → isExit (instructed p s .kind) ≡ false → Kept s (instructed p s .after) × Mode (instructed p s .after)
-instructed-kept p s i e = let d = decide (view p s) in course-kept s i d (course p s i d (decide-safe (view p s))) e
+instructed-kept p s i e = let d = decide (view p s) in course-kept s i d (course p s i d (decide-safe p s)) e
 
 pub step-kept : (p : List ℕ) (s : State) (q : ℕ) → Mode s → On (step p s q) → Kept s (step p s q .after) × Mode (step p s q .after)
 step-kept p s q i on =
@@ -188,5 +188,5 @@ step-agree p p′ s t q q′ i j l b c d =
     let b′ : SameBytes (controlAt (s′ .machine) IMEM-BOUND-LO) (controlAt (s′ .machine) IMEM-BOUND-HI) p p′ =
     rw (kept-control k IMEM-BOUND-LO (omega arith), kept-control k IMEM-BOUND-HI (omega arith)) b in
     let e = decide (view p s′) in
-    let x = course-agree s′ t′ i′ j′ l′ e (course p s′ i′ e (decide-safe (view p s′))) in
+    let x = course-agree s′ t′ i′ j′ l′ e (course p s′ i′ e (decide-safe p s′)) in
     rw (step-as p s q c, step-as p′ t q′ d, ← (view-same p p′ s′ t′ i′ j′ l′ b′)) (settled-agree s t (apply e s′) (apply e t′) x)

@@ -15,9 +15,7 @@ use Rattle.isa.specs.Decode.{wordBytes}
 use Rattle.machine.specs.Machine.{Machine, State, psr, userMode, widthOf, setBy}
 use Rattle.machine.specs.Control.{controlAt, within, protectedCell, CCB-BASE, DMEM-BOUND-LO, DMEM-BOUND-HI, IMEM-BOUND-LO, IMEM-BOUND-HI}
 use Rattle.machine.proofs.Lists.{same-getD}
-use Rattle.view.specs.View.{anyWithin, byteThen, bytesAt, fetchAt, inBlock, foundAt, placeAt, heldAt, view}
-use Rattle.view.specs.declared.Place.{Place}
-use Rattle.view.specs.declared.Place.the-variants.{Block, Cell, Denied, Missing}
+use Rattle.view.specs.View.{Attempt, Found, Raises, Stops, mapFound, anyWithin, byteThen, bytesAt, fetchAt, Location, Block, Cell, inBlock, foundAt, placeAt, heldAt, view}
 use Rattle.view.proofs.Addresses.{place-cell, place-block}
 use Rattle.isolation.proofs.User.{read-bit, write-bit}
 use Rattle.isolation.proofs.States.{Mode, Low, mode-user}
@@ -62,7 +60,7 @@ found-same s t i j l a e =
     let low : controlAt m DMEM-BOUND-LO ≤ controlAt n CCB-BASE = rw (l .dmemLow) (j .blockLow) in
     let high : controlAt n CCB-BASE + 255 ≤ controlAt m DMEM-BOUND-HI = rw (l .dmemHigh) (j .blockHigh) in
     if-false _ _ _ (outside-block _ _ (controlAt m CCB-BASE) a (i .blockLow) (i .blockHigh) e)
-    ∙ ap (λ count. if_then_else_ (ltb a count) (Cell a) Missing) (l .dataSize)
+    ∙ ap (λ count. if_then_else_ (ltb a count) (Found (Cell a)) (Stops 12)) (l .dataSize)
     ∙ sym (if-false _ _ _ (outside-block _ _ (controlAt n CCB-BASE) a low high e))
 
 place-same : (s t : State) → Mode s → Mode t → Low s t → (z : ℤ) → placeAt s z ≡ placeAt t z
@@ -81,7 +79,7 @@ unfolding within
 no-block low high base n l h b e =
     true≢false (sym (and-both _ _ (le-leb low (base + n) (omega arith)) (le-leb (base + n) high (omega arith))) ∙ e)
 
-held-same : (s t : State) → Mode s → Low s t → (z : ℤ) (p : Place) → placeAt s z ≡ p → heldAt s p ≡ heldAt t p
+held-same : (s t : State) → Mode s → Low s t → (z : ℤ) (l : Location) → placeAt s z ≡ Found l → heldAt s l ≡ heldAt t l
 unfolding heldAt
 held-same s t i l z (Block n) e =
     let b = place-block s z n e in
@@ -89,8 +87,12 @@ held-same s t i l z (Block n) e =
 held-same s t i l z (Cell a) e =
     let c = place-cell s z a e in
     same-getD (s .memory .cells) (t .memory .cells) a 0 (l .shown .cells a (c .unprotected (mode-user i)))
-held-same s t i l z (Denied c) e = refl
-held-same s t i l z Missing e = refl
+
+load-same : (s t : State) → Mode s → Low s t → (z : ℤ) (a : Attempt Location) → placeAt s z ≡ a → mapFound (heldAt s) a ≡ mapFound (heldAt t) a
+unfolding mapFound
+load-same s t i l z (Found x) e = ap Found (held-same s t i l z x e)
+load-same s t i l z (Raises c) e = refl
+load-same s t i l z (Stops n) e = refl
 
 -- ---- registers
 
@@ -115,7 +117,7 @@ view-same p q s t i j l h =
     let target : (x : ℕ) → view p s .target x ≡ view q t .target x = λ x.
     ap (λ r. getD r x 0) (set1-used _ m (write-bit (psr m) (i .user .status)) ∙ l .shown .set1 ∙ sym (set1-used _ n (write-bit (psr n) (j .user .status)))) in
     let place : (z : ℤ) → view p s .place z ≡ view q t .place z = place-same s t i j l in
-    let load : (z : ℤ) → view p s .load z ≡ view q t .load z = λ z. cc (held-same s t i l z _ refl, place z) in
+    let load : (z : ℤ) → view p s .load z ≡ view q t .load z = λ z. cc (load-same s t i l z _ refl, place z) in
     let closed : (x : ℕ) → view p s .closed x ≡ view q t .closed x = λ x. cc (l .shown .status, l .imemLow, l .imemHigh) in
     λ d. record {
       status = l .shown .status d;

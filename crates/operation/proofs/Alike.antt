@@ -1,5 +1,6 @@
 -- Clauses of operations that are alike but for a number. Each by one computed test. Assumes nothing.
 use mathlib.Core.Path.{_≡_, refl}
+use mathlib.Core.List.{List}
 use Prim.Native.Nat.{ℕ, _≤_, _<_}
 use native.Mathlib.Omega.{arith}
 use lib.IntN.{pos, _+ℤ_}
@@ -8,24 +9,24 @@ use Rattle.isa.specs.Operation.{operationOf}
 use Rattle.isa.specs.Computed.{instructions}
 use Rattle.isa.specs.declared.Instruction.{Instruction}
 use Rattle.isa.proofs.Table.{values, agree}
-use Rattle.view.specs.View.{View}
-use Rattle.view.specs.declared.Place.the-variants.{Denied, Missing}
+use Rattle.machine.specs.Machine.{State}
+use Rattle.view.specs.View.{Raises, Stops, mapFound, placeAt, View, view}
 use Rattle.effect.specs.Effect.{Stopped, Raised, Next, Jump, JumpLink}
-use Rattle.operation.specs.Execute.{loaded, stored, jumped, branch, execute}
+use Rattle.operation.specs.Execute.{onFound, jumped, branch, execute}
 use Rattle.operation.specs.Jumps.{taken, targetOf, links}
 
 -- ---- what loads and stores do
 
-module _ (v : View) (i : Instruction) (x y op : ℕ) where
-  -- ld and st are alike where the address names nothing to load or store: an exception
-  pub access-refused : (code : ℕ) → v .place (pos x +ℤ i .immediate) ≡ Denied code → 27 ≤ op → op ≤ 28 → execute (operationOf op) v i x y ≡ Raised code
-  unfolding instructions values loaded stored execute
-  access-refused code e l h = agree (λ n. execute (operationOf n) v i x y) (λ n. Raised code) 27 2 (rw e) op l (omega arith)
+module _ (program : List ℕ) (s : State) (i : Instruction) (x y op : ℕ) where
+  -- ld and st are alike where nothing is found: an exception
+  pub access-raises : (code : ℕ) → placeAt s (pos x +ℤ i .immediate) ≡ Raises code → 27 ≤ op → op ≤ 28 → execute (operationOf op) (view program s) i x y ≡ Raised code
+  unfolding instructions values view mapFound onFound execute
+  access-raises code e l h = agree (λ n. execute (operationOf n) (view program s) i x y) (λ n. Raised code) 27 2 (rw e) op l (omega arith)
 
-  -- or stop 12
-  pub access-missing : v .place (pos x +ℤ i .immediate) ≡ Missing → 27 ≤ op → op ≤ 28 → execute (operationOf op) v i x y ≡ Stopped 12
-  unfolding instructions values loaded stored execute
-  access-missing e l h = agree (λ n. execute (operationOf n) v i x y) (λ n. Stopped 12) 27 2 (rw e) op l (omega arith)
+  -- or a stop
+  pub access-stops : (number : ℕ) → placeAt s (pos x +ℤ i .immediate) ≡ Stops number → 27 ≤ op → op ≤ 28 → execute (operationOf op) (view program s) i x y ≡ Stopped number
+  unfolding instructions values view mapFound onFound execute
+  access-stops number e l h = agree (λ n. execute (operationOf n) (view program s) i x y) (λ n. Stopped number) 27 2 (rw e) op l (omega arith)
 
 -- ---- what jumps and branches do
 

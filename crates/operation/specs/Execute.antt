@@ -18,9 +18,7 @@ use Rattle.isa.specs.Decode.{wordBytes}
 use Rattle.isa.specs.declared.Instruction.{Instruction}
 use Rattle.machine.specs.Machine.{widthOf}
 use Rattle.machine.specs.declared.Position.{Position}
-use Rattle.view.specs.View.{View}
-use Rattle.view.specs.declared.Place.{Place}
-use Rattle.view.specs.declared.Place.the-variants.{Block, Cell, Denied, Missing}
+use Rattle.view.specs.View.{Attempt, Found, Raises, Stops, Location, Block, Cell, View}
 use Rattle.effect.specs.Effect.{Effect, Stopped, Raised, Next, Result, ResultFlags, ResultProduct, Compare, Conditions, StoreControl, StoreCell, Jump, JumpLink, EnableInterrupts, SwitchWidth, SystemCall, InterruptReturn, UserReturn, SelectSets}
 
 -- ---- sums and products
@@ -37,21 +35,18 @@ wrapped d s = ResultFlags d (s .value) (s .flags)
 unfoldable pub product : (dreg : ℕ) → Product → Effect
 product d p = ResultProduct d (p .high) (p .low)
 
--- ---- loads and stores (01 "Data tests")
+-- ---- what the memories give
 
--- ld: the register takes what is at the place; neither block nor cell is stop 12
-unfoldable pub loaded : (dreg value : ℕ) → Place → Effect
-loaded d x (Block n) = Result d x
-loaded d x (Cell a) = Result d x
-loaded d x (Denied c) = Raised c
-loaded d x Missing = Stopped 12
+-- the effect of what is found; else the exception or the stop
+unfoldable pub onFound : {A : Type 0} → (A → Effect) → Attempt A → Effect
+onFound f (Found x) = f x
+onFound f (Raises c) = Raised c
+onFound f (Stops n) = Stopped n
 
--- st: the place takes the value
-unfoldable pub stored : (value : ℕ) → Place → Effect
+-- st: the block's register or the cell takes the value
+unfoldable pub stored : (value : ℕ) → Location → Effect
 stored x (Block n) = StoreControl n x
 stored x (Cell a) = StoreCell a x
-stored x (Denied c) = Raised c
-stored x Missing = Stopped 12
 
 -- ---- jumps (01 "Jump tests")
 
@@ -113,8 +108,8 @@ execute slli v i x y = Result (i .dreg) (sllOf x (wordOf 32 (i .immediate)))
 execute srli v i x y = Result (i .dreg) (srlOf x (wordOf 32 (i .immediate)))
 execute srai v i x y = Result (i .dreg) (sraOf x (wordOf 32 (i .immediate)))
 execute sexti v i x y = Result (i .dreg) (sextOf x (wordOf 32 (i .immediate)))
-execute ld v i x y = let a = pos x +ℤ i .immediate in loaded (i .dreg) (v .load a) (v .place a)
-execute st v i x y = stored (v .source (i .dreg)) (v .place (pos x +ℤ i .immediate))
+execute ld v i x y = onFound (Result (i .dreg)) (v .load (pos x +ℤ i .immediate))
+execute st v i x y = onFound (stored (v .source (i .dreg))) (v .place (pos x +ℤ i .immediate))
 execute mov v i x y = Result (i .dreg) x
 execute not v i x y = Result (i .dreg) (notOf x)
 execute mulhi v i x y = if eqb (v .position .held) 1 then Result (i .dreg) (v .position .high) else Stopped 14
@@ -148,5 +143,5 @@ execute unknown v i x y = Raised 0x01
 
 -- to unfold all of these
 unfoldable pub executing : Unit {0}
-unfolding checked wrapped product loaded stored afterThis targetBy jumped branch packed execute
+unfolding checked wrapped product onFound stored afterThis targetBy jumped branch packed execute
 executing = tt

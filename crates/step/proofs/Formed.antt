@@ -254,9 +254,8 @@ module _ (P : State → Type 0) (program : List ℕ) (s : State) (requests : ℕ
 pub step-formed : (program : List ℕ) (s : State) (requests : ℕ) → WellFormed (s .machine) → WellFormed (step program s requests .after .machine)
 step-formed p s q f =
     let r = withRequests q s in
-    let v = view p r in
     let g = requests-formed s q f in
-    step-holds (λ (t : State). WellFormed (t .machine)) p s q f (λ n a. accept-formed a g) (apply-formed p r (decide v) (decide-safe v) g)
+    step-holds (λ (t : State). WellFormed (t .machine)) p s q f (λ n a. accept-formed a g) (apply-formed p r (decide (view p r)) (decide-safe p r) g)
 
 pub stays-formed : StaysFormed
 stays-formed p s q h = formed-true (step-formed p s q (true-formed (s .machine) h))

@@ -48,15 +48,15 @@ effect-numbered v s (StoreCell a x) h e = none-stops e
 effect-numbered v s (Updates u) h e = none-stops e
 
 -- what an instruction reports
-pub instruction-numbered : (v : View) (s : State) → Numbered (apply (decide v) s .kind)
-instruction-numbered v s = effect-numbered v s (decide v) (decide-safe v)
+pub instruction-numbered : (p : List ℕ) (s : State) → Numbered (apply (decide (view p s)) s .kind)
+instruction-numbered p s = effect-numbered (view p s) s (decide (view p s)) (decide-safe p s)
 
-taken-numbered : (v : View) (o : Option ℕ) (s : State) → Numbered (interruptOr v o s .kind)
+taken-numbered : (p : List ℕ) (o : Option ℕ) (s : State) → Numbered (interruptOr (view p s) o s .kind)
 unfolding interruptOr machineOnly isStop stopNumber
-taken-numbered v none s = instruction-numbered v s
-taken-numbered v (some n) s = none-stops
+taken-numbered p none s = instruction-numbered p s
+taken-numbered p (some n) s = none-stops
 
 -- what a step reports
 pub stop-number : (p : List ℕ) (s : State) (q : ℕ) → Numbered (step p s q .kind)
 unfolding step
-stop-number p s q = let r = withRequests q s in taken-numbered (view p r) (acceptedSource (view p r) (r .machine)) r
+stop-number p s q = let r = withRequests q s in taken-numbered p (acceptedSource (view p r) (r .machine)) r

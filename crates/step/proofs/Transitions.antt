@@ -51,7 +51,7 @@ module _ (program : List ℕ) (s : State) (requests : ℕ) (r : State) (added : 
     pub step-goes-on : t .stop ≡ 0 → t ≡ reported (step program s requests)
     unfolding step interruptOr if_then_else_ reported
     step-goes-on z =
-        let g = numbered-step (instruction .kind) (instruction-numbered (view program r) r) (sym number ∙ z) in
+        let g = numbered-step (instruction .kind) (instruction-numbered program r) (sym number ∙ z) in
         done ∙ rw (← added, o, g)
 
     -- INT_PEND is put back

@@ -16,9 +16,7 @@ use Rattle.machine.specs.Control.{controlAt, withPending, INT-VECTORS, INT-MODE
 use Rattle.machine.specs.Stack.{withStack}
 use Rattle.machine.specs.declared.Position.{Position}
 use Rattle.machine.specs.declared.Entry.{Entry}
-use Rattle.view.specs.View.{View}
-use Rattle.view.specs.declared.Fetched.{Fetched}
-use Rattle.view.specs.declared.Fetched.the-variants.{Word, Fault, Absent}
+use Rattle.view.specs.View.{Attempt, Found, Raises, Stops, View}
 
 -- ---- requests
 
@@ -60,10 +58,10 @@ candidate m (suc k) =
 -- ---- when one is accepted
 
 -- the next word, with no 05h, 00h or stop 11 for it, is mulhi
-unfoldable pub isMulhi : Width → Fetched → Bool
-isMulhi width (Word w) = eqb (opcodeOf width w) (properties mulhi .number)
-isMulhi width (Fault c) = false
-isMulhi width Absent = false
+unfoldable pub isMulhi : Width → Attempt ℕ → Bool
+isMulhi width (Found w) = eqb (opcodeOf width w) (properties mulhi .number)
+isMulhi width (Raises c) = false
+isMulhi width (Stops n) = false
 
 -- IE is 1, no branch slot waits, and not (a product is held and the next word is mulhi)
 unfoldable pub mayAccept : View → Bool

@@ -13,13 +13,11 @@ use Rattle.word.proofs.Tests.{and-parts, if-holds}
 use Rattle.word.proofs.Bounds.{word-below}
 use Rattle.machine.specs.Machine.{State, psr, userMode}
 use Rattle.machine.specs.Control.{controlAt, protectedCell, CCB-BASE}
-use Rattle.view.specs.View.{View, inBlock, foundAt, placeAt, view}
-use Rattle.view.specs.declared.Place.{Place}
-use Rattle.view.specs.declared.Place.the-variants.{Block, Cell, Denied, Missing}
+use Rattle.view.specs.View.{Attempt, Found, Raises, Stops, Location, Block, Cell, View, inBlock, foundAt, placeAt, view}
 
--- some data address names a place
-abbrev pub Reached : View → Place → Type 0
-Reached v p = (z : ℤ) × (v .place z ≡ p)
+-- some data address leads to a location
+abbrev pub Reached : View → Location → Type 0
+Reached v l = (z : ℤ) × (v .place z ≡ Found l)
 
 open-in : (user b : Bool) → user && b ≡ false → user ≡ true → b ≡ false
 open-in true b e u = e
@@ -39,11 +37,14 @@ pub record BlockOf (s : State) (n : ℕ) : Type 0 where
   pub unprotected : userMode (psr (s .machine)) ≡ true → protectedCell (s .machine) (controlAt (s .machine) CCB-BASE + n) ≡ false
 
 module _ (s : State) where
-  abbrev Meant : Place → Type 0
-  Meant (Block n) = BlockOf s n
-  Meant (Cell a) = CellOf s a
-  Meant (Denied c) = Unit {0}
-  Meant Missing = Unit {0}
+  abbrev LocationOf : Location → Type 0
+  LocationOf (Block n) = BlockOf s n
+  LocationOf (Cell a) = CellOf s a
+
+  abbrev Meant : Attempt Location → Type 0
+  Meant (Found l) = LocationOf l
+  Meant (Raises c) = Unit {0}
+  Meant (Stops n) = Unit {0}
 
   abbrev Open : ℕ → Type 0
   Open a = userMode (psr (s .machine)) ≡ true → protectedCell (s .machine) a ≡ false
@@ -74,10 +75,10 @@ module _ (s : State) where
       if-holds Meant (userMode (psr (s .machine)) && protectedCell (s .machine) a) (λ _. tt) (λ p.
       found-meant a (word-below 32 z) (open-in _ _ p)))
 
-  pub place-cell : (z : ℤ) (a : ℕ) → placeAt s z ≡ Cell a → CellOf s a
+  pub place-cell : (z : ℤ) (a : ℕ) → placeAt s z ≡ Found (Cell a) → CellOf s a
   place-cell z a e = rw e at (place-meant z)
 
-  pub place-block : (z : ℤ) (n : ℕ) → placeAt s z ≡ Block n → BlockOf s n
+  pub place-block : (z : ℤ) (n : ℕ) → placeAt s z ≡ Found (Block n) → BlockOf s n
   place-block z n e = rw e at (place-meant z)
 
 -- ---- what a state's view reaches

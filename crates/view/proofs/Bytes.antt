@@ -16,9 +16,7 @@ use Rattle.codec.specs.Number.{numberAt}
 use Rattle.isa.specs.Operation.{Width, w16, w32, widthBy}
 use Rattle.isa.specs.Decode.{wordBytes}
 use Rattle.machine.specs.Control.{within}
-use Rattle.view.specs.View.{anyWithin, byteThen, bytesAt, fetchAt}
-use Rattle.view.specs.declared.Fetched.{Fetched}
-use Rattle.view.specs.declared.Fetched.the-variants.{Word, Fault, Absent}
+use Rattle.view.specs.View.{Attempt, Found, Raises, Stops, anyWithin, byteThen, bytesAt, fetchAt}
 
 -- ---- protection
 
@@ -104,14 +102,14 @@ bytesFrom program zero a w = w
 bytesFrom program (suc n) a w = bytesFrom program n (suc a) (w * 256 + getD program a 0)
 
 -- all bytes are there
-pub bytes-there : (program : List ℕ) (n a w : ℕ) → a + n ≤ length program → bytesAt program n a w ≡ Word (bytesFrom program n a w)
+pub bytes-there : (program : List ℕ) (n a w : ℕ) → a + n ≤ length program → bytesAt program n a w ≡ Found (bytesFrom program n a w)
 unfolding bytesAt byteThen bytesFrom
 bytes-there program zero a w h = refl
 bytes-there program (suc n) a w h =
     rw (element-there program a (omega arith)) (bytes-there program n (suc a) (w * 256 + getD program a 0) (omega arith))
 
 -- one is absent
-pub bytes-absent : (program : List ℕ) (n a w : ℕ) → 0 < n → length program < a + n → bytesAt program n a w ≡ Absent
+pub bytes-absent : (program : List ℕ) (n a w : ℕ) → 0 < n → length program < a + n → bytesAt program n a w ≡ Stops 11
 unfolding bytesAt byteThen
 bytes-absent program zero a w p h = absurd (omega arith)
 bytes-absent program (suc n) a w p h =
@@ -120,25 +118,25 @@ bytes-absent program (suc n) a w p h =
     (λ t. rw (element-absent program a (ltb-false a (length program) t)))
 
 -- a word is fetched only where all bytes are there
-not-fetched : (b c : Bool) (f : Fetched) (w : ℕ) → f ≡ Absent → (if b then Fault 0x05 else if c then Fault 0x00 else f) ≡ Word w → ⊥
+not-fetched : (b c : Bool) (f : Attempt ℕ) (w : ℕ) → f ≡ Stops 11 → (if b then Raises 0x05 else if c then Raises 0x00 else f) ≡ Found w → ⊥
 unfolding if_then_else_
 not-fetched true c f w a e = let z : _≡_ {A = ℕ} 0 1 = cc in omega arith
 not-fetched false true f w a e = let z : _≡_ {A = ℕ} 0 1 = cc in omega arith
 not-fetched false false f w a e = let z : _≡_ {A = ℕ} 0 1 = cc in omega arith
 
 pub fetched-inside : (program : List ℕ) (low high : ℕ) (user : Bool) (n pc w : ℕ) → 0 < n
-    → fetchAt program low high user n pc ≡ Word w → pc + n ≤ length program
+    → fetchAt program low high user n pc ≡ Found w → pc + n ≤ length program
 unfolding fetchAt
 fetched-inside program low high user n pc w p e =
     either (leb (pc + n) (length program)) (leb-true (pc + n) (length program))
     (λ t. absurd (not-fetched _ _ _ w (bytes-absent program n pc 0 p (leb-false (pc + n) (length program) t)) e))
 
 -- words of 32 and of 16 bits
-pub four-bytes : (program : List ℕ) (a : ℕ) → a + 4 ≤ length program → bytesAt program 4 a 0 ≡ Word (numberAt program a)
+pub four-bytes : (program : List ℕ) (a : ℕ) → a + 4 ≤ length program → bytesAt program 4 a 0 ≡ Found (numberAt program a)
 unfolding bytesFrom
 four-bytes program a h = rw (bytes-there program 4 a 0 h) (simp (zero-mul, zero-add, towards-suc))
 
-pub two-bytes : (program : List ℕ) (a : ℕ) → a + 2 ≤ length program → bytesAt program 2 a 0 ≡ Word (getD program a 0 * 256 + getD program (a + 1) 0)
+pub two-bytes : (program : List ℕ) (a : ℕ) → a + 2 ≤ length program → bytesAt program 2 a 0 ≡ Found (getD program a 0 * 256 + getD program (a + 1) 0)
 unfolding bytesFrom
 two-bytes program a h = rw (bytes-there program 2 a 0 h) (simp (zero-mul, zero-add, towards-suc))
 

@@ -1,4 +1,5 @@
--- Laws of what the next instruction may see: the bytes of its word, tests of addresses, what a data address names.
+-- Laws of what the next instruction may see: the bytes of its word, tests of addresses, where a data address leads, numbers of stops.
 pub mod Bytes
 pub mod Bounds
 pub mod Addresses
+pub mod Answers

@@ -19,7 +19,21 @@ use Rattle.machine.specs.declared.Position.{Position}
 use Rattle.view.specs.declared.Fetched.{Fetched}
 use Rattle.view.specs.declared.Fetched.the-variants.{Word, Fault, Absent}
 use Rattle.view.specs.declared.Place.{Place}
-use Rattle.view.specs.declared.Place.the-variants.{Block, Cell, Denied, Missing}
+use Rattle.view.specs.declared.Place.the-variants as place
+
+-- ---- what the memories give
+
+-- what is found, the code of an exception, or the number of a stop, as 01 numbers them
+pub data Attempt (A : Type 0) : Type 0 where
+  Found : A → Attempt A
+  Raises : (code : ℕ) → Attempt A
+  Stops : (number : ℕ) → Attempt A
+
+-- f of what is found
+unfoldable pub mapFound : {A B : Type 0} → (A → B) → Attempt A → Attempt B
+mapFound f (Found x) = Found (f x)
+mapFound f (Raises c) = Raises c
+mapFound f (Stops n) = Stops n
 
 -- ---- program memory
 
@@ -28,53 +42,69 @@ unfoldable pub anyWithin : (low high a n : ℕ) → Bool
 anyWithin low high a zero = false
 anyWithin low high a (suc n) = within low high a || anyWithin low high (suc a) n
 
--- a byte of the program goes on; one that is not there makes the word absent
-unfoldable pub byteThen : Option ℕ → (ℕ → Fetched) → Fetched
-byteThen none f = Absent
+-- f of a byte that is there: "byte absent (stop 11)"
+unfoldable pub byteThen : Option ℕ → (ℕ → Attempt ℕ) → Attempt ℕ
+byteThen none f = Stops 11
 byteThen (some b) f = f b
 
 -- the word of n bytes from a on, high byte first, below those of w
-unfoldable pub bytesAt : (program : List ℕ) (n a w : ℕ) → Fetched
-bytesAt program zero a w = Word w
+unfoldable pub bytesAt : (program : List ℕ) (n a w : ℕ) → Attempt ℕ
+bytesAt program zero a w = Found w
 bytesAt program (suc n) a w = byteThen (getElem? program a) (λ b. bytesAt program n (suc a) (w * 256 + b))
 
--- the word at pc: misaligned (05h); any byte of the word protected in user mode (00h); byte absent (01 "Instruction order").
--- Protection is by address, present or not
-unfoldable pub fetchAt : (program : List ℕ) (low high : ℕ) (user : Bool) (n pc : ℕ) → Fetched
+-- the word at pc: "misaligned (05h); any byte of the word protected in user mode (00h); byte absent (stop 11)". Protection is by address,
+-- present or not
+unfoldable pub fetchAt : (program : List ℕ) (low high : ℕ) (user : Bool) (n pc : ℕ) → Attempt ℕ
 fetchAt program low high user n pc =
-    if not (eqb (pc % n) 0) then Fault 0x05
-    else if user && anyWithin low high pc n then Fault 0x00
+    if not (eqb (pc % n) 0) then Raises 0x05
+    else if user && anyWithin low high pc n then Raises 0x00
     else bytesAt program n pc 0
 
+-- the number and values of each case of the code's answer (01 "If an answer is an enum")
+unfoldable pub fetchedAs : Fetched → Attempt ℕ
+fetchedAs (Word w) = Found w
+fetchedAs (Fault c) = Raises c
+fetchedAs Absent = Stops 11
+
 -- ---- data memory
+
+-- where a data address leads
+pub data Location : Type 0 where
+  Block : (offset : ℕ) → Location  -- a register of the control block
+  Cell : (address : ℕ) → Location  -- a data cell
 
 -- one of the control block's 256 addresses from CCB_BASE
 unfoldable pub inBlock : (base a : ℕ) → Bool
 inBlock base a = leb base a && leb a (base + 255)
 
--- what is at a data address: the block first, then the cells; or neither (01 "Data address order")
-unfoldable pub foundAt : State → (a : ℕ) → Place
+-- "the control block's 256 addresses from CCB_BASE first, then cells"; "neither block nor cell (stop 12)"
+unfoldable pub foundAt : State → (a : ℕ) → Attempt Location
 foundAt s a =
     let base = controlAt (s .machine) CCB-BASE in
-    if inBlock base a then Block (a - base)
-    else if ltb a (length (s .memory .cells)) then Cell a
-    else Missing
+    if inBlock base a then Found (Block (a - base))
+    else if ltb a (length (s .memory .cells)) then Found (Cell a)
+    else Stops 12
 
--- what an access of a data address reaches: outside 32 bits (08h); user and protected (07h), the block's addresses like the cells'; then what
--- is there (01 "Data tests")
-unfoldable pub placeAt : State → (address : ℤ) → Place
+-- "Data tests: address outside 32 bits (08h); user and protected (07h); neither block nor cell (stop 12)". The block's addresses are
+-- protected like the cells'
+unfoldable pub placeAt : State → (address : ℤ) → Attempt Location
 placeAt s address =
     let a = wordOf 32 address in
-    if not (isAddress address) then Denied 0x08
-    else if userMode (psr (s .machine)) && protectedCell (s .machine) a then Denied 0x07
+    if not (isAddress address) then Raises 0x08
+    else if userMode (psr (s .machine)) && protectedCell (s .machine) a then Raises 0x07
     else foundAt s a
 
--- what a load of a place gives; a refused or missing one gives nothing, here 0
-unfoldable pub heldAt : State → Place → ℕ
+-- the number and values of each case of the code's answer
+unfoldable pub placeAs : Place → Attempt Location
+placeAs (place.Block n) = Found (Block n)
+placeAs (place.Cell a) = Found (Cell a)
+placeAs (place.Denied c) = Raises c
+placeAs place.Missing = Stops 12
+
+-- what a location holds
+unfoldable pub heldAt : State → Location → ℕ
 heldAt s (Block n) = controlAt (s .machine) n
 heldAt s (Cell a) = getD (s .memory .cells) a 0
-heldAt s (Denied c) = 0
-heldAt s Missing = 0
 
 -- ---- the view (definitions only; the code reads the memories themselves)
 
@@ -84,11 +114,11 @@ pub record View : Type 0 where
   pub position : Position
   pub conditions : List ℕ
   pub nested : Bool  -- the hardware stack is not empty
-  pub fetched : Fetched
+  pub fetched : Attempt ℕ  -- the instruction word
   pub source : ℕ → ℕ  -- a register of the set that RSRD names
   pub target : ℕ → ℕ  -- a register of the set that RSWR names
-  pub place : ℤ → Place  -- what a data address names
-  pub load : ℤ → ℕ  -- what is there
+  pub place : ℤ → Attempt Location  -- where a data address leads
+  pub load : ℤ → Attempt ℕ  -- what is there
   pub closed : ℕ → Bool  -- a byte of the instruction word at an address is protected from the mode
 
 -- a stack has an entry
@@ -111,7 +141,7 @@ view program s =
       source = λ r. getD (setBy (readsSet2 q) m) r 0;
       target = λ r. getD (setBy (writesSet2 q) m) r 0;
       place = placeAt s;
-      load = λ a. heldAt s (placeAt s a);
+      load = λ a. mapFound (heldAt s) (placeAt s a);
       closed = λ a. userMode q && anyWithin (controlAt m IMEM-BOUND-LO) (controlAt m IMEM-BOUND-HI) a n;
     }
 
@@ -129,5 +159,5 @@ conditionFalse v i = i .conditional && not (holds (conditionOf (i .condition)) (
 
 -- to unfold all of these
 unfoldable pub seeing : Unit {0}
-unfolding anyWithin byteThen bytesAt fetchAt inBlock foundAt placeAt heldAt nestedBy view conditionFalse
+unfolding mapFound anyWithin byteThen bytesAt fetchAt fetchedAs inBlock foundAt placeAt placeAs heldAt nestedBy view conditionFalse
 seeing = tt

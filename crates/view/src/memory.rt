@@ -5,7 +5,7 @@ ghost use lib.ListN.{getD};
 ghost use Rattle.machine.specs.Machine.{psr, userMode, memoryOf};
 ghost use Rattle.machine.specs.Control.{protectedCell};
 ghost use Rattle.machine.specs.Words.{MachineWords, machineOf, stateOf};
-ghost use Rattle.view.specs.View.{inBlock, foundAt, placeAt};
+ghost use Rattle.view.specs.View.{inBlock, foundAt, placeAt, placeAs};
 use crate::Place;
 
 // Whether the data address a is protected from the mode.
@@ -28,7 +28,7 @@ fn in_block(base: u32, a: u32) -> bool
 // What is at a data address: the control block, a cell, or nothing.
 fn found(w: &[u32], cells: &[u32], a: u32) -> Place
     requires { ⌜ MachineWords (now w) ⌝ }
-    ensures { λ r. ⌜ r ≡ foundAt (stateOf (now (w .entry)) (memoryOf (now (cells .entry)))) a ⌝ }
+    ensures { λ r. ⌜ placeAs r ≡ foundAt (stateOf (now (w .entry)) (memoryOf (now (cells .entry)))) a ⌝ }
 {
     let base = machine::control(w, machine::CCB_BASE);
     if in_block(base, a) {
@@ -43,7 +43,7 @@ fn found(w: &[u32], cells: &[u32], a: u32) -> Place
 // What an access of a data address reaches: 08h, 07h, or what is there.
 pub fn place(w: &[u32], cells: &[u32], address: i64) -> Place
     requires { ⌜ MachineWords (now w) ⌝ }
-    ensures { λ r. ⌜ r ≡ placeAt (stateOf (now (w .entry)) (memoryOf (now (cells .entry)))) address ⌝ }
+    ensures { λ r. ⌜ placeAs r ≡ placeAt (stateOf (now (w .entry)) (memoryOf (now (cells .entry)))) address ⌝ }
 {
     let a = word::low_word(address);
     if !word::is_address(address) {

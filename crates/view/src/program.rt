@@ -7,7 +7,7 @@ ghost use Rattle.isa.specs.Operation.{widthBy};
 ghost use Rattle.isa.specs.Decode.{wordBytes};
 ghost use Rattle.machine.specs.Control.{controlAt, IMEM-BOUND-LO, IMEM-BOUND-HI};
 ghost use Rattle.machine.specs.Words.{MachineWords, machineOf};
-ghost use Rattle.view.specs.View.{View, anyWithin, bytesAt, viewOf};
+ghost use Rattle.view.specs.View.{View, anyWithin, bytesAt, fetchedAs, viewOf};
 ghost use Rattle.machine.specs.Machine.{Memory};
 use crate::Fetched;
 
@@ -41,7 +41,7 @@ pub fn misaligned(wide: bool, a: u32) -> bool
 
 // The bytes of the instruction word at an address, if all are there.
 fn word_at(program: &[u8], wide: bool, a: u32) -> Fetched
-    ensures { λ r. ⌜ r ≡ bytesAt (now (program .entry)) (wordBytes (widthBy wide)) a 0 ⌝ }
+    ensures { λ r. ⌜ fetchedAs r ≡ bytesAt (now (program .entry)) (wordBytes (widthBy wide)) a 0 ⌝ }
 {
     let at = a as usize;
     if wide {
@@ -60,7 +60,7 @@ fn word_at(program: &[u8], wide: bool, a: u32) -> Fetched
 // The next instruction word: misaligned, protected, absent, or there.
 pub fn fetch(program: &[u8], w: &[u32]) -> Fetched
     requires { ⌜ MachineWords (now w) ⌝ }
-    ensures { λ r. ⌜ ((memory : Memory) → r ≡ viewOf (now (program .entry)) (now (w .entry)) memory .fetched) ⌝ }
+    ensures { λ r. ⌜ ((memory : Memory) → fetchedAs r ≡ viewOf (now (program .entry)) (now (w .entry)) memory .fetched) ⌝ }
 {
     let pc = machine::pc(w);
     let wide = machine::wide_words(w);

@@ -1,6 +1,5 @@
 -- `operation::memory::access` meets its contract: by the place that base and immediate name. Assumes nothing.
-use mathlib.Core.Path.{_≡_, _∙_}
-use mathlib.Core.List.{List}
+use mathlib.Core.Path.{_≡_, sym}
 use Prim.Native.Nat.{ℕ, _≤_}
 use native.Mathlib.Omega.{arith}
 use lib.IntN.{pos, _+ℤ_}
@@ -11,10 +10,12 @@ use borrow.Author.Needs.{needs}
 use Rattle.word.proofs.Integers.{back}
 use Rattle.isa.specs.Operation.{operations, operationOf}
 use Rattle.machine.specs.Machine.{memoryOf}
-use Rattle.operation.specs.Execute.{loaded, stored, execute}
-use Rattle.view.specs.View.{View, heldAt, view, viewOf}
+use Rattle.machine.specs.Words.{stateOf}
+use Rattle.operation.specs.Execute.{onFound, stored, execute}
+use Rattle.view.specs.View.{mapFound, placeAt, placeAs, heldAt, view}
+use Rattle.view.specs.declared.Place.{Place}
 use Rattle.effect.specs.Apply.{applying}
-use Rattle.operation.proofs.Alike.{access-refused, access-missing}
+use Rattle.operation.proofs.Alike.{access-raises, access-stops}
 use Rattle.operation.proofs.memory.access.Statement.{statement}
 use Rattle.operation.proofs.memory.access.Tie as tie
 
@@ -28,29 +29,28 @@ address c =
       back w32 (c .before .before .before .before .args .i .immediate) (omega arith),
     )
 
--- the place that it names
-named : (c : tie.After-place) (p : List ℕ)
+-- where it leads
+leads : (c : tie.After-place) (p : Place) → c .place .result ≡ p
     → let a = c .before .before .before .before .before .before .before .args in
-    viewOf p (now (a .w)) (memoryOf (now (a .cells))) .place (pos (a .x) +ℤ a .i .immediate) ≡ c .place .result
-unfolding view
-named c p = rw (c .place .ensures, address (c .before .before .before))
+    placeAt (stateOf (now (a .w)) (memoryOf (now (a .cells)))) (pos (a .x) +ℤ a .i .immediate) ≡ placeAs p
+leads c p e = rw (← (address (c .before .before .before)), ← e) (sym (c .place .ensures))
 
 -- what is not ld is st
 store : {op : ℕ} → 27 ≤ op → op ≤ 28 → (op ≡ 27 → ⊥) → op ≡ 28
 store l h n = omega arith
 
 returns : tie.Need-returns
-unfolding operations operationOf heldAt view loaded execute
+unfolding operations operationOf mapFound placeAs heldAt view onFound execute
 returns c y p =
     let b = c .before .before in
     let d = b .before .before in
     let t = d .before .before in
     let e = t .before .before in
-    rw (t .if1 .taken, named (e .before .before) p ∙ e .place2 .given .1, ← (d .control-at .ensures))
+    rw (t .if1 .taken, leads (e .before .before) _ (e .place2 .given .1), ← (d .control-at .ensures))
     (b .result .ensures _)
 
 returns-2 : tie.Need-returns-2
-unfolding operations operationOf stored execute
+unfolding operations operationOf placeAs view onFound stored execute
 returns-2 c y p =
     let b = c .before .before in
     let d = b .before .before in
@@ -59,22 +59,22 @@ returns-2 c y p =
     let s = e .before .before .before .before .before .before .before .before .before in
     rw (
       store (s .pre .2) (s .pre .3) (t .if1 .left),
-      named (e .before .before) p ∙ e .place2 .given .1,
+      leads (e .before .before) _ (e .place2 .given .1),
       ← (d .source .ensures p (memoryOf (now (s .args .cells)))),
     )
     (b .store-control .ensures _)
 
 returns-3 : tie.Need-returns-3
-unfolding operations operationOf heldAt view loaded execute
+unfolding operations operationOf mapFound placeAs heldAt view onFound execute
 returns-3 c y p =
     let b = c .before .before in
     let t = b .before .before .before .before in
     let e = t .before .before in
-    rw (t .if2 .taken, named (e .before .before) p ∙ e .place3 .given .1, ← (b .before .cell .ensures))
+    rw (t .if2 .taken, leads (e .before .before) _ (e .place3 .given .1), ← (b .before .cell .ensures))
     (b .result2 .ensures _)
 
 returns-4 : tie.Need-returns-4
-unfolding operations operationOf stored execute
+unfolding operations operationOf placeAs view onFound stored execute
 returns-4 c y p =
     let b = c .before .before .before .before in
     let d = b .before .before .before in
@@ -83,28 +83,27 @@ returns-4 c y p =
     let s = e .before .before .before .before .before .before .before .before .before in
     rw (
       store (s .pre .2) (s .pre .3) (t .if2 .left),
-      named (e .before .before) p ∙ e .place3 .given .1,
+      leads (e .before .before) _ (e .place3 .given .1),
       ← (d .source2 .ensures p (memoryOf (now (s .args .cells)))),
     )
     (b .store-cell .ensures)
 
 returns-5 : tie.Need-returns-5
+unfolding placeAs
 returns-5 c y p =
     let b = c .before .before in
     let e = b .before .before .before in
     let s = e .before .before .before .before .before .before .before .before .before in
     let a = s .args in
-    let here = named (e .before .before) p ∙ e .place4 .given .1 in
-    rw (access-refused (viewOf p (now (a .w)) (memoryOf (now (a .cells)))) (a .i) (a .x) y (a .i .opcode) _ here (s .pre .2) (s .pre .3))
+    rw (access-raises p _ (a .i) (a .x) y (a .i .opcode) _ (leads (e .before .before) _ (e .place4 .given .1)) (s .pre .2) (s .pre .3))
     (b .raise .ensures _)
 
 returns-6 : tie.Need-returns-6
-unfolding applying
+unfolding placeAs applying
 returns-6 c y p =
     let s = c .before .before .before .before .before .before .before .before .before in
     let a = s .args in
-    let here = named (c .before .before) p ∙ c .enum-told .given .1 in
-    rw (access-missing (viewOf p (now (a .w)) (memoryOf (now (a .cells)))) (a .i) (a .x) y (a .i .opcode) here (s .pre .2) (s .pre .3))
+    rw (access-stops p _ (a .i) (a .x) y (a .i .opcode) _ (leads (c .before .before) _ (c .enum-told .given .1)) (s .pre .2) (s .pre .3))
 
 pub access-spec : {M : Type 1} → statement M
 access-spec =

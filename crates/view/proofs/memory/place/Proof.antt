@@ -3,7 +3,7 @@ use mathlib.Core.Path.{_≡_}
 use borrow.Author.Needs.{needs}
 use Rattle.word.specs.Choice.{if_then_else_}
 use Rattle.word.specs.Word.{wordOf, isAddress}
-use Rattle.view.specs.View.{placeAt}
+use Rattle.view.specs.View.{placeAt, placeAs}
 use Rattle.word.proofs.Handed.{handed}
 use Rattle.view.proofs.memory.place.Statement.{statement}
 use Rattle.view.proofs.memory.place.Tie as tie
@@ -16,17 +16,17 @@ address-is : (c : tie.After-is-address) → c .is-address .result ≡ isAddress 
 address-is c = handed isAddress (c .before .before .before .before .fits .address) (c .is-address .ensures)
 
 returns : tie.Need-returns
-unfolding placeAt if_then_else_
+unfolding placeAt placeAs if_then_else_
 returns c = simp (← (address-is (c .before)), ← (word-is (c .before .before)), c .if1 .taken)
 
 returns-2 : tie.Need-returns-2
-unfolding placeAt if_then_else_
+unfolding placeAt placeAs if_then_else_
 returns-2 c =
     let asked = c .before .before .before in
     simp (← (address-is asked), ← (word-is (asked .before)), ← (c .before .guarded .ensures), c .before .before .if1 .left, c .if2 .taken)
 
 returns-3 : tie.Need-returns-3
-unfolding placeAt if_then_else_
+unfolding placeAt placeAs if_then_else_
 returns-3 c =
     let asked = c .before .before .before .before in
     rw (← (address-is asked), ← (word-is (asked .before)), ← (c .before .before .guarded .ensures), c .before .before .before .if1 .left, c .before .if2 .left)

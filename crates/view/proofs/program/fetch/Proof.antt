@@ -9,8 +9,7 @@ use Rattle.isa.specs.Operation.{widthBy}
 use Rattle.machine.specs.Machine.{psr, userMode, widthOf, Memory}
 use Rattle.machine.specs.Control.{controlAt, IMEM-BOUND-LO, IMEM-BOUND-HI}
 use Rattle.machine.specs.Words.{machineOf}
-use Rattle.view.specs.View.{View, anyWithin, bytesAt, fetchAt, view, viewOf}
-use Rattle.view.specs.declared.Fetched.the-variants.{Fault}
+use Rattle.view.specs.View.{Raises, View, anyWithin, bytesAt, fetchAt, fetchedAs, view, viewOf}
 use Rattle.view.proofs.Bytes.{bytes-positive, aligned-fits, aligned-at}
 use Rattle.view.proofs.program.fetch.Statement.{statement}
 use Rattle.view.proofs.program.fetch.Tie as tie
@@ -28,19 +27,19 @@ asked : (c : tie.After-misaligned) (memory : Memory)
     → let s = c .before .before .before .before .before .before in
     let m = machineOf (now (s .args .w)) in
     viewOf (now (s .args .program)) (now (s .args .w)) memory .fetched
-    ≡ if c .misaligned .result then Fault 0x05
-    else if userMode (psr m) && anyWithin (controlAt m IMEM-BOUND-LO) (controlAt m IMEM-BOUND-HI) (c .before .before .before .pc .result) (c .before .word-bytes .result) then Fault 0x00
+    ≡ if c .misaligned .result then Raises 0x05
+    else if userMode (psr m) && anyWithin (controlAt m IMEM-BOUND-LO) (controlAt m IMEM-BOUND-HI) (c .before .before .before .pc .result) (c .before .word-bytes .result) then Raises 0x00
     else bytesAt (now (s .args .program)) (c .before .word-bytes .result) (c .before .before .before .pc .result) 0
 unfolding view fetchAt widthOf
 asked c memory =
     rw (c .misaligned .ensures, c .before .word-bytes .ensures, c .before .before .wide-words .ensures, c .before .before .before .pc .ensures)
 
 returns : tie.Need-returns
-unfolding if_then_else_
+unfolding if_then_else_ fetchedAs
 returns c memory = rw (asked (c .before) memory, c .if1 .taken)
 
 returns-2 : tie.Need-returns-2
-unfolding if_then_else_
+unfolding if_then_else_ fetchedAs
 returns-2 c memory =
     rw (
       asked (c .before .before .before .before) memory,

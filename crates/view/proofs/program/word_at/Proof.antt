@@ -5,6 +5,7 @@ use native.Mathlib.Omega.{arith}
 use borrow.Author.Needs.{needs}
 use Rattle.isa.specs.Decode.{wordBytes}
 use Rattle.isa.specs.Operation.{widthBy}
+use Rattle.view.specs.View.{fetchedAs}
 use Rattle.view.proofs.Bytes.{four-bytes, two-bytes, bytes-absent}
 use Rattle.view.proofs.program.word_at.Statement.{statement}
 use Rattle.view.proofs.program.word_at.Tie as tie
@@ -22,19 +23,19 @@ add-t24 : tie.Need-add-t24
 add-t24 c = omega (arith, c .before .shared-slice-known2 .given (c .before .before .before .before .before .args .a), c .shared-slice-known3 .given (c .before .before .before .before .before .args .a + 1))
 
 returns : tie.Need-returns
-unfolding wordBytes widthBy
+unfolding wordBytes widthBy fetchedAs
 returns c = rw (c .before .before .if1 .taken, c .number-at .ensures, four-bytes _ _ (c .before .if2 .taken))
 
 returns-2 : tie.Need-returns-2
-unfolding wordBytes widthBy
+unfolding wordBytes widthBy fetchedAs
 returns-2 c = rw (c .before .if1 .taken) (sym (bytes-absent _ 4 _ 0 (omega arith) (c .if2 .left)))
 
 returns-3 : tie.Need-returns-3
-unfolding wordBytes widthBy
+unfolding wordBytes widthBy fetchedAs
 returns-3 c = rw (c .before .before .before .if1 .left, two-bytes _ _ (c .before .before .if3 .taken))
 
 returns-4 : tie.Need-returns-4
-unfolding wordBytes widthBy
+unfolding wordBytes widthBy fetchedAs
 returns-4 c = rw (c .before .if1 .left) (sym (bytes-absent _ 2 _ 0 (omega arith) (c .if3 .left)))
 
 pub word-at-spec : {M : Type 1} → statement M
