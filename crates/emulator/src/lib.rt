@@ -132,7 +132,7 @@ pub fn run(
         return Answer::Refusal(no);
     }
     let end = run_steps(program, &mut words, cells, requests, limit);
-    image::write(&mut words, buffer);
+    image::write(&words, buffer);
     Answer::Ran(end.steps, end.ending)
 }
 
@@ -147,6 +147,6 @@ pub fn reset(buffer: &mut [u8]) -> u32
     }
     let mut words = [0u32; machine::WORDS];
     image::reset(&mut words);
-    image::write(&mut words, buffer);
+    image::write(&words, buffer);
     0
 }
