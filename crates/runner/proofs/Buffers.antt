@@ -25,6 +25,6 @@ pub reset-length : length (writeImage reset) ≡ SHORTEST
 unfolding reset
 reset-length = length-writeImage (formed-counts reset-formed)
 
--- at the front of a buffer
-pub reset-front : (buffer : List ℕ) → take SHORTEST (over (writeImage reset) buffer) ≡ writeImage reset
-reset-front buffer = rw (← reset-length) (take-over (writeImage reset) buffer)
+-- it is the front of a buffer that it was laid over
+pub reset-front : (b buffer : List ℕ) → b ≡ over (writeImage reset) buffer → take SHORTEST b ≡ writeImage reset
+reset-front b buffer e = ap (take SHORTEST) e ∙ rw (← reset-length) (take-over (writeImage reset) buffer)
