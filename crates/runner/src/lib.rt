@@ -4,6 +4,7 @@ ghost use lib.ListN.{length, replicate};
 ghost use Rattle.codec.specs.Number.{over};
 ghost use Rattle.machine.specs.Control.{reset as resetOf};
 ghost use Rattle.image.specs.Image.{writeImage, LONGEST};
+ghost use Rattle.emulator.specs.Run.{replyOf};
 ghost use Rattle.console.specs.Line.{lineOf};
 ghost use Rattle.io.specs.Counts.{Counts};
 ghost use Rattle.runner.specs.Report.{pcOf, answerText, reportOf};
@@ -35,7 +36,7 @@ fn pc(buffer: &[u8]) -> u32
 // The line for an answer and the buffer that holds the new image.
 pub fn line(answer: Answer, buffer: &[u8]) -> Line
     requires { ⌜ length (now buffer) ≡ LONGEST ⌝ }
-    ensures { λ r. ⌜ r ≡ lineOf (answerText answer (now (buffer .entry))) ⌝ }
+    ensures { λ r. ⌜ r ≡ lineOf (answerText (replyOf answer) (now (buffer .entry))) ⌝ }
 {
     match answer {
         Answer::Refusal(n) => console::refusal_line(n),
