@@ -2,15 +2,13 @@
 use mathlib.Core.List.{List}
 use Prim.Native.Nat.{ℕ}
 use Rattle.machine.specs.Machine.{Memory}
-use Rattle.emulator.specs.Run.{Outcome}
-use Rattle.emulator.specs.declared.Answer.{Answer}
-use Rattle.emulator.specs.declared.Answer.the-variants.{Refusal, Ran}
+use Rattle.emulator.specs.Run.{Reply, RefusedWith, RanFor, Outcome}
 use Rattle.coffee.specs.declared.CoffeeAnswer.{CoffeeAnswer}
 
 -- the refusal's number; or 0, the steps done and the ending
-unfoldable pub answerNumbers : Answer → CoffeeAnswer
-answerNumbers (Refusal n) = record { refusal = n; steps = 0; ending = 0 }
-answerNumbers (Ran steps ending) = record { refusal = 0; steps = steps; ending = ending }
+unfoldable pub answerNumbers : Reply → CoffeeAnswer
+answerNumbers (RefusedWith n) = record { refusal = n; steps = 0; ending = 0 }
+answerNumbers (RanFor steps ending) = record { refusal = 0; steps = steps; ending = ending }
 
 -- the answer, and the lent buffer and memory after the call
 pub record Shown : Type 0 where

@@ -1,6 +1,6 @@
 // The C interface: the calls of the emulator with numbers and slices only. include/coffee.h declares them for C.
 ghost use mathlib.Core.Path.{_≡_};
-ghost use Rattle.emulator.specs.Run.{runCall};
+ghost use Rattle.emulator.specs.Run.{replyOf, runCall};
 ghost use Rattle.emulator.specs.Reset.{resetOutcome, resetCall};
 ghost use Rattle.coffee.specs.Numbers.{answerNumbers, shown, inNumbers};
 ghost use Rattle.machine.specs.Machine.{memoryOf};
@@ -18,7 +18,7 @@ pub struct CoffeeAnswer {
 
 // An answer in numbers.
 fn numbers(a: Answer) -> CoffeeAnswer
-    ensures { λ r. ⌜ r ≡ answerNumbers a ⌝ }
+    ensures { λ r. ⌜ r ≡ answerNumbers (replyOf a) ⌝ }
 {
     match a {
         Answer::Refusal(n) => CoffeeAnswer {

@@ -1,76 +1,19 @@
--- What a call leaves: an image that the next call accepts, which says the machine after the last transition; and the buffer. Assumes nothing.
+-- What a call leaves: an image that the next call accepts, which says the machine after the last transition; and the data memory. Assumes nothing.
 use mathlib.Core.Path.{_≡_, refl, ap, _∙_}
-use mathlib.Core.Bool.{Bool, true, false, not, _&&_}
 use mathlib.Core.List.{List, [], _∷_, _++_}
-use Prim.Native.Nat.{ℕ, _≤_, suc-le-suc}
-use native.Mathlib.Omega.{arith}
-use native.Mathlib.Nat.{le-of-suc-le-suc}
-use lib.Dec.{leb, lit<}
-use borrow.Author.Tests.{leb-true, le-leb}
-use lib.ListN.{length, getD}
-use Rattle.word.specs.Choice.{if_then_else_}
-use Rattle.word.proofs.Tests.{and-parts}
+use Prim.Native.Nat.{ℕ}
+use lib.ListN.{getD}
 use Rattle.machine.specs.Machine.{Machine, State, Memory}
-use Rattle.formed.specs.Questions.{Read, Refused, Accepted}
+use Rattle.formed.specs.Questions.{Accepted}
 use Rattle.image.specs.Image.{readImage}
-use Rattle.formed.proofs.Tests.{below-true, true-below}
 use Rattle.formed.proofs.Formed.{WellFormed}
-use Rattle.image.proofs.Image.{readImage-writeImage, accepted-formed}
+use Rattle.image.proofs.Image.{read-back, accepted-formed}
 use Rattle.effect.specs.Apply.{Transition}
 use Rattle.step.proofs.Formed.{step-formed}
-use Rattle.emulator.specs.Run.{Call, run, RunResult, resultFrom, Asked, No, Start, askCall, ask, calledBy, called, transitions, stateWith, asked}
-use Rattle.emulator.specs.Closure.{final, Steps, Closure, Continuity, AllYes, Questions}
+use Rattle.emulator.specs.Run.{Call, run, RunResult, resultFrom, Asked, No, Start, calledBy, called, transitions, stateWith, asked}
+use Rattle.emulator.specs.Closure.{final, Steps, Left, Closure, Continuity}
+use Rattle.emulator.proofs.Questions.{asked-yes}
 use Rattle.emulator.proofs.Loop.{Runs, limit-reached, stopped, went-on, runs-by}
-
--- ---- the questions
-
-not-refused : (b : Bool) (n : ℕ) (x : Asked) (m : Machine) → if_then_else_ (not b) (No n) x ≡ Start m → (b ≡ true) × (x ≡ Start m)
-unfolding if_then_else_
-not-refused true n x m e = (refl, e)
-not-refused false n x m e = absurd (let z : _≡_ {A = ℕ} 0 1 = cc in omega arith)
-
--- 6 to 8, of an image that is accepted
-call-yes : (p image : List ℕ) (memory : Memory) (c : Call) (m : Machine) → length p ≤ 65536 → length (memory .cells) ≤ 65536
-    → (r : Read) → readImage image ≡ r → askCall (c .requests) (c .limit) (length (c .buffer)) r ≡ Start m → AllYes p image memory c m
-unfolding askCall
-call-yes p image memory c m a b (Refused n) r e = absurd (let z : _≡_ {A = ℕ} 0 1 = cc in omega arith)
-call-yes p image memory c m a b (Accepted x) r e =
-    let q₆ = not-refused _ 6 _ m e in
-    let q₇ = not-refused _ 7 _ m (q₆ .1) in
-    let q₈ = not-refused _ 8 _ m (q₇ .1) in
-    let z : Start x ≡ Start m = q₈ .1 in
-    let same : x ≡ m = cc in
-    record {
-      programSize = a;
-      dataSize = b;
-      read = r ∙ ap Accepted same;
-      requests = λ i. le-of-suc-le-suc (true-below 0x1000 (c .requests) (lit< tt) (q₆ .0) i);
-      limit = leb-true (c .limit) 1000000 (q₇ .0);
-      room = leb-true 708 (length (c .buffer)) (q₈ .0);
-    }
-
-pub asked-yes : (p image : List ℕ) (memory : Memory) (c : Call) (m : Machine) → asked p image memory c ≡ Start m → AllYes p image memory c m
-unfolding ask
-asked-yes p image memory c m e =
-    let q₁ = not-refused (leb (length p) 65536 && leb (length (memory .cells)) 65536) 1 _ m e in
-    let h = and-parts (leb (length p) 65536) (leb (length (memory .cells)) 65536) (q₁ .0) in
-    call-yes p image memory c m (leb-true (length p) 65536 (h .0)) (leb-true (length (memory .cells)) 65536 (h .1)) (readImage image) refl (q₁ .1)
-
-yes-asked : (p image : List ℕ) (memory : Memory) (c : Call) (m : Machine) → AllYes p image memory c m → asked p image memory c ≡ Start m
-unfolding ask askCall if_then_else_
-yes-asked p image memory c m y =
-    rw (
-      le-leb (length p) 65536 (y .programSize),
-      le-leb (length (memory .cells)) 65536 (y .dataSize),
-      y .read,
-      below-true 0x1000 (c .requests) (λ i. suc-le-suc (y .requests i)),
-      le-leb (c .limit) 1000000 (y .limit),
-      le-leb 708 (length (c .buffer)) (y .room),
-    )
-
-pub questions : Questions
-unfolding Questions
-questions p image memory c m = (asked-yes p image memory c m, yes-asked p image memory c m)
 
 -- ---- transitions that are steps
 
@@ -107,28 +50,27 @@ result-formed p requests n s f =
 
 -- ---- closure and continuity
 
-left-by : (p image : List ℕ) (memory : Memory) (c : Call) (m : Machine) → readImage image ≡ Accepted m → (a : Asked) → asked p image memory c ≡ a
-    → (readImage (calledBy p image memory c a .image) ≡ Accepted (final (stateWith m memory) (calledBy p image memory c a .transitions) .machine))
-    × (calledBy p image memory c a .outcome .memory ≡ final (stateWith m memory) (calledBy p image memory c a .transitions) .memory)
-    × Steps p (stateWith m memory) (calledBy p image memory c a .transitions)
+pub left-by : (p image : List ℕ) (memory : Memory) (c : Call) (m : Machine) → readImage image ≡ Accepted m → (a : Asked) → asked p image memory c ≡ a
+    → Left (stateWith m memory) (calledBy p image memory c a) × Steps p (stateWith m memory) (calledBy p image memory c a .transitions)
 unfolding calledBy final Steps
-left-by p image memory c m e (No n) q = (e, refl, tt)
+left-by p image memory c m e (No n) q = (record { machine = e; memory = refl }, tt)
 left-by p image memory c m e (Start x) q =
-    let g : m ≡ x = cc (asked-yes p image memory c x q .read, e) in
+    let y = asked-yes p image memory c x q in
+    let g : m ≡ x = cc (y .read, e) in
     let s = stateWith x memory in
     let r = runs-by p (c .requests) (c .limit) 0 s in
     let h = runs-final p (c .requests) r in
     rw g (
-      readImage-writeImage (result-formed p (c .requests) (c .limit) s (accepted-formed image x (asked-yes p image memory c x q .read))) ∙ ap (λ (t : State). Accepted (t .machine)) h,
-      ap (λ (t : State). t .memory) h,
+      record {
+        machine = read-back (result-formed p (c .requests) (c .limit) s (accepted-formed image x (y .read))) ∙ ap (λ (t : State). Accepted (t .machine)) h;
+        memory = ap (λ (t : State). t .memory) h;
+      },
       runs-steps p (c .requests) r,
     )
 
 pub closure : Closure
 unfolding Closure called
-closure p image memory c m e =
-    let x = left-by p image memory c m e (asked p image memory c) refl in
-    record { machine = x .0; memory = x .1 }
+closure p image memory c m e = left-by p image memory c m e (asked p image memory c) refl .0
 
 pub continuity : Continuity
 unfolding Continuity transitions called Steps
@@ -137,5 +79,5 @@ continuity p image memory (c ∷ cs) m e =
     let x = left-by p image memory c m e (asked p image memory c) refl in
     let d = called p image memory c in
     let s = final (stateWith m memory) (d .transitions) in
-    let rest : Steps p s (transitions p (d .image) (d .outcome .memory) cs) = rw (x .1) (continuity p (d .image) (s .memory) cs (s .machine) (x .0)) in
-    steps-append p (stateWith m memory) (d .transitions) (transitions p (d .image) (d .outcome .memory) cs) (x .2) rest
+    let rest : Steps p s (transitions p (d .image) (d .outcome .memory) cs) = rw (x .0 .memory) (continuity p (d .image) (s .memory) cs (s .machine) (x .0 .machine)) in
+    steps-append p (stateWith m memory) (d .transitions) (transitions p (d .image) (d .outcome .memory) cs) (x .1) rest

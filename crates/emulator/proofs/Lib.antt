@@ -1,5 +1,6 @@
--- Laws of the run call: its loop, what it leaves, what it answers, how its code goes.
+-- Laws of the run call: its questions, its steps, what it leaves, its answer, lists of calls.
 pub mod Loop
+pub mod Questions
 pub mod Closed
 pub mod Answers
 pub mod Asked

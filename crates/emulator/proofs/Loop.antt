@@ -11,10 +11,10 @@ use Rattle.machine.specs.Machine.{State}
 use Rattle.effect.specs.Apply.{Transition, stopNumber}
 use Rattle.step.specs.Step.{isStop, step}
 use Rattle.emulator.specs.Run.{run, RunResult, resultOf, resultFrom}
+use Rattle.emulator.specs.Closure.{StopChangesNothing}
 
--- a stop changes nothing
-pub stop-changes-nothing : (p : List ℕ) (s : State) (q : ℕ) → isStop (step p s q .kind) ≡ true → step p s q .after ≡ s
-unfolding step
+pub stop-changes-nothing : StopChangesNothing
+unfolding StopChangesNothing step
 stop-changes-nothing p s q e = if-true _ _ _ e
 
 module _ (p requests : List ℕ) where

@@ -16,12 +16,13 @@ use Rattle.effect.specs.Apply.{Transition, stopNumber, Report, reported, report
 use Rattle.step.specs.Step.{step}
 use Rattle.step.proofs.Formed.{step-formed}
 use Rattle.step.proofs.Stops.{numbered-stop, numbered-step, stop-number}
-use Rattle.emulator.specs.Run.{Call, RunResult, resultFrom, resultBy, No, Start, askedBy, outcome, runCall, asked}
-use Rattle.emulator.specs.Closure.{AllYes}
+use Rattle.emulator.specs.Run.{Call, RunResult, resultFrom, resultBy, Start, askedBy, asked, RanFor, replyOf, outcome, runCall}
+use Rattle.emulator.specs.Questions.{AllYes}
 use Rattle.emulator.specs.declared.RunEnd.{RunEnd}
 use Rattle.emulator.specs.declared.Answer.the-variants.{Refusal, Ran}
 use Rattle.emulator.proofs.Loop.{at-stop, at-more}
-use Rattle.emulator.proofs.Closed.{asked-yes, result-formed}
+use Rattle.emulator.proofs.Questions.{asked-no, asked-yes}
+use Rattle.emulator.proofs.Closed.{result-formed}
 use Rattle.emulator.proofs.Answers.{call-refused, call-started}
 
 -- ---- one step of the loop
@@ -66,15 +67,10 @@ module _ (p requests : List ℕ) (limit done q n : ℕ) (w : List ℕ) (d : Memo
 
 -- ---- the call
 
--- an answer other than 0 refuses
-asked-no : (n : ℕ) (m : Machine) → (n ≡ 0 → ⊥) → askedBy n m ≡ No n
-unfolding askedBy
-asked-no zero m z = absurd (z refl)
-asked-no (suc n) m z = refl
-
 module _ (p image : List ℕ) (memory : Memory) (c : Call) (n : ℕ) (w : List ℕ) (a : askedBy n (machineOf w) ≡ asked p image memory c) where
   -- refused: nothing is written
-  pub run-refused : (n ≡ 0 → ⊥) → outcome (Refusal n) (c .buffer) memory ≡ runCall p image memory c
+  pub run-refused : (n ≡ 0 → ⊥) → outcome (replyOf (Refusal n)) (c .buffer) memory ≡ runCall p image memory c
+  unfolding replyOf
   run-refused z = sym (call-refused p image memory c n (sym a ∙ asked-no n (machineOf w) z))
 
   module _ (z : n ≡ 0) where
@@ -96,7 +92,8 @@ module _ (p image : List ℕ) (memory : Memory) (c : Call) (n : ℕ) (w : List �
           let f = result-formed p (c .requests) (c .limit) (stateOf w memory) (accepted-formed image (machineOf w) (run-yes .read)) in
           stacked-depth ((rw (← s) at f) .stack)
 
-      pub run-ran : outcome (Ran (e .steps) (e .ending)) (over (writeImage (machineOf w₁)) (c .buffer)) d₁ ≡ runCall p image memory c
+      pub run-ran : outcome (replyOf (Ran (e .steps) (e .ending))) (over (writeImage (machineOf w₁)) (c .buffer)) d₁ ≡ runCall p image memory c
+      unfolding replyOf
       run-ran =
-          ap (λ (x : RunResult). outcome (Ran (x .steps) (x .ending)) (over (writeImage (x .after .machine)) (c .buffer)) (x .after .memory)) s
+          ap (λ (x : RunResult). outcome (RanFor (x .steps) (x .ending)) (over (writeImage (x .after .machine)) (c .buffer)) (x .after .memory)) s
           ∙ sym (call-started p image memory c (machineOf w) started)

@@ -1,16 +1,15 @@
 -- What a call leaves: for lists of calls (01, demand 3), and of its answer and buffer (01 "Machine image"). Assumes nothing.
 use mathlib.Core.Path.{_≡_}
-use mathlib.Core.Logic.{_↔_}
+use mathlib.Core.Bool.{true}
 use mathlib.Core.List.{List, [], _∷_}
 use Prim.Native.Nat.{ℕ, suc, _≤_, _<_}
 use lib.ListN.{length, getD, getElem?}
-use Rattle.machine.specs.Machine.{Machine, MOST-MEMORY, Memory, State}
+use Rattle.machine.specs.Machine.{Machine, Memory, State}
 use Rattle.formed.specs.Questions.{Accepted}
-use Rattle.image.specs.Image.{LONGEST, readImage}
+use Rattle.image.specs.Image.{readImage}
 use Rattle.effect.specs.Apply.{Transition}
-use Rattle.step.specs.Step.{step}
-use Rattle.emulator.specs.Run.{Call, MOST-STEPS, No, Start, asked, stateWith, Called, called, transitions}
-use Rattle.emulator.specs.declared.Answer.the-variants.{Refusal, Ran}
+use Rattle.step.specs.Step.{isStop, step}
+use Rattle.emulator.specs.Run.{Call, No, Start, asked, RefusedWith, RanFor, stateWith, Called, called, transitions}
 
 -- the state after all of these
 unfoldable pub final : State → List Transition → State
@@ -22,15 +21,21 @@ unfoldable pub Steps : (program : List ℕ) → State → List Transition → Ty
 Steps program s [] = Unit {0}
 Steps program s (t ∷ ts) = (requests : ℕ) × (t ≡ step program s requests) × Steps program (t .after) ts
 
+-- "A stop is not a step: everything, requests included, is as before it"
+unfoldable pub StopChangesNothing : Type 0
+StopChangesNothing = (program : List ℕ) (s : State) (requests : ℕ) → isStop (step program s requests .kind) ≡ true → step program s requests .after ≡ s
+
 -- the machine after a transition is demand 2's, and where its call ends there, it is what that call left: the image is one for which 2 to 5
 -- are all yes, and says the machine after the call's last transition; the data memory is the one after it
-pub record Left (program image : List ℕ) (lent : Memory) (c : Call) (m : Machine) : Type 0 where
-  pub machine : readImage (called program image lent c .image) ≡ Accepted (final (stateWith m lent) (called program image lent c .transitions) .machine)
-  pub memory : called program image lent c .outcome .memory ≡ final (stateWith m lent) (called program image lent c .transitions) .memory
+pub record Left (start : State) (d : Called) : Type 0 where
+  pub machine : readImage (d .image) ≡ Accepted (final start (d .transitions) .machine)
+  pub memory : d .outcome .memory ≡ final start (d .transitions) .memory
 
 -- of every call, refused or not, on an image for which 2 to 5 are all yes
 unfoldable pub Closure : Type 0
-Closure = (program image : List ℕ) (memory : Memory) (c : Call) (m : Machine) → readImage image ≡ Accepted m → Left program image memory c m
+Closure =
+    (program image : List ℕ) (memory : Memory) (c : Call) (m : Machine) → readImage image ≡ Accepted m
+    → Left (stateWith m memory) (called program image memory c)
 
 -- the transitions of a list of calls, refused ones anywhere in it, are steps and stops of one machine
 unfoldable pub Continuity : Type 0
@@ -40,24 +45,11 @@ Continuity =
 
 -- ---- the answer and the lent memory
 
--- the eight questions are all answered yes
-pub record AllYes (program image : List ℕ) (memory : Memory) (c : Call) (m : Machine) : Type 0 where
-  pub programSize : length program ≤ MOST-MEMORY
-  pub dataSize : length (memory .cells) ≤ MOST-MEMORY
-  pub read : readImage image ≡ Accepted m  -- 2 to 5
-  pub requests : (i : ℕ) → getD (c .requests) i 0 ≤ 0xFFF
-  pub limit : c .limit ≤ MOST-STEPS
-  pub room : LONGEST ≤ length (c .buffer)
-
--- just such a call is not refused
-unfoldable pub Questions : Type 0
-Questions = (program image : List ℕ) (memory : Memory) (c : Call) (m : Machine) → (asked program image memory c ≡ Start m) ↔ AllYes program image memory c m
-
 -- "a no gives the number and does no step"; "Every refusal .. changes no lent memory"
 pub record Unchanged (image : List ℕ) (memory : Memory) (c : Call) (n : ℕ) (d : Called) : Type 0 where
   pub least : 1 ≤ n
   pub most : n ≤ 8
-  pub answer : d .outcome .answer ≡ Refusal n
+  pub answer : d .outcome .answer ≡ RefusedWith n
   pub sameBuffer : d .outcome .buffer ≡ c .buffer
   pub sameMemory : d .outcome .memory ≡ memory
   pub sameImage : d .image ≡ image
@@ -79,18 +71,21 @@ pub data Ended (limit steps ending count : ℕ) : Type 0 where
   limitReached : steps ≡ limit → count ≡ limit → ending ≡ 0 → Ended limit steps ending count
   stopped : steps < limit → count ≡ suc steps → 11 ≤ ending → ending ≤ 15 → Ended limit steps ending count
 
-pub record RanAs (c : Call) (d : Called) : Type 0 where
+-- the answer's numbers, the image in the buffer; and that image and the data memory are those after the last of the call's steps
+pub record RanAs (program : List ℕ) (start : State) (c : Call) (d : Called) : Type 0 where
   pub steps : ℕ
   pub ending : ℕ
-  pub answer : d .outcome .answer ≡ Ran steps ending
+  pub answer : d .outcome .answer ≡ RanFor steps ending
   pub ended : Ended (c .limit) steps ending (length (d .transitions))
   pub written : Written (d .image) (c .buffer) (d .outcome .buffer)
+  pub stepped : Steps program start (d .transitions)
+  pub left : Left start d
 
 -- of every call that is not refused
 unfoldable pub Completed : Type 0
 Completed =
     (program image : List ℕ) (memory : Memory) (c : Call) (m : Machine) → asked program image memory c ≡ Start m
-    → RanAs c (called program image memory c)
+    → RanAs program (stateWith m memory) c (called program image memory c)
 
 -- "limit 0: no step, same image"
 pub record NoStep (image : List ℕ) (memory : Memory) (d : Called) : Type 0 where
@@ -105,5 +100,5 @@ LimitZero =
 
 -- to unfold all of these
 unfoldable pub closing : Unit {0}
-unfolding final Steps Closure Continuity Questions Refusals Completed LimitZero
+unfolding final Steps StopChangesNothing Closure Continuity Refusals Completed LimitZero
 closing = tt

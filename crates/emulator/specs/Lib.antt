@@ -1,5 +1,6 @@
--- The run call and lists of run calls (Run), the image at reset (Reset), what a call leaves (Closure).
+-- The run call and lists of run calls (Run), the image at reset (Reset), which calls are refused (Questions), what a call leaves (Closure).
 pub mod Run
 pub mod Reset
+pub mod Questions
 pub mod Closure
 pub mod Computed

@@ -1,15 +1,15 @@
 -- A run call, and lists of run calls on one machine (01 "Machine image", demand 3). Assumes nothing.
-use mathlib.Core.Bool.{not, _&&_}
+use mathlib.Core.Bool.{Bool, _&&_}
 use mathlib.Core.List.{List, [], _∷_, _++_}
 use Prim.Native.Nat.{ℕ, zero, suc}
 use lib.ListN.{length, getD}
 use lib.Dec.{leb}
 use Rattle.word.specs.Choice.{if_then_else_}
-use Rattle.codec.specs.Number.{over}
+use Rattle.codec.specs.Number.{numbersOf, over}
 use Rattle.machine.specs.Machine.{Machine, MOST-MEMORY, Memory, State}
 use Rattle.machine.specs.Words.{stateOf}
-use Rattle.formed.specs.Questions.{allBelow, Read, Refused, Accepted}
-use Rattle.image.specs.Image.{LONGEST, readImage, writeImage}
+use Rattle.formed.specs.Questions.{allBelow, question3, question4, question5}
+use Rattle.image.specs.Image.{LONGEST, machineIn, question2, writeImage}
 use Rattle.effect.specs.Apply.{Transition, stopNumber}
 use Rattle.step.specs.Step.{isStop, step}
 use Rattle.emulator.specs.declared.RunEnd.{RunEnd}
@@ -55,48 +55,65 @@ resultBy e words memory = record { steps = e .steps; ending = e .ending; after =
 
 -- ---- the questions: "Asked in order; a no gives the number and does no step"
 
--- the number of the first no, or the machine that the call starts with
-pub data Asked : Type 0 where
-  No : ℕ → Asked
-  Start : Machine → Asked
-
 -- the largest step limit
 abbrev pub MOST-STEPS : ℕ
 MOST-STEPS = 1000000
 
--- 6 to 8; room is the bytes of the image buffer
-unfoldable pub askCall : (requests : List ℕ) (limit room : ℕ) → Read → Asked
-askCall requests limit room (Refused n) = No n
-askCall requests limit room (Accepted m) =
-    if not (allBelow 0x1000 requests) then No 6
-    else if not (leb limit MOST-STEPS) then No 7
-    else if not (leb LONGEST room) then No 8
-    else Start m
+-- the answers to the eight questions, in order; room is the bytes of the image buffer
+unfoldable pub answers : (program image : List ℕ) → Memory → (requests : List ℕ) (limit room : ℕ) → List Bool
+answers program image memory requests limit room =
+    let m = machineIn (numbersOf image) in
+    (leb (length program) MOST-MEMORY && leb (length (memory .cells)) MOST-MEMORY) ∷  -- 1
+    question2 image ∷
+    question3 m ∷
+    question4 m ∷
+    question5 m ∷
+    allBelow 0x1000 requests ∷  -- 6
+    leb limit MOST-STEPS ∷  -- 7
+    leb LONGEST room ∷  -- 8
+    []
 
--- 1 to 8
+-- the number of the first no, the questions being numbered from n on; 0 where there is none
+unfoldable pub firstNo : (n : ℕ) → List Bool → ℕ
+firstNo n [] = 0
+firstNo n (a ∷ rest) = if a then firstNo (suc n) rest else n
+
+-- that number, or the machine that the call starts with
+pub data Asked : Type 0 where
+  No : ℕ → Asked
+  Start : Machine → Asked
+
+-- what the first no says of a machine that was read: 0 starts with it
+unfoldable pub askedBy : (no : ℕ) → Machine → Asked
+askedBy zero m = Start m
+askedBy (suc n) m = No (suc n)
+
 unfoldable pub ask : (program image : List ℕ) → Memory → (requests : List ℕ) (limit room : ℕ) → Asked
-ask program image memory requests limit room =
-    if not (leb (length program) MOST-MEMORY && leb (length (memory .cells)) MOST-MEMORY) then No 1
-    else askCall requests limit room (readImage image)
+ask program image memory requests limit room = askedBy (firstNo 1 (answers program image memory requests limit room)) (machineIn (numbersOf image))
 
 -- the same of a call
 abbrev pub asked : (program image : List ℕ) → Memory → Call → Asked
 asked program image memory c = ask program image memory (c .requests) (c .limit) (length (c .buffer))
 
--- what the questions say by an answer and the machine read: 0 starts with it
-unfoldable pub askedBy : (answer : ℕ) → Machine → Asked
-askedBy zero m = Start m
-askedBy (suc n) m = No (suc n)
-
 -- ---- the call
 
--- its answer, and the lent buffer and memory after it
+-- what a call answers, in numbers
+pub data Reply : Type 0 where
+  RefusedWith : (number : ℕ) → Reply  -- "a no gives the number", 1 to 8
+  RanFor : (steps ending : ℕ) → Reply  -- "steps done, ending (0 limit reached, or stop 11 to 15)"
+
+-- the number and values of each case of the code's answer
+unfoldable pub replyOf : Answer → Reply
+replyOf (Refusal n) = RefusedWith n
+replyOf (Ran steps ending) = RanFor steps ending
+
+-- the answer, and the lent buffer and memory after the call
 pub record Outcome : Type 0 where
-  pub answer : Answer
+  pub answer : Reply
   pub buffer : List ℕ
   pub memory : Memory
 
-abbrev pub outcome : Answer → (buffer : List ℕ) → Memory → Outcome
+abbrev pub outcome : Reply → (buffer : List ℕ) → Memory → Outcome
 outcome answer buffer memory = record { answer = answer; buffer = buffer; memory = memory }
 
 -- the same with what a list of calls goes on with
@@ -110,13 +127,13 @@ stateWith m memory = record { machine = m; memory = memory }
 
 -- "Every refusal .. changes no lent memory"; otherwise "the image at the buffer's front; its further bytes keep their values"
 unfoldable pub calledBy : (program image : List ℕ) → Memory → Call → Asked → Called
-calledBy program image memory c (No n) = record { outcome = outcome (Refusal n) (c .buffer) memory; image = image; transitions = [] }
+calledBy program image memory c (No n) = record { outcome = outcome (RefusedWith n) (c .buffer) memory; image = image; transitions = [] }
 calledBy program image memory c (Start m) =
     let s = stateWith m memory in
     let e = resultFrom program (c .requests) (c .limit) 0 s in
     let left = writeImage (e .after .machine) in
     record {
-      outcome = outcome (Ran (e .steps) (e .ending)) (over left (c .buffer)) (e .after .memory);
+      outcome = outcome (RanFor (e .steps) (e .ending)) (over left (c .buffer)) (e .after .memory);
       image = left;
       transitions = run program (c .requests) (c .limit) 0 s;
     }
@@ -140,5 +157,5 @@ transitions program image memory (c ∷ cs) =
 
 -- to unfold all of these
 unfoldable pub running : Unit {0}
-unfolding run resultOf resultFrom askCall ask askedBy calledBy called runCall transitions
+unfolding run resultOf resultFrom answers firstNo askedBy ask replyOf calledBy called runCall transitions
 running = tt

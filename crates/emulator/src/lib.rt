@@ -5,7 +5,7 @@ ghost use Prim.Native.Nat.{_≤_};
 ghost use lib.ListN.{length, getD};
 ghost use Rattle.machine.specs.Words.{MachineWords, machineOf, stateOf};
 ghost use Rattle.formed.specs.Questions.{wellFormed};
-ghost use Rattle.emulator.specs.Run.{resultFrom, resultBy, ask, askedBy, outcome, runCall};
+ghost use Rattle.emulator.specs.Run.{resultFrom, resultBy, ask, askedBy, replyOf, outcome, runCall};
 ghost use Rattle.emulator.specs.Reset.{resetOutcome, resetCall};
 ghost use Rattle.machine.specs.Machine.{MOST-MEMORY, memoryOf};
 
@@ -116,7 +116,7 @@ pub fn run(
     limit: u32,
     buffer: &mut [u8],
 ) -> Answer
-    ensures { λ r. ⌜ outcome r (now (buffer .exit)) (memoryOf (now (cells .exit))) ≡ runCall (now (program .entry)) (now (image .entry)) (memoryOf (now (cells .entry))) (record { requests = now (requests .entry); limit = limit; buffer = now (buffer .entry) }) ⌝ }
+    ensures { λ r. ⌜ outcome (replyOf r) (now (buffer .exit)) (memoryOf (now (cells .exit))) ≡ runCall (now (program .entry)) (now (image .entry)) (memoryOf (now (cells .entry))) (record { requests = now (requests .entry); limit = limit; buffer = now (buffer .entry) }) ⌝ }
 {
     let mut words = [0u32; machine::WORDS];
     let no = refusal(
@@ -132,7 +132,7 @@ pub fn run(
         return Answer::Refusal(no);
     }
     let end = run_steps(program, &mut words, cells, requests, limit);
-    image::write(&mut words, buffer);
+    image::write(&words, buffer);
     Answer::Ran(end.steps, end.ending)
 }
 
@@ -147,6 +147,6 @@ pub fn reset(buffer: &mut [u8]) -> u32
     }
     let mut words = [0u32; machine::WORDS];
     image::reset(&mut words);
-    image::write(&mut words, buffer);
+    image::write(&words, buffer);
     0
 }

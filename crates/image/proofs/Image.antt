@@ -19,9 +19,10 @@ use Rattle.machine.specs.declared.Position.{Position}
 use Rattle.machine.specs.declared.Entry.{Entry}
 use Rattle.formed.specs.Questions.{Read, Refused, Accepted, askMachine}
 use Rattle.image.specs.Image.{positionNumbers, entryNumbers, imageNumbers, writeImage, STACK-AT, countOf, machineIn, imageBytes, LONGEST, sectionTests, question2, readImage}
+use Rattle.image.specs.RoundTrip.{ImageLength, ReadBack, WrittenBack}
 use Rattle.formed.proofs.Tests.{Passed, no-more, _also_, all-passed, passed-all}
 use Rattle.formed.proofs.Asked.{askMachine-formed, machine-asked}
-use Rattle.formed.proofs.Formed.{Placed, Stacked, empty, pushed, stacked-depth, Counts, WellFormed, registers-below, formed-counts, reset-formed}
+use Rattle.formed.proofs.Formed.{Placed, Stacked, empty, pushed, stacked-depth, Counts, WellFormed, registers-below, formed-counts, true-formed, reset-formed}
 use Rattle.image.proofs.Sections.{Counted, counted-imageNumbers, depth-imageNumbers, machineIn-imageNumbers, length-imageNumbers, counts-machineIn, imageNumbers-machineIn}
 
 -- ---- the numbers of a well-formed machine have 32 bits
@@ -63,13 +64,17 @@ imageNumbers-below {m} w =
 -- ---- its length and its bytes
 
 -- 516 bytes, and 16 for each entry
-pub length-writeImage : {m : Machine} → Counts m → length (writeImage m) ≡ imageBytes (length (m .stack))
+pub image-length : {m : Machine} → Counts m → length (writeImage m) ≡ imageBytes (length (m .stack))
 unfolding writeImage
-length-writeImage {m} c = omega (arith, length-bytesOf (imageNumbers m), length-imageNumbers m c)
+image-length {m} c = omega (arith, length-bytesOf (imageNumbers m), length-imageNumbers m c)
+
+pub length-writeImage : ImageLength
+unfolding ImageLength
+length-writeImage m e = image-length (formed-counts (true-formed m e))
 
 -- at most 12 entries
 pub writeImage-longest : {m : Machine} → WellFormed m → length (writeImage m) ≤ LONGEST
-writeImage-longest w = omega (arith, length-writeImage (formed-counts w), stacked-depth (w .stack))
+writeImage-longest w = omega (arith, image-length (formed-counts w), stacked-depth (w .stack))
 
 -- where the longest image has room, one of fewer entries has
 pub room-enough : {n room : ℕ} → n ≤ SOURCES → LONGEST ≤ room → imageBytes n ≤ room
@@ -87,7 +92,7 @@ writeImage-2 {m} w =
     let c = counted-imageNumbers m (formed-counts w) in
     let d : countOf STACK-AT (imageNumbers m) ≡ length (m .stack) = depth-imageNumbers m (formed-counts w) in
     rw (numbersOf-writeImage w) (passed-all (
-    eq-eqb _ _ (length-writeImage (formed-counts w) ∙ sym (ap imageBytes d)) also
+    eq-eqb _ _ (image-length (formed-counts w) ∙ sym (ap imageBytes d)) also
     le-leb (countOf STACK-AT (imageNumbers m)) 12 (rw d (stacked-depth (w .stack))) also
     eq-eqb _ _ (c .set1) also
     eq-eqb _ _ (c .set2) also
@@ -97,9 +102,13 @@ writeImage-2 {m} w =
     no-more))
 
 -- decode after encode
-pub readImage-writeImage : {m : Machine} → WellFormed m → readImage (writeImage m) ≡ Accepted m
+pub read-back : {m : Machine} → WellFormed m → readImage (writeImage m) ≡ Accepted m
 unfolding readImage if_then_else_
-readImage-writeImage {m} w = rw (writeImage-2 w, numbersOf-writeImage w, machineIn-imageNumbers m (formed-counts w)) (askMachine-formed w)
+read-back {m} w = rw (writeImage-2 w, numbersOf-writeImage w, machineIn-imageNumbers m (formed-counts w)) (askMachine-formed w)
+
+pub readImage-writeImage : ReadBack
+unfolding ReadBack
+readImage-writeImage m e = read-back (true-formed m e)
 
 -- ---- an accepted image is well formed, and is what its machine writes
 
@@ -149,8 +158,8 @@ pub accepted-formed : (image : List ℕ) (m : Machine) → readImage image ≡ A
 accepted-formed image m e = accepted image m e .formed
 
 -- encode after decode
-pub writeImage-readImage : (image : List ℕ) (m : Machine) → Below 256 image → readImage image ≡ Accepted m → writeImage m ≡ image
-unfolding writeImage
+pub writeImage-readImage : WrittenBack
+unfolding WrittenBack writeImage
 writeImage-readImage image m b e =
     let r = accepted image m e in
     let ws = numbersOf image in
@@ -162,4 +171,4 @@ writeImage-readImage image m b e =
 -- ---- reset
 
 pub reset-accepted : readImage (writeImage reset) ≡ Accepted reset
-reset-accepted = readImage-writeImage reset-formed
+reset-accepted = read-back reset-formed

@@ -74,18 +74,18 @@ pub fn read(image: &[u8], w: &mut [u32]) -> u32
 
 // ---- writing
 
-// Writes the machine's image to the front of a buffer with room for it; the further bytes stay. The sections' counts go into the words first.
-pub fn write(w: &mut [u32], buffer: &mut [u8])
+// Writes the machine's image to the front of a buffer with room for it; the further bytes stay. The sections' counts, which the words need not hold, go over those of the words' bytes.
+pub fn write(w: &[u32], buffer: &mut [u8])
     requires { ⌜ MachineWords (now w) × (length (machineOf (now w) .stack) ≤ SOURCES) × (imageBytes (length (machineOf (now w) .stack)) ≤ length (now buffer)) ⌝ }
     ensures { λ _. ⌜ now (buffer .exit) ≡ over (writeImage (machineOf (now (w .entry)))) (now (buffer .entry)) ⌝ }
 {
     let n = machine::ENTRIES + 4 * (machine::depth(w) as usize);
-    w[SET1_COUNT] = REGISTERS;
-    w[SET2_COUNT] = REGISTERS;
-    w[CONDITIONS_COUNT] = FLAGS;
-    w[CONTROL_COUNT] = OFFSETS;
-    w[POSITION_COUNT] = PLACES;
     codec::write_numbers(&w[..n], buffer);
+    codec::put_number(buffer, 4 * SET1_COUNT, REGISTERS);
+    codec::put_number(buffer, 4 * SET2_COUNT, REGISTERS);
+    codec::put_number(buffer, 4 * CONDITIONS_COUNT, FLAGS);
+    codec::put_number(buffer, 4 * CONTROL_COUNT, OFFSETS);
+    codec::put_number(buffer, 4 * POSITION_COUNT, PLACES);
 }
 
 // ---- reset

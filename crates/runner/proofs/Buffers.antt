@@ -10,7 +10,7 @@ use Rattle.machine.specs.Control.{reset}
 use Rattle.machine.specs.Words.{WORDS}
 use Rattle.image.specs.Image.{writeImage, SHORTEST, LONGEST}
 use Rattle.formed.proofs.Formed.{formed-counts, reset-formed}
-use Rattle.image.proofs.Image.{length-writeImage}
+use Rattle.image.proofs.Image.{image-length}
 
 -- a list laid over another of its length
 over-whole : (front s : List ℕ) → length front ≡ length s → over front s ≡ front
@@ -23,8 +23,8 @@ numbers-fill buffer h = over-whole (numbersOf buffer) (replicate WORDS 0) (omega
 -- the image at reset has 516 bytes: no stack entries
 pub reset-length : length (writeImage reset) ≡ SHORTEST
 unfolding reset
-reset-length = length-writeImage (formed-counts reset-formed)
+reset-length = image-length (formed-counts reset-formed)
 
--- at the front of a buffer
-pub reset-front : (buffer : List ℕ) → take SHORTEST (over (writeImage reset) buffer) ≡ writeImage reset
-reset-front buffer = rw (← reset-length) (take-over (writeImage reset) buffer)
+-- it is the front of a buffer that it was laid over
+pub reset-front : (b buffer : List ℕ) → b ≡ over (writeImage reset) buffer → take SHORTEST b ≡ writeImage reset
+reset-front b buffer e = ap (take SHORTEST) e ∙ rw (← reset-length) (take-over (writeImage reset) buffer)

@@ -1,12 +1,12 @@
 -- Laws of the report. Assumes nothing.
-use mathlib.Core.Path.{_≡_, sym, ap, _∙_}
-use mathlib.Core.List.{List, [], _∷_, _++_}
+use mathlib.Core.Path.{_≡_, refl, sym, ap, _∙_}
+use mathlib.Core.List.{List, [], _++_}
 use Prim.Native.Nat.{ℕ, _≤_, _<_}
 use native.Mathlib.Omega.{arith}
 use lib.ListN.{length, getD, take, drop, replicate, List·getD-append}
 use lib.Seq.{length-take-le, take-all}
 use lib.Dec.{leb, lit<, lit≤}
-use borrow.Author.Tests.{leb-true, leb-false, le-leb, lt-leb}
+use borrow.Author.Tests.{leb-true, leb-false}
 use Rattle.word.specs.Choice.{if_then_else_}
 use Rattle.word.proofs.Tests.{either}
 use Rattle.codec.specs.Number.{numbersOf, over}
@@ -15,26 +15,28 @@ use Rattle.machine.specs.Machine.{Machine, Memory}
 use Rattle.machine.specs.Control.{reset}
 use Rattle.machine.specs.Words.{PLACES, positionOf}
 use Rattle.machine.proofs.Flat.{section-at}
-use Rattle.formed.specs.Questions.{allBelow}
+use Rattle.formed.specs.Questions.{allBelow, readBy}
 use Rattle.image.specs.Image.{imageNumbers, writeImage, POSITION-AT, machineIn}
 use Rattle.formed.proofs.Formed.{WellFormed, formed-counts, reset-formed}
 use Rattle.image.proofs.Sections.{machineIn-imageNumbers, length-imageNumbers}
-use Rattle.image.proofs.Image.{length-writeImage, imageNumbers-below, reset-accepted}
-use Rattle.emulator.specs.Run.{Outcome, outcome, runCall, No, askCall, ask, asked, stateWith, resultFrom}
-use Rattle.emulator.specs.Closure.{AllYes, Questions}
-use Rattle.emulator.specs.declared.Answer.{Answer}
-use Rattle.emulator.proofs.Closed.{questions, result-formed}
+use Rattle.image.proofs.Image.{image-length, imageNumbers-below, reset-accepted}
+use Rattle.emulator.specs.Run.{No, askedBy, asked, Reply, Outcome, outcome, runCall, stateWith, resultFrom}
+use Rattle.emulator.specs.Questions.{AllYes, Questions}
+use Rattle.emulator.proofs.Questions.{questions}
+use Rattle.emulator.proofs.Asked.{program-no, past-image, limit-no}
+use Rattle.emulator.proofs.Closed.{result-formed}
 use Rattle.emulator.proofs.Answers.{call-refused, call-started}
-use Rattle.console.specs.Digits.{newline, digitOf, digitsOf, placesFrom}
+use Rattle.console.specs.Digits.{digitOf, digitsOf, placesFrom}
 use Rattle.console.specs.Limit.{limitOf}
 use Rattle.console.specs.Line.{ranText, refusalText}
 use Rattle.console.proofs.Limits.{limit-front}
 use Rattle.runner.specs.Report.{zeroMemory, pcOf, answerText, callOf, outcomeOf, reportOf}
+use Rattle.runner.specs.Reports.{ReportLong, ReportUnlimited, ReportRan, ReportFronts}
 
 -- ---- the report is that of a run call
 
 -- what a run call from reset answers and leaves is what is reported
-pub report-is : (code text image : List ℕ) (limit : ℕ) (a : Answer) (buffer : List ℕ) (memory : Memory) → image ≡ writeImage reset → limit ≡ limitOf text
+pub report-is : (code text image : List ℕ) (limit : ℕ) (a : Reply) (buffer : List ℕ) (memory : Memory) → image ≡ writeImage reset → limit ≡ limitOf text
     → outcome a buffer memory ≡ runCall code image zeroMemory (record { requests = []; limit = limit; buffer = replicate 708 0 })
     → answerText a buffer ≡ reportOf code text
 unfolding callOf outcomeOf reportOf
@@ -53,16 +55,18 @@ report-refused : (code text : List ℕ) (n : ℕ) → asked code (writeImage res
 unfolding reportOf outcomeOf answerText
 report-refused code text n e = rw (call-refused code (writeImage reset) zeroMemory (callOf text) n e)
 
--- a program of more than 65,536 bytes is refused before anything else, a bad limit.txt included: `1` and a newline
-pub report-long : (code text : List ℕ) → 65536 < length code → reportOf code text ≡ 49 ∷ newline ∷ []
-unfolding ask if_then_else_ refusalText digitsOf digitOf placesFrom
-report-long code text h = report-refused code text 1 (rw (lt-leb (length code) 65536 h))
+pub report-long : ReportLong
+unfolding ReportLong askedBy if_then_else_ refusalText digitsOf digitOf placesFrom
+report-long code text h =
+    let c = callOf text in
+    report-refused code text 1 (sym (program-no code (writeImage reset) zeroMemory (c .requests) (c .limit) (length (c .buffer)) reset h))
 
--- any other is refused just for its limit: `7` and a newline
-pub report-unlimited : (code text : List ℕ) → length code ≤ 65536 → 1000000 < limitOf text → reportOf code text ≡ 55 ∷ newline ∷ []
-unfolding ask askCall callOf allBelow if_then_else_ refusalText digitsOf digitOf placesFrom
+pub report-unlimited : ReportUnlimited
+unfolding ReportUnlimited askedBy readBy callOf allBelow if_then_else_ refusalText digitsOf digitOf placesFrom
 report-unlimited code text h l =
-    report-refused code text 7 (rw (le-leb (length code) 65536 h, reset-accepted, lt-leb (limitOf text) 1000000 l))
+    report-refused code text 7
+    (past-image code (writeImage reset) zeroMemory [] (limitOf text) 708 reset h (lit≤ tt) 0 (sym reset-accepted) refl
+    ∙ sym (limit-no [] (limitOf text) 708 reset refl l))
 
 -- ---- a call that runs
 
@@ -78,7 +82,7 @@ module _ (m : Machine) (s : List ℕ) (f : WellFormed m) where
   numbers-front : numbersOf (over (writeImage m) s) ≡ imageNumbers m ++ further
   unfolding writeImage
   numbers-front =
-      numbersOf-append (writeImage m) (drop (length (writeImage m)) s) (omega (arith, length-writeImage (formed-counts f)))
+      numbersOf-append (writeImage m) (drop (length (writeImage m)) s) (omega (arith, image-length (formed-counts f)))
       ∙ ap (λ l. l ++ further) (numbersOf-bytesOf (imageNumbers m) (imageNumbers-below f))
 
   pcOf-image : pcOf (over (writeImage m) s) ≡ m .position .pc
@@ -91,26 +95,23 @@ module _ (m : Machine) (s : List ℕ) (f : WellFormed m) where
       ∙ sym (pc-at (imageNumbers m))
       ∙ ap (λ (x : Machine). x .position .pc) (machineIn-imageNumbers m c)
 
--- steps, ending and PC are those of the run from reset, with no requests
-module _ (code text : List ℕ) (h : length code ≤ 65536) (l : limitOf text ≤ 1000000) where
-  all-yes : AllYes code (writeImage reset) zeroMemory (callOf text) reset
-  unfolding callOf
-  all-yes = record { programSize = h; dataSize = lit≤ tt; read = reset-accepted; requests = λ i. lit≤ tt; limit = l; room = lit≤ tt }
+all-yes : (code text : List ℕ) → length code ≤ 65536 → limitOf text ≤ 1000000 → AllYes code (writeImage reset) zeroMemory (callOf text) reset
+unfolding callOf
+all-yes code text h l = record { programSize = h; dataSize = lit≤ tt; read = reset-accepted; requests = λ i. lit≤ tt; limit = l; room = lit≤ tt }
 
-  pub report-ran : let e = resultFrom code [] (limitOf text) 0 (stateWith reset zeroMemory) in
-      reportOf code text ≡ ranText (e .steps) (e .ending) (e .after .machine .position .pc)
-  unfolding reportOf outcomeOf callOf answerText Questions
-  report-ran =
-      let e = resultFrom code [] (limitOf text) 0 (stateWith reset zeroMemory) in
-      let a = questions code (writeImage reset) zeroMemory (callOf text) reset .1 all-yes in
-      let o = call-started code (writeImage reset) zeroMemory (callOf text) reset a in
-      ap (λ (x : Outcome). answerText (x .answer) (x .buffer)) o
-      ∙ ap (ranText (e .steps) (e .ending)) (pcOf-image (e .after .machine) (replicate 708 0) (result-formed code [] (limitOf text) (stateWith reset zeroMemory) reset-formed))
+pub report-ran : ReportRan
+unfolding ReportRan reportOf outcomeOf callOf answerText Questions
+report-ran code text h l =
+    let e = resultFrom code [] (limitOf text) 0 (stateWith reset zeroMemory) in
+    let a = questions code (writeImage reset) zeroMemory (callOf text) reset .1 (all-yes code text h l) in
+    let o = call-started code (writeImage reset) zeroMemory (callOf text) reset a in
+    ap (λ (x : Outcome). answerText (x .answer) (x .buffer)) o
+    ∙ ap (ranText (e .steps) (e .ending)) (pcOf-image (e .after .machine) (replicate 708 0) (result-formed code [] (limitOf text) (stateWith reset zeroMemory) reset-formed))
 
 -- ---- the bytes that are read
 
--- of longer files the bytes that are read say the same
-pub report-fronts : (code text : List ℕ) → reportOf (take 65537 code) (take 16 text) ≡ reportOf code text
+pub report-fronts : ReportFronts
+unfolding ReportFronts ReportLong
 report-fronts code text =
     either (leb (length code) 65536)
     (λ e. ap (λ (x : List ℕ). reportOf x (take 16 text)) (take-all 65537 code (omega (arith, leb-true (length code) 65536 e))) ∙ report-by-limit code (take 16 text) text (limit-front text 16 (lit≤ tt)))

@@ -1,42 +1,22 @@
 -- 01's example of the run program, worked by antt: both sides compute. Assumes nothing.
 use mathlib.Core.Path.{_≡_, refl, _∙_}
-use mathlib.Core.List.{List, [], _∷_}
-use Prim.Native.Nat.{ℕ}
-use lib.ListN.{getD}
 use lib.Dec.{lit≤}
-use Rattle.codec.specs.Number.{bytesOf}
-use Rattle.machine.specs.Control.{reset, controlAt, EXCEPTION-CS}
-use Rattle.emulator.specs.Run.{stateWith, RunResult, resultFrom}
 use Rattle.emulator.specs.Computed.{runs}
 use Rattle.console.specs.Limit.{limitOf}
 use Rattle.console.specs.Computed.{texts}
 use Rattle.console.proofs.Worked.{whole-output}
-use Rattle.runner.specs.Report.{zeroMemory, reportOf}
+use Rattle.runner.specs.Reports.{ReportRan}
+use Rattle.runner.specs.Worked.{code, three, ExampleOutput, ExampleLeft}
 use Rattle.runner.proofs.Reports.{report-ran}
-
--- lli PR1, 5; addi PR2, PR1, -1; trap 3
-unfoldable pub code : List ℕ
-unfolding bytesOf
-code = bytesOf (0x88010005 ∷ 0x4807883F ∷ 0xDC000003 ∷ [])
-
--- "3"
-abbrev pub three : List ℕ
-three = 51 ∷ []
-
--- what the run leaves
-abbrev pub left : RunResult
-left = resultFrom code [] 3 0 (stateWith reset zeroMemory)
 
 limit-three : limitOf three ≡ 3
 unfolding texts
 limit-three = refl
 
--- "For 88010005h 4807883Fh DC000003h and limit 3, whole output: `3 0 00000000`"
-pub example-output : reportOf code three ≡ 51 ∷ 32 ∷ 48 ∷ 32 ∷ 48 ∷ 48 ∷ 48 ∷ 48 ∷ 48 ∷ 48 ∷ 48 ∷ 48 ∷ 10 ∷ []
-unfolding code runs
+pub example-output : ExampleOutput
+unfolding ExampleOutput ReportRan code runs
 example-output = report-ran code three (lit≤ tt) (rw limit-three (lit≤ tt)) ∙ rw limit-three whole-output
 
--- "PR2 is 4, C0 is 1, EXCEPTION_CS E3h"
-pub example-left : getD (left .after .machine .set2) 2 0 ∷ getD (left .after .machine .conditions) 0 0 ∷ controlAt (left .after .machine) EXCEPTION-CS ∷ [] ≡ 4 ∷ 1 ∷ 0xE3 ∷ []
-unfolding code runs
+pub example-left : ExampleLeft
+unfolding ExampleLeft code runs
 example-left = refl

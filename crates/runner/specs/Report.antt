@@ -6,9 +6,7 @@ use Rattle.codec.specs.Number.{numbersOf}
 use Rattle.machine.specs.Machine.{Memory, memoryOf}
 use Rattle.machine.specs.Control.{reset}
 use Rattle.image.specs.Image.{writeImage, machineIn, LONGEST}
-use Rattle.emulator.specs.Run.{Call, Outcome, runCall}
-use Rattle.emulator.specs.declared.Answer.{Answer}
-use Rattle.emulator.specs.declared.Answer.the-variants.{Refusal, Ran}
+use Rattle.emulator.specs.Run.{Call, Reply, RefusedWith, RanFor, Outcome, runCall}
 use Rattle.console.specs.Limit.{limitOf}
 use Rattle.console.specs.Line.{ranText, refusalText}
 
@@ -17,9 +15,9 @@ unfoldable pub pcOf : (buffer : List ℕ) → ℕ
 pcOf buffer = machineIn (numbersOf buffer) .position .pc
 
 -- "prints steps, ending, PC in 8 hex digits ..": PC is that of the image which the call left; "A refusal prints its number alone and a newline"
-unfoldable pub answerText : Answer → (buffer : List ℕ) → List ℕ
-answerText (Refusal n) buffer = refusalText n
-answerText (Ran steps ending) buffer = ranText steps ending (pcOf buffer)
+unfoldable pub answerText : Reply → (buffer : List ℕ) → List ℕ
+answerText (RefusedWith n) buffer = refusalText n
+answerText (RanFor steps ending) buffer = ranText steps ending (pcOf buffer)
 
 -- "4,096 zero cells"
 abbrev pub zeroMemory : Memory
@@ -36,3 +34,8 @@ outcomeOf code text = runCall code (writeImage reset) zeroMemory (callOf text)
 -- what the run program prints, `code` and `text` being the bytes of code.bin and limit.txt
 unfoldable pub reportOf : (code text : List ℕ) → List ℕ
 reportOf code text = answerText (outcomeOf code text .answer) (outcomeOf code text .buffer)
+
+-- to unfold all of these
+unfoldable pub reporting : Unit {0}
+unfolding pcOf answerText callOf outcomeOf reportOf
+reporting = tt

@@ -1,8 +1,10 @@
 // The run program: runs code.bin from reset for the steps that limit.txt says, and prints the answer.
 ghost use mathlib.Core.Path.{_≡_};
-ghost use lib.ListN.{length, take};
+ghost use lib.ListN.{length, replicate};
+ghost use Rattle.codec.specs.Number.{over};
 ghost use Rattle.machine.specs.Control.{reset as resetOf};
-ghost use Rattle.image.specs.Image.{writeImage, SHORTEST, LONGEST};
+ghost use Rattle.image.specs.Image.{writeImage, LONGEST};
+ghost use Rattle.emulator.specs.Run.{replyOf};
 ghost use Rattle.console.specs.Line.{lineOf};
 ghost use Rattle.io.specs.Counts.{Counts};
 ghost use Rattle.runner.specs.Report.{pcOf, answerText, reportOf};
@@ -12,9 +14,9 @@ use libc::STDOUT_FILENO;
 
 // ---- the report
 
-// The machine image at reset, at the front of the longest image's bytes.
+// The machine image at reset, at the front of the longest image's bytes; the further bytes are 0.
 pub fn reset_image() -> [u8; image::LONGEST]
-    ensures { λ r. ⌜ take SHORTEST r ≡ writeImage resetOf ⌝ }
+    ensures { λ r. ⌜ r ≡ over (writeImage resetOf) (replicate LONGEST 0) ⌝ }
 {
     let mut bytes = [0u8; image::LONGEST];
     emulator::reset(&mut bytes);
@@ -34,7 +36,7 @@ fn pc(buffer: &[u8]) -> u32
 // The line for an answer and the buffer that holds the new image.
 pub fn line(answer: Answer, buffer: &[u8]) -> Line
     requires { ⌜ length (now buffer) ≡ LONGEST ⌝ }
-    ensures { λ r. ⌜ r ≡ lineOf (answerText answer (now (buffer .entry))) ⌝ }
+    ensures { λ r. ⌜ r ≡ lineOf (answerText (replyOf answer) (now (buffer .entry))) ⌝ }
 {
     match answer {
         Answer::Refusal(n) => console::refusal_line(n),
@@ -77,16 +79,17 @@ pub fn load(path: &[u8], buffer: &mut [u8]) -> usize
     n
 }
 
-// Prints a line.
-pub fn print(line: Line)
+// Writes a line's characters to standard output, and answers whether all were written. What is written, here and below, no contract can say.
+pub fn print(line: Line) -> bool
     requires { ⌜ Counts (line .count) (line .bytes) ⌝ }
 {
     let n = line.count;
     let bytes = line.bytes;
-    io::write_all(STDOUT_FILENO, &bytes[..n]);
+    io::write_all(STDOUT_FILENO, &bytes[..n])
 }
 
-// Runs the program of one file for the steps that another says, and prints the report. Of a longer file the bytes that are read say the same.
+// Reads two files, and prints the report of their bytes: a program, and the steps that it is run for. Of a longer file the bytes that are read say the
+// same (proofs/Reports: report-fronts). It lends nothing and has no result: a program has no exit status to tell it on.
 pub fn run_paths(code_path: &[u8], limit_path: &[u8]) {
     let mut code = [0u8; emulator::MOST_MEMORY + 1];
     let n = load(code_path, &mut code);

@@ -3,16 +3,15 @@ use mathlib.Core.Path.{_≡_, sym, _∙_}
 use borrow.Author.Needs.{needs}
 use borrow.Author.Tests.{not-true, not-false}
 use Rattle.machine.specs.Words.{machineOf}
-use Rattle.formed.specs.Questions.{Accepted}
-use Rattle.emulator.specs.Run.{askCall, ask}
-use Rattle.emulator.proofs.Asked.{program-no, cells-no, image-no, past-image, requests-no, limit-no, room-no, all-yes}
+use Rattle.emulator.specs.Run.{firstNo, askedBy, ask}
+use Rattle.emulator.proofs.Asked.{ofCall, program-no, cells-no, image-no, past-image, requests-no, limit-no, room-no, all-yes}
 use Rattle.emulator.proofs.refusal.Statement.{statement}
 use Rattle.emulator.proofs.refusal.Tie as tie
 use Rattle.machine.specs.Machine.{memoryOf}
 
 -- past question 5, what 6 to 8 say of the call decides
 past : (c : tie.Else3) → let args = c .before .before .before .before .before .before .before .before .before .before .before .before .args in
-    askCall (args .requests .now) (args .limit) (args .room) (Accepted (machineOf (c .before .before .before .read .last .1 .0)))
+    askedBy (firstNo 6 (ofCall (args .requests .now) (args .limit) (args .room))) (machineOf (c .before .before .before .read .last .1 .0))
     ≡ ask (args .program .now) (args .image .now) (memoryOf (args .cells .now)) (args .requests .now) (args .limit) (args .room)
 past c = let read = c .before .before .before in
     sym (past-image _ _ _ _ _ _ _ (read .before .before .before .if1 .left) (read .before .before .if2 .left) _ (read .read .ensures) (c .if3 .left))

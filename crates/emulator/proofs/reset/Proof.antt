@@ -21,7 +21,7 @@ write-requires c κs =
 
 returns-2 : tie.Need-returns-2
 unfolding resetCall if_then_else_
-returns-2 c = let written = c .before .before .before in
+returns-2 c = let written = c .before .before in
     rw (written .write .ensures, written .before .before .before .before .reset .ensures, le-leb LONGEST _ (written .before .before .before .before .before .before .if1 .left))
 
 pub reset-spec : {M : Type 1} → statement M

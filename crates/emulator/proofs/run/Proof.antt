@@ -28,10 +28,10 @@ write-requires c κs = let ran = c .before .before .before .before .before in
     (search needs, deep, room-enough deep (run-yes _ _ _ (asked refused) _ _ (refused .refusal .ensures) no .room))
 
 returns-2 : tie.Need-returns-2
-returns-2 c = let ran = c .before .before .before .before .before .before .before .before .before in
+returns-2 c = let ran = c .before .before .before .before .before .before .before .before in
     let refused = ran .before .before .before .before .before in
     let no = ran .before .before .before .if1 .left in
-    rw (c .before .before .before .write .ensures) (run-ran _ _ _ (asked refused) _ _ (refused .refusal .ensures) no _ _ _ (ran .run-steps .ensures))
+    rw (c .before .before .write .ensures) (run-ran _ _ _ (asked refused) _ _ (refused .refusal .ensures) no _ _ _ (ran .run-steps .ensures))
 
 pub run-spec : {M : Type 1} → statement M
 run-spec =
