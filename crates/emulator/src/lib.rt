@@ -145,8 +145,7 @@ pub fn reset(buffer: &mut [u8]) -> u32
     if buffer.len() < image::LONGEST {
         return 8;
     }
-    let mut words = [0u32; machine::WORDS];
-    image::reset(&mut words);
+    let words = image::reset();
     image::write(&words, buffer);
     0
 }

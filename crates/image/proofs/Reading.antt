@@ -1,8 +1,8 @@
 -- Question 2 as the code asks it, and the words that it reads from an image. Assumes nothing.
-use mathlib.Core.Path.{_≡_, sym, ap, _∙_}
+use mathlib.Core.Path.{_≡_, refl, sym, ap, _∙_}
 use mathlib.Core.Bool.{true, false, _&&_, and-true, and-false, and-assoc}
 use mathlib.Core.List.{List}
-use Prim.Native.Nat.{ℕ, _+_, _*_, _/_, _≤_, _<_}
+use Prim.Native.Nat.{ℕ, zero, suc, _+_, _*_, _/_, _≤_, _<_}
 use native.Mathlib.Omega.{arith}
 use lib.Dec.{eqb}
 use lib.ListN.{length, getD, take}
@@ -10,11 +10,10 @@ use borrow.Author.Tests.{le-leb, lt-leb, ne-eqb}
 use Rattle.word.specs.Choice.{if_then_else_}
 use Rattle.codec.specs.Number.{numberAt, numbersOf, over}
 use Rattle.codec.proofs.Laws.{getD-numbersOf, take-over, getD-over-front, length-over}
-use Rattle.machine.specs.Machine.{Machine}
 use Rattle.machine.specs.Words.{SOURCES, DEPTH, WORDS, machineOf}
 use Rattle.machine.proofs.Flat.{depth-is}
-use Rattle.formed.specs.Questions.{all, askMachine, readBy}
-use Rattle.image.specs.Image.{STACK-AT, countOf, machineIn, imageBytes, SHORTEST, sectionTests, question2, readImage}
+use Rattle.formed.specs.Questions.{all, Read, Refused, Accepted, askMachine, readBy}
+use Rattle.image.specs.Image.{STACK-AT, countOf, machineIn, imageBytes, SHORTEST, sectionTests, question2, readImage, loaded, loadedBy}
 use Rattle.image.proofs.Sections.{Counted, same-order, machineIn-imageNumbers, counts-machineIn, imageNumbers-machineIn}
 use Rattle.image.proofs.Image.{sectioned}
 
@@ -46,9 +45,9 @@ module _ (s : List ℕ) where
         and-true,
       )
 
-pub refused-2 : (s : List ℕ) (m : Machine) → question2 s ≡ false → readBy 2 m ≡ readImage s
-unfolding readImage readBy if_then_else_
-refused-2 s m e = rw e
+pub refused-2 : (s w : List ℕ) → question2 s ≡ false → loadedBy 2 w ≡ loaded w (readImage s)
+unfolding readImage loadedBy loaded if_then_else_
+refused-2 s w e = rw e
 
 -- ---- an image that passes question 2
 
@@ -98,3 +97,25 @@ module _ (s w : List ℕ) (e : question2 s ≡ true) (h : length w ≡ WORDS) wh
   read-machine =
       let asked : readImage s ≡ askMachine (machineIn (numbersOf s)) = rw e in
       ap askMachine read-words ∙ sym asked
+
+-- ---- what is lent
+
+module _ (w words : List ℕ) where
+  -- refused: the words stay
+  pub loaded-no : (n : ℕ) (r : Read) → readBy n (machineOf words) ≡ r → (n ≡ 0 → ⊥) → loadedBy n w ≡ loaded w r
+  unfolding readBy loadedBy loaded
+  loaded-no zero r e z = absurd (z refl)
+  loaded-no (suc n) r e z = rw (← e)
+
+  -- accepted: they are those that were asked
+  pub loaded-yes : (n : ℕ) (r : Read) → readBy n (machineOf words) ≡ r → n ≡ 0 → loadedBy 0 words ≡ loaded w r
+  unfolding readBy loadedBy loaded
+  loaded-yes n r e z = rw (← (rw z at e))
+
+  -- so the words after a reading say what the image says
+  pub loaded-read : (n : ℕ) (r : Read) → loadedBy n words ≡ loaded w r → readBy n (machineOf words) ≡ r
+  unfolding readBy loadedBy loaded
+  loaded-read zero (Refused k) e = absurd (let z : _≡_ {A = ℕ} 0 1 = cc in omega arith)
+  loaded-read zero (Accepted m) e = cc
+  loaded-read (suc n) (Refused k) e = cc
+  loaded-read (suc n) (Accepted m) e = absurd (let z : _≡_ {A = ℕ} 0 1 = cc in omega arith)

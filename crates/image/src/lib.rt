@@ -5,8 +5,7 @@ ghost use lib.ListN.{length};
 ghost use Rattle.codec.specs.Number.{over};
 ghost use Rattle.machine.specs.Control.{reset as resetOf};
 ghost use Rattle.machine.specs.Words.{SOURCES, MachineWords, machineOf};
-ghost use Rattle.formed.specs.Questions.{readBy};
-ghost use Rattle.image.specs.Image.{imageBytes, question2, readImage, writeImage};
+ghost use Rattle.image.specs.Image.{imageBytes, question2, readImage, loaded, loadedBy, writeImage};
 
 // Bytes of an image with no stack entries, and of the longest.
 pub const SHORTEST: usize = 4 * machine::ENTRIES;
@@ -59,14 +58,21 @@ fn sections_fit(image: &[u8]) -> bool
 
 // ---- reading
 
-// Reads an image: the number of the first question that says no, or 0 and the machine's words.
+// Reads an image: the number of the first question that says no, and then the lent words stay; or 0, and they hold the machine. It is read aside, so that
+// questions 3 to 5 come before anything lent is written.
 pub fn read(image: &[u8], w: &mut [u32]) -> u32
     requires { ⌜ MachineWords (now w) ⌝ }
-    ensures { λ r. ⌜ readBy r (machineOf (now (w .exit))) ≡ readImage (now (image .entry)) ⌝ }
+    ensures { λ r. ⌜ loadedBy r (now (w .exit)) ≡ loaded (now (w .entry)) (readImage (now (image .entry))) ⌝ }
 {
     if sections_fit(image) {
-        codec::read_numbers(image, w);
-        formed::ask_machine(w)
+        let mut words = [0u32; machine::WORDS];
+        codec::read_numbers(image, &mut words);
+        let no = formed::ask_machine(&words);
+        if no != 0 {
+            return no;
+        }
+        codec::copy(&words, w);
+        0
     } else {
         2
     }
@@ -142,18 +148,17 @@ const RESET: [u32; machine::OFFSETS] = [
 // Where SPSR lies.
 const SPSR: usize = machine::SET2 + machine::SPSR as usize;
 
-// Puts the machine at reset into its words.
-pub fn reset(w: &mut [u32])
-    requires { ⌜ MachineWords (now w) ⌝ }
-    ensures { λ _. ⌜ machineOf (now (w .exit)) ≡ resetOf ⌝ }
+// Words that say the machine at reset.
+pub fn reset() -> [u32; machine::WORDS]
+    ensures { λ r. ⌜ machineOf r ≡ resetOf ⌝ }
 {
     let control = RESET;
-    let mut numbers = [0u32; machine::ENTRIES];
-    numbers[machine::PSR] = 0x0E;
-    numbers[SPSR] = 9;
+    let mut words = [0u32; machine::WORDS];
+    words[machine::PSR] = 0x0E;
+    words[SPSR] = 9;
     codec::copy(
         &control,
-        &mut numbers[machine::CONTROL..machine::CONTROL + machine::OFFSETS],
+        &mut words[machine::CONTROL..machine::CONTROL + machine::OFFSETS],
     );
-    codec::copy(&numbers, &mut w[..machine::ENTRIES]);
+    words
 }

@@ -3,6 +3,7 @@ use mathlib.Core.Path.{_≡_, sym, _∙_}
 use borrow.Author.Needs.{needs}
 use borrow.Author.Tests.{not-true, not-false}
 use Rattle.machine.specs.Words.{machineOf}
+use Rattle.image.proofs.Reading.{loaded-read}
 use Rattle.emulator.specs.Run.{firstNo, askedBy, ask}
 use Rattle.emulator.proofs.Asked.{ofCall, program-no, cells-no, image-no, past-image, requests-no, limit-no, room-no, all-yes}
 use Rattle.emulator.proofs.refusal.Statement.{statement}
@@ -14,7 +15,7 @@ past : (c : tie.Else3) → let args = c .before .before .before .before .before 
     askedBy (firstNo 6 (ofCall (args .requests .now) (args .limit) (args .room))) (machineOf (c .before .before .before .read .last .1 .0))
     ≡ ask (args .program .now) (args .image .now) (memoryOf (args .cells .now)) (args .requests .now) (args .limit) (args .room)
 past c = let read = c .before .before .before in
-    sym (past-image _ _ _ _ _ _ _ (read .before .before .before .if1 .left) (read .before .before .if2 .left) _ (read .read .ensures) (c .if3 .left))
+    sym (past-image _ _ _ _ _ _ _ (read .before .before .before .if1 .left) (read .before .before .if2 .left) _ (loaded-read _ _ _ _ (read .read .ensures)) (c .if3 .left))
 
 returns : tie.Need-returns
 returns c = program-no _ _ _ _ _ _ _ (c .if1 .taken)
@@ -24,7 +25,7 @@ returns-2 c = cells-no _ _ _ _ _ _ _ (c .before .if1 .left) (c .if2 .taken)
 
 returns-3 : tie.Need-returns-3
 returns-3 c = let read = c .before .before .before in
-    image-no _ _ _ _ _ _ _ (read .before .before .before .if1 .left) (read .before .before .if2 .left) _ (read .read .ensures) (c .if3 .taken)
+    image-no _ _ _ _ _ _ _ (read .before .before .before .if1 .left) (read .before .before .if2 .left) _ (loaded-read _ _ _ _ (read .read .ensures)) (c .if3 .taken)
 
 returns-4 : tie.Need-returns-4
 returns-4 c = requests-no _ _ _ _ (sym (c .before .all-below .ensures) ∙ not-true _ (c .if4 .taken)) ∙ past (c .before .before)

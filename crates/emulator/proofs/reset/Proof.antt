@@ -16,20 +16,20 @@ returns c = rw (lt-leb LONGEST _ (c .if1 .taken))
 write-requires : tie.Need-write-requires
 write-requires c κs =
     let deep = stacked-depth (reset-formed .stack) in
-    let e = c .before .before .before .reset .ensures in
-    (search needs, rw e deep, rw e (room-enough deep (c .before .before .before .before .before .if1 .left)))
+    let e = c .before .before .reset .ensures in
+    (search needs, rw e deep, rw e (room-enough deep (c .before .before .before .if1 .left)))
 
 returns-2 : tie.Need-returns-2
 unfolding resetCall if_then_else_
 returns-2 c = let written = c .before .before in
-    rw (written .write .ensures, written .before .before .before .before .reset .ensures, le-leb LONGEST _ (written .before .before .before .before .before .before .if1 .left))
+    rw (written .write .ensures, written .before .before .before .reset .ensures, le-leb LONGEST _ (written .before .before .before .before .if1 .left))
 
 pub reset-spec : {M : Type 1} → statement M
 reset-spec =
     tie.close
     (tie.spec
     returns
-    (λ c. search needs) (λ c κs. search needs) (λ c. search needs)
+    (λ c κs. search needs) (λ c. search needs)
     write-requires
     (λ c. search needs)
     returns-2)
