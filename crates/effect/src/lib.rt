@@ -71,22 +71,30 @@ fn next_pc(w: &[u32]) -> u32
     }
 }
 
-// PC takes an address, with no slot and no product.
-fn go_to(w: &mut [u32], pc: u32)
+// PC takes an address, with no product: a slot waits, or none does.
+fn move_to(w: &mut [u32], pc: u32, slot: u32, target: u32)
     requires { ⌜ MachineWords (now w) ⌝ }
-    ensures { λ _. ⌜ Says (now (w .exit)) (withPosition (positionAt pc) (machineOf (now (w .entry)))) ⌝ }
+    ensures { λ _. ⌜ Says (now (w .exit)) (withPosition (record { pc = pc; slot = slot; target = target; held = 0; high = 0; low = 0 }) (machineOf (now (w .entry)))) ⌝ }
 {
     machine::set_position(
         w,
         Position {
             pc,
-            slot: 0,
-            target: 0,
+            slot,
+            target,
             held: 0,
             high: 0,
             low: 0,
         },
     );
+}
+
+// PC takes an address, with no slot and no product.
+fn go_to(w: &mut [u32], pc: u32)
+    requires { ⌜ MachineWords (now w) ⌝ }
+    ensures { λ _. ⌜ Says (now (w .exit)) (withPosition (positionAt pc) (machineOf (now (w .entry)))) ⌝ }
+{
+    move_to(w, pc, 0, 0);
 }
 
 // PC goes on; the slot is used up and a product dropped.
@@ -123,17 +131,7 @@ fn jump_to(w: &mut [u32], target: u32)
     ensures { λ _. ⌜ Says (now (w .exit)) (jumpTo target (machineOf (now (w .entry)))) ⌝ }
 {
     let pc = next_pc(w);
-    machine::set_position(
-        w,
-        Position {
-            pc,
-            slot: 1,
-            target,
-            held: 0,
-            high: 0,
-            low: 0,
-        },
-    );
+    move_to(w, pc, 1, target);
 }
 
 // ---- changes of mode

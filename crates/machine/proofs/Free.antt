@@ -33,15 +33,14 @@ not-among start count n (m ∷ ms) e l h =
     rw (split-apart m 1 start count (t .0) (λ p. ne-eqb m n (λ q. omega arith)) (λ p. ne-eqb m n (λ q. omega arith)))
     (not-among start count n ms (t .1) l h)
 
-module _ (d n : ℕ) where
-  not-free : (start count : ℕ) → apartFrom start count COUNTS ≡ true → start ≤ n → n < start + count → n < ENTRIES + 4 * d → isFree d n ≡ false
-  unfolding isFree
-  not-free start count e l h b = rw (not-among start count n COUNTS e l h) (lt-leb (ENTRIES + 4 * d) n b)
+not-free : (d start count n : ℕ) → apartFrom start count COUNTS ≡ true → start ≤ n → n < start + count → n < ENTRIES + 4 * d → isFree d n ≡ false
+unfolding isFree
+not-free d start count n e l h b = rw (not-among start count n COUNTS e l h) (lt-leb (ENTRIES + 4 * d) n b)
 
 -- ---- words that agree, and equal sections
 
 module _ (w k : List ℕ) where
-  -- sections that agree at each place
+  -- the words agree in sections that do at each place,
   agreeing : (start count : ℕ) → ((j : ℕ) → j < count → getD (section start count w) j 0 ≡ getD (section start count k) j 0)
       → (n : ℕ) → start ≤ n → n < start + count → getD w n 0 ≡ getD k n 0
   agreeing start count e n l h =
@@ -49,6 +48,11 @@ module _ (w k : List ℕ) where
       let j : n - start < count = omega arith in
       rw i (sym (section-at w start count (n - start) j) ∙ e (n - start) j ∙ section-at k start count (n - start) j)
 
+  -- and in equal sections;
+  listed : (start count : ℕ) → section start count w ≡ section start count k → (n : ℕ) → start ≤ n → n < start + count → getD w n 0 ≡ getD k n 0
+  listed start count e = agreeing start count (λ j _. ap (λ (l : List ℕ). getD l j 0) e)
+
+  -- sections are equal whose words agree
   equal : (start count : ℕ) → length w ≡ length k → ((n : ℕ) → start ≤ n → n < start + count → getD w n 0 ≡ getD k n 0)
       → section start count w ≡ section start count k
   equal start count s e =
@@ -57,9 +61,6 @@ module _ (w k : List ℕ) where
       let b = length-take count (drop start w) in
       let l : j < count = omega arith in
       section-at w start count j l ∙ e (start + j) (omega arith) (omega arith) ∙ sym (section-at k start count j l))
-
-same-lists : {l k : List ℕ} → l ≡ k → (j : ℕ) → getD l j 0 ≡ getD k j 0
-same-lists e j = ap (λ (l : List ℕ). getD l j 0) e
 
 -- equal positions are of numbers that agree, and so are equal entries
 same-position : (l k : List ℕ) → positionOf l ≡ positionOf k → (j : ℕ) → j < 6 → getD l j 0 ≡ getD k j 0
@@ -92,7 +93,7 @@ same-entries (suc d) l k e j h =
 
 -- ---- the machine
 
--- a place of no count lies in a section
+-- a place of no count is none of the five
 between-counts : (n : ℕ) → isAmong n COUNTS ≡ false → (0 ≢ n) × (33 ≢ n) × (66 ≢ n) × (75 ≢ n) × (121 ≢ n)
 unfolding isAmong
 between-counts n e =
@@ -128,10 +129,10 @@ module _ (w k : List ℕ) (e : machineOf w ≡ machineOf k) where
   agree n f =
       let x = between-counts n (or-parts (isAmong n COUNTS) _ f .0) in
       let h : n < ENTRIES + 4 * d = leb-false _ _ (or-parts (isAmong n COUNTS) _ f .1) in
-      by-order n SET2 (λ b. agreeing w k SET1 32 (λ j _. same-lists (ap (λ (m : Machine). m .set1) e) j) n (omega arith) (omega arith))
-      (λ a. by-order n CONDITIONS (λ b. agreeing w k SET2 32 (λ j _. same-lists (ap (λ (m : Machine). m .set2) e) j) n (omega arith) (omega arith))
-      (λ a. by-order n CONTROL (λ b. agreeing w k CONDITIONS 8 (λ j _. same-lists (ap (λ (m : Machine). m .conditions) e) j) n (omega arith) (omega arith))
-      (λ a. by-order n POSITION (λ b. agreeing w k CONTROL 45 (λ j _. same-lists (ap (λ (m : Machine). m .control) e) j) n (omega arith) (omega arith))
+      by-order n SET2 (λ b. listed w k SET1 32 (ap (λ (m : Machine). m .set1) e) n (omega arith) (omega arith))
+      (λ a. by-order n CONDITIONS (λ b. listed w k SET2 32 (ap (λ (m : Machine). m .set2) e) n (omega arith) (omega arith))
+      (λ a. by-order n CONTROL (λ b. listed w k CONDITIONS 8 (ap (λ (m : Machine). m .conditions) e) n (omega arith) (omega arith))
+      (λ a. by-order n POSITION (λ b. listed w k CONTROL 45 (ap (λ (m : Machine). m .control) e) n (omega arith) (omega arith))
       (λ a. by-order n DEPTH (λ b. agreeing w k POSITION 6 (same-position _ _ (ap (λ (m : Machine). m .position) e)) n (omega arith) (omega arith))
       (λ a. by-order n ENTRIES (λ b. let i : n ≡ DEPTH = omega arith in rw i same-depth)
       (λ a. agreeing w k ENTRIES (4 * d) (same-entries d _ _ same-stack) n a h))))))
@@ -139,11 +140,11 @@ module _ (w k : List ℕ) (e : machineOf w ≡ machineOf k) where
 -- and words that agree there say the same
 module _ (w k : List ℕ) (s : length w ≡ length k) (a : (n : ℕ) → isFree (getD w DEPTH 0) n ≡ false → getD w n 0 ≡ getD k n 0) where
   said : (start count : ℕ) → apartFrom start count COUNTS ≡ true → start + count ≤ ENTRIES + 4 * getD w DEPTH 0 → section start count w ≡ section start count k
-  said start count e l = equal w k start count s (λ n b h. a n (not-free (getD w DEPTH 0) n start count e b h (omega arith)))
+  said start count e l = equal w k start count s (λ n b h. a n (not-free (getD w DEPTH 0) start count n e b h (omega arith)))
 
   depth-said : getD w DEPTH 0 ≡ getD k DEPTH 0
   unfolding apartFrom
-  depth-said = a DEPTH (not-free (getD w DEPTH 0) DEPTH DEPTH 1 refl (omega arith) (omega arith) (omega arith))
+  depth-said = a DEPTH (not-free (getD w DEPTH 0) DEPTH 1 DEPTH refl (omega arith) (omega arith) (omega arith))
 
   same : machineOf w ≡ machineOf k
   unfolding machineOf apartFrom

@@ -15,7 +15,7 @@ returns c =
     let c3 = c2 .before .before .before in
     let a = c3 .args in
     let t : a .target % 2 ^ 32 ≡ a .target = omega arith in
-    rw (← (c2 .next-pc .ensures), t) (c1 .set-position .ensures)
+    rw (← (c2 .next-pc .ensures), t) (c1 .move-to .ensures)
 
 pub jump-to-spec : {M : Type 1} → statement M
 jump-to-spec = tie.close (tie.spec (λ c κs. search needs) (λ c κs. search needs) (λ c. search needs) returns)
