@@ -1,12 +1,15 @@
 -- An instruction word carried out, by what the tests of its instruction give. Assumes nothing.
 use mathlib.Core.Path.{_≡_, refl, sym, ap, _∙_}
-use mathlib.Core.Bool.{Bool, true, false, _&&_}
+use mathlib.Core.Logic.{_≢_}
+use mathlib.Core.Bool.{Bool, true, false, _&&_, and-false}
 use mathlib.Core.List.{List}
-use Prim.Native.Nat.{ℕ, _<_}
+use Prim.Native.Nat.{ℕ, _≤_, _<_}
 use native.Mathlib.Omega.{arith}
 use lib.Dec.{eqb}
+use borrow.Author.Tests.{ne-eqb}
 use Rattle.word.proofs.Tests.{either}
 use Rattle.isa.specs.Operation.{operationOf, widthBy, Properties, properties, unavailable, codeOf}
+use Rattle.isa.specs.Format.{fieldsOf, conditionalField}
 use Rattle.isa.specs.Decode.{opcodeOf, assembled, decode}
 use Rattle.isa.specs.Computed.{instructions}
 use Rattle.isa.specs.declared.Instruction.{Instruction}
@@ -20,7 +23,13 @@ use Rattle.operation.specs.Execute.{onFound, execute}
 use Rattle.execute.specs.Decide.{perform, fetchedThen}
 use Rattle.execute.proofs.Order.{codeFor, transferInSlot, barred, in-slot, skipped, performed}
 use Rattle.effect.specs.Apply.{Report, reportOn}
-use Rattle.isa.proofs.Groups.{usable-low, no-transfer}
+use Rattle.isa.proofs.Table.{values, agree}
+use Rattle.isa.proofs.Groups.{usable-low, usable-jump, no-transfer, transfers}
+
+-- 40 to 47 are never conditional
+never-conditional : (n : ℕ) → 40 ≤ n → n < 48 → properties (operationOf n) .conditional ≡ false
+unfolding instructions values
+never-conditional = agree (λ n. properties (operationOf n) .conditional) (λ n. false) 40 8 refl
 
 -- i is the instruction of a word in the width that PSR says, and op its number
 pub record Decoded (w : List ℕ) (word op : ℕ) (i : Instruction) : Type 0 where
@@ -107,6 +116,33 @@ module _ (p w : List ℕ) (memory : Memory) {word op : ℕ} {i : Instruction} (d
     pub low-performed : conditionFalse v i ≡ false → (x y : ℕ) → x ≡ v .source (i .sreg1) → y ≡ v .source (i .sreg2)
         → done ≡ reportOn (execute (operationOf (i .opcode)) v i x y) w memory
     low-performed = word-performed (usable-low _ _ op h) stays
+
+  -- jumps and branches: the slot is asked, then the condition
+  module _ (l : 36 ≤ op) (h : op < 48) where
+    pub jump-in-slot : machineOf w .position .slot ≡ 1 → done ≡ reportOn (Stopped 13) w memory
+    jump-in-slot s = word-in-slot (usable-jump _ _ op l h) (rw (transfers op l h, s))
+
+    module _ (s : machineOf w .position .slot ≢ 1) where
+      free : transfer-now ≡ false
+      free = rw (transfers op l h) (ne-eqb _ 1 s)
+
+      pub jump-skipped : conditionFalse v i ≡ true → done ≡ reportOn Next w memory
+      jump-skipped = word-skipped (usable-jump _ _ op l h) free
+
+      pub jump-performed : conditionFalse v i ≡ false → (x y : ℕ) → x ≡ v .source (i .sreg1) → y ≡ v .source (i .sreg2)
+          → done ≡ reportOn (execute (operationOf (i .opcode)) v i x y) w memory
+      jump-performed = word-performed (usable-jump _ _ op l h) free
+
+  -- branches are never conditional
+  unconditional : 40 ≤ op → op < 48 → conditionFalse v i ≡ false
+  unfolding conditionFalse decode assembled
+  unconditional l h =
+      let e : opcodeOf (widthOf (psr (machineOf w))) word ≡ op = sym (ap (λ (j : Instruction). j .opcode) (d .same)) ∙ d .number in
+      let never : i .conditional ≡ false = rw (d .same, e, never-conditional op l h) (and-false (eqb (fieldsOf (conditionalField (widthOf (psr (machineOf w)))) word) 1)) in
+      rw never
+
+  pub branch-performed : 40 ≤ op → op < 48 → machineOf w .position .slot ≢ 1 → done ≡ reportOn (execute (operationOf (i .opcode)) v i (v .source (i .sreg1)) (v .source (i .sreg2))) w memory
+  branch-performed l h s = jump-performed (omega arith) h s (unconditional l h) _ _ refl refl
 
   -- nop: conditional or not, nothing but PC moves
   pub word-nothing : op ≡ 0 → done ≡ reportOn Next w memory

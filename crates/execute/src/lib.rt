@@ -15,6 +15,7 @@ ghost use Rattle.operation.specs.Promises.{PerformsSeen, PerformsStoring};
 use effect::next;
 use machine::wide_words;
 use operation::access;
+use operation::branches;
 use operation::immediates;
 use operation::jumps;
 use operation::moves;
@@ -94,9 +95,9 @@ fn move_word(w: &mut [u32], word: u32, op: u32) -> u32
     }
 }
 
-// Words of operations 36 to 47: jumps and branches, stop 13 in a slot.
+// Words of operations 36 to 39: jmp, jal, jmpr, jalr, stop 13 in a slot.
 fn jump_word(w: &mut [u32], word: u32, op: u32) -> u32
-    requires { ⌜ MachineWords (now w) × (machineOf (now w) .position .pc < MOST-MEMORY) × (op ≡ opcodeOf (widthOf (psr (machineOf (now w)))) word) × (36 ≤ op) × (op ≤ 47) ⌝ }
+    requires { ⌜ MachineWords (now w) × (machineOf (now w) .position .pc < MOST-MEMORY) × (op ≡ opcodeOf (widthOf (psr (machineOf (now w)))) word) × (36 ≤ op) × (op ≤ 39) ⌝ }
     ensures { λ r. ⌜ PerformsSeen (λ v. fetchedThen v (Found word)) r (now (w .entry)) (now (w .exit)) ⌝ }
 {
     if machine::slot(w) == 1 {
@@ -109,6 +110,18 @@ fn jump_word(w: &mut [u32], word: u32, op: u32) -> u32
         let x = source(w, i.sreg1);
         jumps(w, i, x)
     }
+}
+
+// Words of operations 40 to 47: branches, never conditional, stop 13 in a slot.
+fn branch_word(w: &mut [u32], word: u32, op: u32) -> u32
+    requires { ⌜ MachineWords (now w) × (machineOf (now w) .position .pc < MOST-MEMORY) × (op ≡ opcodeOf (widthOf (psr (machineOf (now w)))) word) × (40 ≤ op) × (op ≤ 47) ⌝ }
+    ensures { λ r. ⌜ PerformsSeen (λ v. fetchedThen v (Found word)) r (now (w .entry)) (now (w .exit)) ⌝ }
+{
+    if machine::slot(w) == 1 {
+        return 13;
+    }
+    let i = isa::decode_jump(word, wide_words(w), op);
+    branches(w, i)
 }
 
 // Words of operations 48 to 57: scall to rcon.
@@ -151,8 +164,9 @@ fn upper_half(w: &mut [u32], word: u32, op: u32) -> u32
     ensures { λ r. ⌜ PerformsSeen (λ v. fetchedThen v (Found word)) r (now (w .entry)) (now (w .exit)) ⌝ }
 {
     match op {
-        0..=35 => move_word(w, word, op),
-        36..=47 => jump_word(w, word, op),
+        29..=35 => move_word(w, word, op),
+        36..=39 => jump_word(w, word, op),
+        40..=47 => branch_word(w, word, op),
         48..=57 => system_word(w, word, op),
         _ => effect::raise(w, 0x01),
     }

@@ -1,5 +1,5 @@
--- Values that operations move: low bits of an immediate, condition registers in a word, a stack that is empty or not. Assumes nothing.
-use mathlib.Core.Path.{_≡_, refl, ap}
+-- Values that operations move: low bits of an immediate, condition registers in a word, a stack that is empty or not, targets. Assumes nothing.
+use mathlib.Core.Path.{_≡_, refl, ap, _∙_}
 use mathlib.Core.Bool.{true, false}
 use mathlib.Core.List.{List, [], _∷_}
 use Prim.Native.Nat.{ℕ, zero, suc, _+_, _-_, _*_, _/_, _%_, _^_, _≤_, _<_}
@@ -9,12 +9,17 @@ use lib.IntN.{ℤ, pos, negsuc}
 use lib.ListN.{length, getD, drop}
 use lib.Pow.{pow-pos, pow-add, mod-pow-add, mod-mod-pow, low}
 use lib.Seq.{drop-cons}
+use lib.Signed.{mag}
+use mir.Syntax.{w32, w64}
+use mir.Val.{toZ, ofZ}
 use Rattle.word.specs.Word.{modZ, wordOf}
 use Rattle.machine.specs.Machine.{Machine}
 use Rattle.machine.specs.Words.{WORDS, CONDITIONS, machineOf}
 use Rattle.machine.proofs.Flat.{section-length}
-use Rattle.view.specs.View.{nestedBy}
-use Rattle.operation.specs.Execute.{packed}
+use Rattle.word.proofs.Handed.{handed}
+use Rattle.word.proofs.Integers.{back}
+use Rattle.view.specs.View.{View, nestedBy}
+use Rattle.operation.specs.Execute.{targetBy, packed}
 
 -- ---- low bits
 
@@ -64,3 +69,9 @@ module _ {A : Type 0} where
   unfolding nestedBy
   nested-some [] h = absurd (h refl)
   nested-some (e ∷ es) h = refl
+
+-- ---- targets
+
+-- a target by immediate, handed on as 64 bits
+pub target-told : (v : View) (n r : ℤ) → mag n < 2 ^ 31 → mag r < 2 ^ 63 → r ≡ targetBy v (toZ w32 (ofZ w32 n)) → toZ w64 (ofZ w64 r) ≡ targetBy v n
+target-told v n r f g e = back w64 r g ∙ handed (targetBy v) (record { sfits = f }) e

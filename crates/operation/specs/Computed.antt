@@ -2,8 +2,7 @@
 use Rattle.view.specs.Computed.{views}
 use Rattle.effect.specs.Computed.{effects}
 use Rattle.operation.specs.Execute.{executing}
-use Rattle.operation.specs.Jumps.{jumping}
 
 unfoldable pub operating : Unit {0}
-unfolding views effects executing jumping
+unfolding views effects executing
 operating = tt

@@ -1,5 +1,4 @@
--- What each operation does (Execute), jumps and branches by their number (Jumps), and what functions that carry them out promise (Promises).
+-- What each operation does (Execute), and what functions that carry them out promise (Promises).
 pub mod Execute
-pub mod Jumps
 pub mod Promises
 pub mod Computed

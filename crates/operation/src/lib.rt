@@ -11,6 +11,7 @@ mod status;
 pub use arithmetic::immediates;
 pub use arithmetic::registers;
 use isa::Instruction;
+pub use jump::branches;
 pub use jump::jumps;
 pub use memory::access;
 pub use mov::moves;

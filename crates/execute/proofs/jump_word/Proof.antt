@@ -1,18 +1,15 @@
 -- `execute::jump_word` meets its contract: by the slot and the condition. Assumes nothing.
 use mathlib.Core.Path.{_≡_, refl, sym, _∙_}
-use mathlib.Core.Bool.{false, _&&_}
+use mathlib.Core.Logic.{_≢_}
+use Prim.Native.Nat.{_≤_, _<_}
 use native.Mathlib.Omega.{arith}
-use lib.Dec.{eqb}
 use denote.Ref.{now}
 use borrow.Author.Needs.{needs}
-use borrow.Author.Tests.{ne-eqb}
-use Rattle.isa.specs.Operation.{operationOf, Properties, properties, unavailable, codeOf}
-use Rattle.machine.specs.Machine.{Machine, psr, userMode, widthOf}
+use Rattle.machine.specs.Machine.{Machine, widthOf}
 use Rattle.machine.specs.Words.{machineOf}
 use Rattle.machine.specs.declared.Position.{Position}
 use Rattle.effect.specs.Apply.{applying}
-use Rattle.isa.proofs.Groups.{usable-jump, transfers}
-use Rattle.execute.proofs.Tests.{Decoded, decoded, decoded-word, word-in-slot, word-skipped, word-performed}
+use Rattle.execute.proofs.Tests.{Decoded, decoded, decoded-word, jump-in-slot, jump-skipped, jump-performed}
 use Rattle.execute.proofs.jump_word.Statement.{statement}
 use Rattle.execute.proofs.jump_word.Tie as tie
 
@@ -22,21 +19,17 @@ entry c = c .before .before .before .before .before .before .before
 given : (c : tie.After-decode-jump) → Decoded (now (entry c .args .w)) (entry c .args .word) (entry c .args .op) (c .decode-jump .result)
 given c = decoded _ _ _ _ _ (c .before .wide-words .ensures) (c .decode-jump .ensures) (entry c .pre .2)
 
-stays : (c : tie.After-decode-jump) → properties (operationOf (entry c .args .op)) .transfer && eqb (machineOf (now (entry c .args .w)) .position .slot) 1 ≡ false
-stays c =
-    let left = c .before .before .before in
-    rw (transfers (entry c .args .op) (omega arith) (omega arith), ← (left .before .slot .ensures)) (ne-eqb _ 1 (left .if1 .left))
+group : (c : tie.After-decode-jump) → (36 ≤ entry c .args .op) × (entry c .args .op < 48)
+group c = (omega arith, omega arith)
 
-usable : (c : tie.After-decode-jump) → let m = machineOf (now (entry c .args .w)) in
-    codeOf (unavailable (properties (operationOf (entry c .args .op)) .availability) (widthOf (psr m)) (userMode (psr m))) ≡ 0
-usable c = usable-jump _ _ (entry c .args .op) (omega arith) (omega arith)
+free : (c : tie.After-decode-jump) → machineOf (now (entry c .args .w)) .position .slot ≢ 1
+free c = let left = c .before .before .before in rw (← (left .before .slot .ensures)) (left .if1 .left)
 
 returns : tie.Need-returns
 unfolding applying
 returns c p memory =
     let s = c .before .before .before .before in
-    sym (word-in-slot p _ memory (decoded-word (now (s .args .w)) _ _ (s .pre .2)) (usable-jump _ _ (s .args .op) (omega arith) (omega arith))
-    (rw (transfers (s .args .op) (omega arith) (omega arith), ← (c .before .slot .ensures), c .if1 .taken)))
+    sym (jump-in-slot p _ memory (decoded-word (now (s .args .w)) _ _ (s .pre .2)) (omega arith) (omega arith) (sym (c .before .slot .ensures) ∙ c .if1 .taken))
 
 decode-jump-requires : tie.Need-decode-jump-requires
 unfolding widthOf
@@ -52,14 +45,14 @@ jumps-requires : tie.Need-jumps-requires
 jumps-requires c κs =
     let d = given (c .before .before .before .before .before .before) in
     let e = d .number in
-    (search needs, search needs, d .range .creg, omega arith, omega arith)
+    (search needs, search needs, omega arith, omega arith)
 
 returns-2 : tie.Need-returns-2
 returns-2 c p memory =
     let tested = c .before .before .before .before .before in
     let d = tested .before .before in
     c .before .before .next .ensures memory
-    ∙ sym (word-skipped p _ memory (given d) (usable d) (stays d) (sym (tested .condition-false .ensures p memory) ∙ c .before .before .before .before .if2 .taken))
+    ∙ sym (jump-skipped p _ memory (given d) (group d .0) (group d .1) (free d) (sym (tested .condition-false .ensures p memory) ∙ c .before .before .before .before .if2 .taken))
 
 returns-3 : tie.Need-returns-3
 returns-3 c p memory =
@@ -67,7 +60,7 @@ returns-3 c p memory =
     let left = read .before .before in
     let d = left .before .before .before in
     c .before .before .jumps .ensures _ p memory
-    ∙ sym (word-performed p _ memory (given d) (usable d) (stays d) (sym (left .before .condition-false .ensures p memory) ∙ left .if2 .left)
+    ∙ sym (jump-performed p _ memory (given d) (group d .0) (group d .1) (free d) (sym (left .before .condition-false .ensures p memory) ∙ left .if2 .left)
     _ _ (read .source .ensures p memory) refl)
 
 pub jump-word-spec : {M : Type 1} → statement M

@@ -1,101 +1,56 @@
--- `operation::jump::jumped` meets its contract: test by test. Assumes nothing.
+-- `operation::jump::jumped` meets its contract: by the code of its exception, and the link. Assumes nothing.
 use mathlib.Core.Path.{_≡_}
 use mathlib.Core.List.{List}
 use Prim.Native.Nat.{ℕ}
-use native.Mathlib.Omega.{arith}
+use lib.Dec.{eqb}
+use mir.Facts.{toZ-ofZ}
 use denote.Ref.{now}
 use borrow.Author.Needs.{needs}
+use borrow.Author.Tests.{ne-eqb}
 use Rattle.word.specs.Choice.{if_then_else_}
-use Rattle.word.specs.Word.{wordOf, isAddress}
-use Rattle.isa.specs.Operation.{widthBy}
-use Rattle.machine.specs.Machine.{widthOf, Memory}
-use Rattle.view.specs.View.{view, viewOf}
+use Rattle.word.specs.Word.{wordOf}
+use Rattle.machine.specs.Machine.{Memory}
+use Rattle.view.specs.View.{viewOf}
 use Rattle.effect.specs.Effect.{Effect, Raised}
 use Rattle.operation.specs.Execute.{jumped}
 use Rattle.word.proofs.Handed.{handed}
-use Rattle.view.proofs.Bytes.{bytes-positive, aligned-fits, aligned-at}
 use Rattle.operation.proofs.jump.jumped.Statement.{statement}
 use Rattle.operation.proofs.jump.jumped.Tie as tie
 
--- the target's low word, and whether it has 32 bits
-word-is : (c : tie.After-low-word) → c .low-word .result ≡ wordOf 32 (c .before .before .before .before .before .args .target)
-word-is c = handed (wordOf 32) (c .before .before .before .before .before .fits .target) (c .low-word .ensures)
+-- the target's low word, and the code of the target
+word-is : (c : tie.After-low-word) → c .low-word .result ≡ wordOf 32 (c .before .before .before .before .args .target)
+word-is c = handed (wordOf 32) (c .before .before .before .before .fits .target) (c .low-word .ensures)
 
-address-is : (c : tie.After-is-address) → c .is-address .result ≡ isAddress (c .before .before .before .before .before .before .args .target)
-address-is c = handed isAddress (c .before .before .before .before .before .before .fits .target) (c .is-address .ensures)
-
--- past the first two tests only protection is asked
-aligned : (c : tie.After-closed) (p : List ℕ) (memory : Memory) (taken : ℕ → Effect)
-    → let s = c .before .before .before .before .before .before .before .before .before .before .before .before in
-    jumped (viewOf p (now (s .args .w)) memory) (s .args .target) taken ≡ if c .closed .result then Raised 0x09 else taken (c .before .before .before .before .before .before .before .low-word .result)
-unfolding widthOf if_then_else_ view jumped
-aligned c p memory taken =
-    rw (
-      ← (address-is (c .before .before .before .before .before .before)),
-      ← (word-is (c .before .before .before .before .before .before .before)),
-      ← (c .before .before .before .before .before .before .before .before .before .wide-words .ensures),
-      ← (c .before .before .before .before .misaligned .ensures),
-      ← (c .before .before .before .before .before .before .before .before .word-bytes .ensures),
-      ← (c .before .user-mode .ensures),
-      ← (c .closed .ensures),
-      c .before .before .before .before .before .if1 .left,
-      c .before .before .before .if2 .left,
-    )
-
-closed-requires : tie.Need-closed-requires
-closed-requires c κs =
-    let tested = c .before .before .before in
-    let bytes = tested .before .before .before .before .word-bytes in
-    let wide = widthBy (tested .before .before .before .before .before .wide-words .result) in
-    let even = aligned-at _ _ _ (tested .misaligned .ensures) (c .before .before .if2 .left) in
-    (search needs, rw (bytes .ensures) (bytes-positive wide), aligned-fits wide _ _ (bytes .ensures) (omega arith) (rw (bytes .ensures) even))
+code-is : (c : tie.After-target-code) (p : List ℕ) (memory : Memory) (taken : ℕ → Effect)
+    → let s = c .before .before .before in
+    jumped (viewOf p (now (s .args .w)) memory) (s .args .target) taken
+    ≡ if eqb (c .target-code .result) 0 then taken (wordOf 32 (s .args .target)) else Raised (c .target-code .result)
+code-is c p memory taken = rw (toZ-ofZ (c .before .before .before .fits .target)) at (c .target-code .ensures p memory taken)
 
 returns : tie.Need-returns
-unfolding if_then_else_ jumped
-returns c p memory = rw (← (address-is (c .before .before .before .before .before)), c .before .before .before .before .if1 .taken) (c .before .before .raise .ensures memory)
+unfolding if_then_else_
+returns c p memory =
+    rw (code-is (c .before .before .before .before .before .before) p memory _, ne-eqb _ 0 (c .before .before .before .before .if1 .taken)) (c .before .before .raise .ensures memory)
 
 returns-2 : tie.Need-returns-2
-unfolding widthOf if_then_else_ view jumped
+unfolding if_then_else_
 returns-2 c p memory =
-    rw (
-      ← (address-is (c .before .before .before .before .before .before .before)),
-      ← (word-is (c .before .before .before .before .before .before .before .before)),
-      ← (c .before .before .before .before .before .before .before .before .before .before .wide-words .ensures),
-      ← (c .before .before .before .before .before .misaligned .ensures),
-      c .before .before .before .before .before .before .if1 .left,
-      c .before .before .before .before .if2 .taken,
-    )
-    (c .before .before .raise2 .ensures memory)
+    rw (code-is (c .before .before .before .before .before .before .before) p memory _, c .before .before .before .before .before .if1 .left, c .before .before .before .before .if2 .taken, ← (word-is (c .before .before .before .before .before .before)))
+    (c .before .before .jump-link .ensures memory)
 
 returns-3 : tie.Need-returns-3
 unfolding if_then_else_
-returns-3 c p memory = rw (aligned (c .before .before .before .before .before) p memory _, c .before .before .before .before .if3 .taken) (c .before .before .raise3 .ensures memory)
-
-returns-4 : tie.Need-returns-4
-unfolding if_then_else_
-returns-4 c p memory =
-    rw (aligned (c .before .before .before .before .before .before) p memory _, c .before .before .before .before .before .if3 .left, c .before .before .before .before .if4 .taken)
-    (c .before .before .jump-link .ensures memory)
-
-returns-5 : tie.Need-returns-5
-unfolding if_then_else_
-returns-5 c p memory =
-    rw (aligned (c .before .before .before .before .before .before) p memory _, c .before .before .before .before .before .if3 .left, c .before .before .before .before .if4 .left)
+returns-3 c p memory =
+    rw (code-is (c .before .before .before .before .before .before .before) p memory _, c .before .before .before .before .before .if1 .left, c .before .before .before .before .if2 .left, ← (word-is (c .before .before .before .before .before .before)))
     (c .before .before .jump .ensures memory)
 
 pub jumped-spec : {M : Type 1} → statement M
 jumped-spec =
     tie.close
     (tie.spec
-    (λ c κs. search needs) (λ c κs. search needs) (λ c κs. search needs) (λ c κs. search needs) (λ c κs. search needs) (λ c κs. search needs) (λ c κs. search needs) (λ c κs. search needs)
-    closed-requires
-    (λ c κs. search needs) (λ c κs. search needs) (λ c κs. search needs) (λ c. search needs)
+    (λ c κs. search needs) (λ c κs. search needs) (λ c κs. search needs) (λ c κs. search needs) (λ c κs. search needs) (λ c. search needs)
     returns
     (λ c. search needs)
     returns-2
     (λ c. search needs)
-    returns-3
-    (λ c. search needs)
-    returns-4
-    (λ c. search needs)
-    returns-5)
+    returns-3)
