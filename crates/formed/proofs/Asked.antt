@@ -1,6 +1,7 @@
 -- Questions 3 to 5 as the code asks them, in their order. Assumes nothing.
 use mathlib.Core.Path.{_≡_, refl, sym, ap, _∙_}
-use mathlib.Core.Bool.{Bool, true, false, not, _&&_, and-true, and-assoc}
+use mathlib.Core.Logic.{_≢_}
+use mathlib.Core.Bool.{Bool, true, false, not, _&&_, and-false, and-true, and-assoc}
 use mathlib.Core.List.{List, [], _∷_}
 use Prim.Native.Nat.{ℕ, zero, suc, _+_, _*_, _%_, _^_, _<_}
 use native.Mathlib.Omega.{arith}
@@ -8,7 +9,7 @@ use native.Mathlib.Nat.{mod-one}
 use lib.Dec.{ltb, leb, eqb, lit<}
 use lib.ListN.{length, getD, take, drop, length-map}
 use lib.Seq.{getD-drop}
-use borrow.Author.Tests.{lt-ltb}
+use borrow.Author.Tests.{lt-ltb, eq-eqb, ne-eqb}
 use Rattle.word.specs.Choice.{if_then_else_}
 use Rattle.word.specs.Flags.{onesOf, distinctBelow}
 use Rattle.codec.proofs.Laws.{Below}
@@ -117,12 +118,20 @@ module _ (m : Machine) where
   unfolding question5 stackTests all
   sources-refused e = rw (different-entries (m .stack), e)
 
-  pub sources-counted : allPass Source (m .stack) ≡ true
-      → eqb (onesOf 12 (serviceFlags (m .stack))) (length (m .stack)) && eqb (controlAt m INT-SERV) (serviceFlags (m .stack))
+  pub service-refused : controlAt m INT-SERV ≢ serviceFlags (m .stack) → false ≡ question5 m
+  unfolding question5 stackTests all
+  service-refused n = rw (ne-eqb _ _ n) (sym (and-false (distinctBelow 12 (sourcesOf (m .stack)))))
+
+  -- the ones of INT_SERV itself
+  pub service-counted : allPass Source (m .stack) ≡ true → controlAt m INT-SERV ≡ serviceFlags (m .stack)
+      → eqb (onesOf 12 (controlAt m INT-SERV)) (length (m .stack))
       && eqb (controlAt m RETI-ADDR) (shownTop (m .stack) .address) && eqb (controlAt m RETI-PSR) (shownTop (m .stack) .psr)
       && eqb (controlAt m RETI-CR0) (shownTop (m .stack) .c0) ≡ question5 m
   unfolding question5 stackTests all
-  sources-counted e = simp (different-entries (m .stack), e, and-assoc, and-true)
+  service-counted s e =
+      let served : eqb (controlAt m INT-SERV) (serviceFlags (m .stack)) ≡ true = eq-eqb _ _ e in
+      let different : distinctBelow 12 (sourcesOf (m .stack)) ≡ eqb (onesOf 12 (controlAt m INT-SERV)) (length (m .stack)) = different-entries (m .stack) ∙ rw (s, e) in
+      simp (different, served, and-assoc, and-true)
 
 -- ---- the number of the first no
 

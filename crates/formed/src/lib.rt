@@ -155,20 +155,23 @@ fn service_flags(w: &[u32]) -> u32
     flags
 }
 
-// Whether the stack's sources are below 12, all different and those of INT_SERV, and RETI_ is its top.
+// Whether the stack's sources are below 12, those of INT_SERV and all different, and RETI_ is its top: "as many entries as INT_SERV has ones".
 fn stack_fits(w: &[u32]) -> bool
     requires { ⌜ MachineWords (now w) × (length (machineOf (now w) .stack) ≤ SOURCES) ⌝ }
     ensures { λ r. ⌜ r ≡ question5 (machineOf (now (w .entry))) ⌝ }
 {
     if entries_pass(Test::Source, w) {
-        let flags = service_flags(w);
-        let different = word::ones(flags) == machine::depth(w);
-        let served = machine::control(w, machine::INT_SERV) == flags;
-        let top = machine::top(w);
-        let address = machine::control(w, machine::RETI_ADDR) == top.address;
-        let psr = machine::control(w, machine::RETI_PSR) == top.psr;
-        let c0 = machine::control(w, machine::RETI_CR0) == top.c0;
-        different & served & address & psr & c0
+        let serv = machine::control(w, machine::INT_SERV);
+        if serv == service_flags(w) {
+            let different = word::ones(serv) == machine::depth(w);
+            let top = machine::top(w);
+            let address = machine::control(w, machine::RETI_ADDR) == top.address;
+            let psr = machine::control(w, machine::RETI_PSR) == top.psr;
+            let c0 = machine::control(w, machine::RETI_CR0) == top.c0;
+            different & address & psr & c0
+        } else {
+            false
+        }
     } else {
         false
     }
