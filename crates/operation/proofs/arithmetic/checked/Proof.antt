@@ -19,14 +19,10 @@ unfolding checked if_then_else_
 within d s e = rw e
 
 returns : tie.Need-returns
-returns c memory =
-    let a = c .before .before .before .before .before .before .args in
-    rw (over (a .d) (a .s) (c .before .before .before .before .if1 .taken)) (c .before .before .raise .ensures memory)
+returns c memory = rw (over (c .before .before .before .before .before .before .args .d) (c .before .before .before .before .before .before .args .s) (c .before .before .before .before .if1 .taken)) (c .before .before .raise .ensures memory)
 
 returns-2 : tie.Need-returns-2
-returns-2 c memory =
-    let a = c .before .before .before .before .before .before .args in
-    rw (within (a .d) (a .s) (c .before .before .before .before .if1 .left)) (c .before .before .result-flags .ensures memory)
+returns-2 c memory = rw (within (c .before .before .before .before .before .before .args .d) (c .before .before .before .before .before .before .args .s) (c .before .before .before .before .if1 .left)) (c .before .before .result-flags .ensures memory)
 
 pub checked-spec : {M : Type 1} → statement M
 checked-spec = tie.close (tie.spec (λ c κs. search needs) (λ c κs. search needs) (λ c. search needs) returns (λ c. search needs) returns-2)
