@@ -21,7 +21,7 @@ static const char *const reasons[] = {
     [8] = "a buffer too short for an image",
 };
 
-void complain(const char *name, const char *text, ...)
+bool complain(const char *name, const char *text, ...)
 {
     va_list values;
 
@@ -34,25 +34,27 @@ void complain(const char *name, const char *text, ...)
     vfprintf(stderr, text, values);
     va_end(values);
     fputc('\n', stderr);
+    fflush(stderr);
+    return false;
 }
 
-void complain_of_errno(const char *name)
+bool complain_of_errno(const char *name)
 {
-    complain(name, "%s", strerror(errno));
+    return complain(name, "%s", strerror(errno));
 }
 
-void complain_of_refusal(const char *name, uint32_t refusal)
+bool complain_of_refusal(const char *name, uint32_t refusal)
 {
     size_t known = sizeof reasons / sizeof reasons[0];
 
-    complain(name, "refused with %" PRIu32 ": %s", refusal,
-             refusal > 0 && refusal < known ? reasons[refusal] : "no reason that is known here");
+    return complain(name, "refused with %" PRIu32 ": %s", refusal,
+                    refusal > 0 && refusal < known ? reasons[refusal]
+                                                   : "no reason that is known here");
 }
 
 bool end_output(void)
 {
     if (fflush(stdout) == 0 && !ferror(stdout))
         return true;
-    complain_of_errno("standard output");
-    return false;
+    return complain("standard output", "%s; nothing is changed", strerror(errno));
 }
