@@ -81,7 +81,7 @@ extern struct setting {
     gid_t group, more;  /* 0: that of the user; a further group */
     long file_limit;    /* longest file plus 1, or 0 */
     bool quick;         /* without a search for leaks */
-    const char *input;  /* none */
+    bool no_input;      /* standard input is closed */
 } setting;
 
 /* What came of a run. */

@@ -75,6 +75,11 @@ static void test_outputs(void)
             "standard output: No space left on device; nothing is changed", "--help");
     setting.output = CLOSED;
     REFUSED("run to no output", "standard output: Bad file descriptor; nothing is changed", RUN_M);
+    /* No file of the program may get the number of an output. */
+    setting.output = CLOSED;
+    setting.no_input = true;
+    REFUSED("run to no output, with no input",
+            "standard output: Bad file descriptor; nothing is changed", RUN_M);
     setting.output = CLOSED;
     REFUSED("cells to no output", "standard output: Bad file descriptor; nothing is changed",
             "cells", "files/m");
@@ -439,6 +444,14 @@ static void disturbed(const char *name, void (*change)(void), const char *names)
         same_bytes(text("%s: left alone", name), "kept/other", "files/m");
 }
 
+/* Another machine in the same folder is made and run meanwhile. */
+static void use_other(void)
+{
+    fault_setting.kind = NONE;
+    wait_for(start((char *[]){"service", "new", "files/n", NULL}));
+    wait_for(start((char *[]){"service", "run", "kept/program", "files/n", "3", NULL}));
+}
+
 static void make_machine(void)
 {
     copy("kept/new", "files/n");
@@ -488,6 +501,16 @@ static void test_others(void)
     same_text("a file that comes by the name of a new one",
               "service: files/n: is there already; nothing is changed\n", outcome.err);
     same_bytes("that file is left alone", "kept/new", "files/n");
+    /* The temporary file of a run under way is no left over. */
+    before_and_after();
+    fault_setting.kind = HOOK;
+    fault_setting.call = "write";
+    fault_setting.at = 2;
+    fault_setting.hook = use_other;
+    ACCEPTED("another machine in the folder meanwhile", "3 0 00000000\n", RUN_M);
+    same_text("both machines", "m n", names_in("files"));
+    same_bytes("this one", "kept/new", "files/m");
+    same_number("the other one", 5, word_at("files/n", CELLS + 1));
     /* Files with names almost like a temporary one are no left overs. */
     before_and_after();
     write_text("files/.service-0123456789abcde", "");
