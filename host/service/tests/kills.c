@@ -10,6 +10,7 @@
 #include <stdio.h>
 #include <stdlib.h>
 #include <string.h>
+#include <sys/prctl.h>
 #include <sys/stat.h>
 #include <time.h>
 #include <unistd.h>
@@ -123,11 +124,12 @@ static double now(void)
     return (double)time.tv_sec + 1e-9 * (double)time.tv_nsec;
 }
 
-/* Waits some seconds, less than one; a sleep would be too coarse. */
-static void wait_seconds(double seconds)
+/* Waits a part of this time, each part as likely. */
+static void wait_within(double seconds)
 {
-    for (double end = now() + seconds; now() < end;)
-        continue;
+    struct timespec pause = {0, (long)(1e9 * seconds * random_number() / 0x80000000u) % 1000000000};
+
+    nanosleep(&pause, NULL);
 }
 
 static pid_t start_run(void)
@@ -162,13 +164,15 @@ void test_kills(void)
     section("runs killed at random moments, each followed by a run");
     prepare();
     most = time_of_run();
+    /* Sleeps end as near to their time as the system can. */
+    prctl(PR_SET_TIMERSLACK, 1);
     check("the runs before", runs_further(0) == 0);
     for (int i = 0; i < KILLS; i++) {
         pid_t child;
         int further;
 
         child = start_run();
-        wait_seconds(most * random_number() / 0x80000000u);
+        wait_within(most);
         kill(child, SIGKILL);
         /* Three of four are to be hit, however busy the computer is. */
         if (wait_for(child) == KILLED) {
@@ -211,7 +215,7 @@ void test_pairs(void)
         int one_status, other_status, done;
 
         if (i % 2 == 0)
-            wait_seconds(most * random_number() / 0x80000000u);
+            wait_within(most);
         second = start_run();
         one_status = wait_for(first);
         other_status = wait_for(second);
