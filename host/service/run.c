@@ -176,7 +176,7 @@ static bool load_and_run(struct run *run)
     struct progress progress;
     bool done;
 
-    if (!load_call(&run->words, run->save.old, &run->call))
+    if (!load_call(&run->words, run->save.old.file, &run->call))
         return false;
     watch_signals();
     begin_progress(&progress);

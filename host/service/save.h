@@ -3,20 +3,16 @@
 #ifndef SAVE_H
 #define SAVE_H
 
-#include "files.h"
+#include "lock.h"
 #include "report.h"
 #include "temporary.h"
-
-/* Which files a save may replace: one that is there; none; either. */
-enum target { EXISTING, ABSENT, ANY };
 
 /* A save under way. */
 struct save {
     const char *path; /* as typed */
     struct place place;
-    int old;               /* the file that is replaced, locked, or -1 */
-    struct stat old_state; /* as it was when it was locked */
-    int new;               /* the file that replaces it, locked */
+    struct locked old; /* the file that is replaced, if there is one */
+    int new;           /* the file that replaces it, locked */
     char temporary[TEMPORARY_LENGTH + 1]; /* the name of that one until then, or empty */
 };
 

@@ -1,7 +1,7 @@
 /* Temporary files. */
 #include "temporary.h"
 
-#include "files.h"
+#include "lock.h"
 
 #include <dirent.h>
 #include <errno.h>
@@ -9,7 +9,6 @@
 #include <inttypes.h>
 #include <stdio.h>
 #include <string.h>
-#include <sys/file.h>
 #include <time.h>
 #include <unistd.h>
 
@@ -17,11 +16,6 @@
 #define FRONT ".service-"
 enum { FRONT_LENGTH = sizeof FRONT - 1 };
 _Static_assert(FRONT_LENGTH + 16 == TEMPORARY_LENGTH, "the length of a temporary name");
-
-bool lock(int file)
-{
-    return flock(file, LOCK_EX | LOCK_NB) == 0;
-}
 
 /* Makes a name from the time and the process. */
 static void make_name(char name[TEMPORARY_LENGTH + 1])

@@ -3,13 +3,9 @@
 #ifndef TEMPORARY_H
 #define TEMPORARY_H
 
-#include <stdbool.h>
 #include <sys/types.h>
 
 enum { TEMPORARY_LENGTH = 25 };
-
-/* Locks an open file for this process, or fails at once. */
-bool lock(int file);
 
 /* Makes a temporary file in a folder and locks it; gives it open, or -1 and the reason. */
 int make_temporary(int folder, mode_t rights, char name[TEMPORARY_LENGTH + 1]);
