@@ -7,6 +7,7 @@
 #include <stdarg.h>
 #include <stddef.h>
 #include <stdio.h>
+#include <stdlib.h>
 #include <string.h>
 
 /* The library's refusals in words. */
@@ -21,20 +22,29 @@ static const char *const reasons[] = {
     [8] = "a buffer too short for an image",
 };
 
+/* Prints a text; names in it may hold line ends, and a complaint stays one line. */
+static void put_clean(const char *text)
+{
+    for (; *text != '\0'; text++)
+        fputc(iscntrl((unsigned char)*text) ? '?' : *text, stderr);
+}
+
 bool complain(const char *name, const char *text, ...)
 {
     va_list values;
+    char *rest;
 
-    fputs("service: ", stderr);
-    /* A name may hold line ends; the complaint stays one line. */
-    for (; *name != '\0'; name++)
-        fputc(iscntrl((unsigned char)*name) ? '?' : *name, stderr);
-    fputs(": ", stderr);
     va_start(values, text);
-    vfprintf(stderr, text, values);
+    if (vasprintf(&rest, text, values) < 0)
+        rest = NULL;
     va_end(values);
+    fputs("service: ", stderr);
+    put_clean(name);
+    fputs(": ", stderr);
+    put_clean(rest == NULL ? text : rest);
     fputc('\n', stderr);
     fflush(stderr);
+    free(rest);
     return false;
 }
 

@@ -102,6 +102,12 @@ static void test_full(void)
             text("files/n: cannot save in %s/files: File too large; nothing is changed",
                  here()),
             "new", "files/n");
+    mkdir("files/a\nb", 0777);
+    setting.file_limit = 1;
+    REFUSED("a line end in a folder's name",
+            text("files/a?b/n: cannot save in %s/files/a?b: File too large; nothing is changed",
+                 here()),
+            "new", "files/a\nb/n");
     before_and_after();
     if (mount("service-test", "files", "tmpfs", 0, "size=8k,mode=777") != 0) {
         skip("a full disk and a read-only disk: no file system can be mounted here");
