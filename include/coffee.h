@@ -19,6 +19,10 @@
 extern "C" {
 #endif
 
+/* The version of this header and of the library that goes with it. The first number is that of the shared library's name: it changes when a
+ * program has to be compiled anew. */
+#define COFFEE_VERSION "1.0.0"
+
 /* Most bytes of program memory, and most cells of data memory. */
 #define COFFEE_MEMORY_MAX 65536
 

@@ -1,17 +1,25 @@
-/* The program's commands; each takes the words after its name. */
+/* The program's commands. */
 #ifndef COMMANDS_H
 #define COMMANDS_H
 
 #include "report.h"
 
-/* run PROGRAM IMAGE DATA STEPS [REQUESTS]; requests may be NULL. */
-enum status run_command(const char *program, const char *image, const char *data,
-                        const char *steps, const char *requests);
+#include <stddef.h>
 
-/* new IMAGE */
-enum status new_command(const char *image);
+enum { MOST_WORDS = 4 };
 
-/* show IMAGE */
-enum status show_command(const char *image);
+/* The command line after the command's name: its words, NULL past the last one, and options. */
+struct arguments {
+    const char *words[MOST_WORDS];
+    size_t count;
+    bool replace, strict, words_too;
+};
+
+enum status run_command(const struct arguments *arguments);
+enum status new_command(const struct arguments *arguments);
+enum status import_command(const struct arguments *arguments);
+enum status export_command(const struct arguments *arguments);
+enum status show_command(const struct arguments *arguments);
+enum status cells_command(const struct arguments *arguments);
 
 #endif

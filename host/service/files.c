@@ -1,30 +1,31 @@
-/* Files: reading one, and the single steps of replacing one so that a cut loses nothing. */
-#define _XOPEN_SOURCE 700
+/* Files of the command line: reading one, and where one stands. */
 #include "files.h"
+
+#include "report.h"
 
 #include <errno.h>
 #include <fcntl.h>
-#include <inttypes.h>
-#include <stdio.h>
 #include <stdlib.h>
 #include <string.h>
-#include <sys/stat.h>
-#include <time.h>
 #include <unistd.h>
 
-/* Closes a file and keeps the reason of the failure before it. */
-static void close_failed(int file)
+enum { MOST_LINKS = 40 };
+
+void close_failed(int file)
 {
     int reason = errno;
 
-    close(file);
+    if (file >= 0)
+        close(file);
     errno = reason;
 }
+
+/* ---- reading */
 
 /* Makes room for more bytes, at most `most`. */
 static bool grow(struct bytes *bytes, size_t *room, size_t most)
 {
-    size_t more = *room < 2048 ? 4096 : 2 * *room;
+    size_t more = *room < 32768 ? 65536 : 2 * *room;
     uint8_t *at;
 
     if (more > most)
@@ -37,8 +38,8 @@ static bool grow(struct bytes *bytes, size_t *room, size_t most)
     return true;
 }
 
-/* Reads an open file to its end, or until there are `most` bytes. */
-static bool read_open(int file, size_t most, struct bytes *bytes)
+/* Reads to the file's end, or until there are `most` bytes. */
+static bool read_on(int file, size_t most, struct bytes *bytes)
 {
     size_t room = 0;
 
@@ -58,172 +59,141 @@ static bool read_open(int file, size_t most, struct bytes *bytes)
     return true;
 }
 
-bool read_file(const char *path, size_t most, struct bytes *bytes)
+bool read_open(int file, const char *path, size_t most, struct bytes *bytes)
 {
-    int file = open(path, O_RDONLY | O_CLOEXEC);
-
-    bytes->at = NULL;
-    bytes->len = 0;
-    if (file < 0)
-        return false;
-    if (!read_open(file, most, bytes)) {
-        close_failed(file);
-        free(bytes->at);
-        bytes->at = NULL;
-        return false;
-    }
-    close(file);
-    return true;
+    *bytes = (struct bytes){NULL, 0};
+    if (read_on(file, most, bytes))
+        return true;
+    complain_of_errno(path);
+    free(bytes->at);
+    *bytes = (struct bytes){NULL, 0};
+    return false;
 }
 
-int file_exists(const char *path)
+bool plain(const char *path, const struct stat *state)
+{
+    if (S_ISREG(state->st_mode))
+        return true;
+    return complain(path, S_ISDIR(state->st_mode) ? "a folder, not a file" : "not a plain file");
+}
+
+bool read_file(const char *path, size_t most, struct bytes *bytes)
 {
     struct stat state;
+    bool done;
+    int file;
 
-    if (lstat(path, &state) == 0)
+    *bytes = (struct bytes){NULL, 0};
+    if (stat(path, &state) != 0)
+        return complain_of_errno(path);
+    if (!plain(path, &state))
+        return false;
+    /* Should a pipe have come in its place, this does not wait for it. */
+    file = open(path, O_RDONLY | O_NONBLOCK | O_CLOEXEC);
+    if (file < 0)
+        return complain_of_errno(path);
+    done = read_open(file, path, most, bytes);
+    close(file);
+    return done;
+}
+
+/* ---- where a file stands */
+
+/* Opens the folder of a path, which is relative to `base`, and takes its last part as name. */
+static bool open_folder(int base, char *path, struct place *place)
+{
+    char *slash = strrchr(path, '/');
+    const char *name = slash == NULL ? path : slash + 1;
+    const char *folder = slash == NULL ? "." : slash == path ? "/" : path;
+
+    if (strlen(name) > NAME_MAX) {
+        errno = ENAMETOOLONG;
+        return false;
+    }
+    strcpy(place->name, *name == '\0' ? "." : name);
+    if (slash != NULL && slash != path)
+        *slash = '\0';
+    place->folder = openat(base, folder, O_RDONLY | O_DIRECTORY | O_CLOEXEC);
+    return place->folder >= 0;
+}
+
+/* Replaces the path by what the link at a place names; 0 when there is no link, or -1. */
+static int follow(const struct place *place, char path[PATH_MAX])
+{
+    ssize_t len = readlinkat(place->folder, place->name, path, PATH_MAX);
+
+    if (len < 0)
+        return errno == EINVAL || errno == ENOENT ? 0 : -1;
+    if (len == PATH_MAX) {
+        errno = ENAMETOOLONG;
+        return -1;
+    }
+    path[len] = '\0';
+    return 1;
+}
+
+/* Goes from folder to folder as long as there are links. */
+static bool walk(char path[PATH_MAX], struct place *place)
+{
+    int base = AT_FDCWD;
+
+    for (int links = 0; links <= MOST_LINKS; links++) {
+        bool opened = open_folder(base, path, place);
+        int followed;
+
+        close_failed(base);
+        if (!opened)
+            return false;
+        followed = follow(place, path);
+        if (followed == 0)
+            return true;
+        base = place->folder;
+        if (followed < 0) {
+            close_failed(base);
+            return false;
+        }
+    }
+    close(base);
+    errno = ELOOP;
+    return false;
+}
+
+bool find_place(const char *path, struct place *place)
+{
+    char text[PATH_MAX];
+
+    place->folder = -1;
+    if (strlen(path) >= sizeof text) {
+        errno = ENAMETOOLONG;
+        return complain_of_errno(path);
+    }
+    strcpy(text, path);
+    if (walk(text, place))
+        return true;
+    place->folder = -1;
+    return complain_of_errno(path);
+}
+
+int state_at(const struct place *place, struct stat *state)
+{
+    if (fstatat(place->folder, place->name, state, AT_SYMLINK_NOFOLLOW) == 0)
         return 1;
     return errno == ENOENT ? 0 : -1;
 }
 
-bool same_file(const char *one, const char *other)
+bool same_file(const struct stat *one, const struct stat *other)
 {
-    struct stat first, second;
-
-    return stat(one, &first) == 0 && stat(other, &second) == 0 && first.st_dev == second.st_dev &&
-           first.st_ino == second.st_ino;
+    return one->st_dev == other->st_dev && one->st_ino == other->st_ino;
 }
 
-const char *irreplaceable(const char *path)
+bool apart(const char *path, const char *other)
 {
-    struct stat state;
+    struct stat one, two;
 
-    if (stat(path, &state) != 0)
-        return errno == ENOENT ? NULL : strerror(errno);
-    if (!S_ISREG(state.st_mode))
-        return "not a plain file";
-    return access(path, W_OK) == 0 ? NULL : strerror(errno);
-}
-
-/* Writes all bytes to an open file. */
-static bool write_all(int file, const uint8_t *bytes, size_t len)
-{
-    while (len > 0) {
-        ssize_t put = write(file, bytes, len);
-
-        if (put >= 0) {
-            bytes += put;
-            len -= (size_t)put;
-        } else if (errno != EINTR) {
-            return false;
-        }
-    }
-    return true;
-}
-
-/* Gives an open file the owner and the rights of another. Who may not give a file away keeps it. */
-static bool copy_rights(int file, const struct stat *like)
-{
-    if (fchown(file, like->st_uid, like->st_gid) != 0 && errno != EPERM)
-        return false;
-    return fchmod(file, like->st_mode & 0777) == 0;
-}
-
-/* Fills a new file and sees it to the disk. */
-static bool fill(int file, const uint8_t *bytes, size_t len, const struct stat *like)
-{
-    return (like == NULL || copy_rights(file, like)) && write_all(file, bytes, len) &&
-           fsync(file) == 0;
-}
-
-bool write_new(const char *path, const uint8_t *bytes, size_t len, const char *like)
-{
-    struct stat state;
-    bool known = stat(like, &state) == 0;
-    int file = open(path, O_WRONLY | O_CREAT | O_EXCL | O_CLOEXEC, known ? 0600 : 0666);
-    int reason;
-
-    if (file < 0)
-        return false;
-    if (fill(file, bytes, len, known ? &state : NULL)) {
-        if (close(file) == 0 && sync_folder(path))
-            return true;
-    } else {
-        close_failed(file);
-    }
-    reason = errno;
-    unlink(path);
-    errno = reason;
-    return false;
-}
-
-/* The folder of a file, on the heap. */
-static char *folder_of(const char *path)
-{
-    size_t front = (size_t)(base_name(path) - path);
-    char *folder = joined(front == 0 ? "." : path, "");
-
-    if (folder != NULL && front > 0)
-        folder[front] = '\0';
-    return folder;
-}
-
-/* Sees a folder to the disk. Some file systems have no such call, and say EINVAL. */
-static bool sync_named(const char *folder)
-{
-    int file = open(folder, O_RDONLY | O_DIRECTORY | O_CLOEXEC);
-
-    if (file < 0)
-        return false;
-    if (fsync(file) != 0 && errno != EINVAL) {
-        close_failed(file);
-        return false;
-    }
-    close(file);
-    return true;
-}
-
-bool sync_folder(const char *path)
-{
-    char *folder = folder_of(path);
-    bool done = folder != NULL && sync_named(folder);
-    int reason = errno;
-
-    free(folder);
-    errno = reason;
-    return done;
-}
-
-bool remove_file(const char *path)
-{
-    if (unlink(path) != 0 && errno != ENOENT)
-        return false;
-    return sync_folder(path);
-}
-
-const char *base_name(const char *path)
-{
-    const char *slash = strrchr(path, '/');
-
-    return slash == NULL ? path : slash + 1;
-}
-
-char *joined(const char *front, const char *back)
-{
-    size_t len = strlen(front);
-    char *text = malloc(len + strlen(back) + 1);
-
-    if (text != NULL) {
-        strcpy(text, front);
-        strcpy(text + len, back);
-    }
-    return text;
-}
-
-void make_tag(char tag[TAG_LENGTH + 1])
-{
-    struct timespec now;
-
-    clock_gettime(CLOCK_REALTIME, &now);
-    snprintf(tag, TAG_LENGTH + 1, ".%08" PRIx32 "%08" PRIx32, (uint32_t)now.tv_sec,
-             (uint32_t)now.tv_nsec);
+    if (other == NULL)
+        return true;
+    if (strcmp(path, other) != 0 &&
+        !(stat(path, &one) == 0 && stat(other, &two) == 0 && same_file(&one, &two)))
+        return true;
+    return complain(other, "given twice in this command");
 }

@@ -1,49 +1,47 @@
-/* Files: reading one, and the single steps of replacing one so that a cut loses nothing.
-   Functions that give false or -1 leave the reason in errno, and print nothing. */
+/* Files of the command line: reading one, and where one stands. Each function complains of what
+   is wrong by the name that was typed. */
 #ifndef FILES_H
 #define FILES_H
 
+#include <limits.h>
 #include <stdbool.h>
 #include <stddef.h>
 #include <stdint.h>
+#include <sys/stat.h>
 
 struct bytes {
     uint8_t *at;
     size_t len;
 };
 
-/* Reads a file from its front, at most `most` bytes of it. */
+/* Reads a plain file from its front, at most `most` bytes of it. */
 bool read_file(const char *path, size_t most, struct bytes *bytes);
 
-/* 1 when something has this name, 0 when nothing has, -1 when that cannot be told. */
-int file_exists(const char *path);
+/* Reads an open file from its front, at most `most` bytes of it. */
+bool read_open(int file, const char *path, size_t most, struct bytes *bytes);
 
-/* Whether two names, both there, are of one file. */
-bool same_file(const char *one, const char *other);
+/* Sees that this is a plain file. */
+bool plain(const char *path, const struct stat *state);
 
-/* The reason why the file of this name cannot be replaced, or NULL. What is no plain file and
-   what we may not write to is left alone; a name that nothing has is free. */
-const char *irreplaceable(const char *path);
+/* Where a file stands: an open folder and a name in it, links followed. */
+struct place {
+    int folder;
+    char name[NAME_MAX + 1];
+};
 
-/* Writes a file under a name that nothing has yet, and sees it and its name to the disk. It gets
-   owner and rights of the file `like`, if that is there. A failure leaves no new file. */
-bool write_new(const char *path, const uint8_t *bytes, size_t len, const char *like);
+/* Finds where the file of a path stands, or would stand. */
+bool find_place(const char *path, struct place *place);
 
-/* Sees the names in a file's folder to the disk. */
-bool sync_folder(const char *path);
+/* The state of the file at a place: 1, or 0 when nothing is there, or -1 and the reason. */
+int state_at(const struct place *place, struct stat *state);
 
-/* Removes a name, if something has it, and sees that to the disk. */
-bool remove_file(const char *path);
+/* Whether two states are of one file. */
+bool same_file(const struct stat *one, const struct stat *other);
 
-/* The last part of a path. */
-const char *base_name(const char *path);
+/* Sees that two paths are not of one file; the other may be NULL. */
+bool apart(const char *path, const char *other);
 
-/* Two texts in a row, on the heap. */
-char *joined(const char *front, const char *back);
-
-enum { TAG_LENGTH = 17 };
-
-/* Makes the end of a name that no earlier file had: a point and the time in 16 digits. */
-void make_tag(char tag[TAG_LENGTH + 1]);
+/* Closes a file that a failure left open, and keeps the reason of the failure. */
+void close_failed(int file);
 
 #endif

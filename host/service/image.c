@@ -26,6 +26,11 @@ uint32_t image_number(const uint8_t *image, size_t place)
     return number_from(image + 4 * place);
 }
 
+size_t entry_place(size_t entry, size_t number)
+{
+    return STACK + ENTRY_NUMBERS * entry + number;
+}
+
 size_t image_length(const uint8_t *image)
 {
     return COFFEE_IMAGE_MIN + COFFEE_IMAGE_ENTRY * (size_t)image_number(image, STACK_COUNT);

@@ -1,5 +1,5 @@
-/* The layout of a machine image: 32-bit numbers, high byte first, in six sections, each
-   after its count. Places are counted in numbers from the image's front. */
+/* The layout of a machine image (01 "Machine image"): 32-bit numbers, high byte first, in six
+   sections, each after its count. Places are counted in numbers from the image's front. */
 #ifndef IMAGE_H
 #define IMAGE_H
 
@@ -14,10 +14,6 @@ enum {
     ENTRY_NUMBERS = 4,
     SOURCES = 12,
 
-    /* Registers of set 2 that have a name of their own. */
-    PSR = 29,
-    SPSR = 30,
-
     /* Each section's first number stands after its count. */
     SET_1 = 1,
     SET_2 = SET_1 + SET_REGISTERS + 1,
@@ -25,8 +21,29 @@ enum {
     CONTROL = CONDITION + CONDITIONS + 1,
     POSITION = CONTROL + CONTROL_REGISTERS + 1,
     STACK = POSITION + POSITION_NUMBERS + 1,
-    STACK_COUNT = STACK - 1
+    STACK_COUNT = STACK - 1,
+
+    /* Numbers that the program looks at by name. */
+    PSR = SET_2 + 29,
+    SPSR = SET_2 + 30,
+    CCB_BASE = CONTROL + 0x00,
+    INT_SERV = CONTROL + 0x13,
+    EXCEPTION_CS = CONTROL + 0x17,
+    EXCEPTION_PC = CONTROL + 0x18,
+    EXCEPTION_PSR = CONTROL + 0x19,
+    EXCEP_ADDR = CONTROL + 0x20,
+    RETI_ADDR = CONTROL + 0x28,
+    PC = POSITION,
+
+    /* The numbers of a stack entry. */
+    ENTRY_SOURCE = 0,
+    ENTRY_ADDRESS,
+    ENTRY_PSR,
+    ENTRY_C0
 };
+
+/* Bits of PSR. */
+enum { UM = 1, RSRD = 2, RSWR = 4, IL = 8, IE = 16, PSR_MOST = 31 };
 
 /* A number of 32 bits from four bytes, high byte first. */
 uint32_t number_from(const uint8_t *bytes);
@@ -36,6 +53,9 @@ void number_to(uint8_t *bytes, uint32_t number);
 
 /* The number at a place of an image. */
 uint32_t image_number(const uint8_t *image, size_t place);
+
+/* The place of a number of a stack entry, counted from the bottom. */
+size_t entry_place(size_t entry, size_t number);
 
 /* The length in bytes of an image that the library gave or accepted. */
 size_t image_length(const uint8_t *image);

@@ -1,36 +1,56 @@
-/* The command new: writes the image of the machine at reset. */
+/* The command new: writes a machine at reset. */
 #include "commands.h"
-#include "image.h"
-#include "input.h"
+#include "machine.h"
 #include "save.h"
+#include "text.h"
 
-#include <coffee.h>
+#include <inttypes.h>
 #include <stdlib.h>
 
-/* Writes an image to the file of this path. */
-static enum status write_image(const char *path, const uint8_t *image)
+enum { CELLS = 4096 };
+
+/* Reads the number of cells. */
+static bool read_cell_count(const char *text, uint64_t *count)
 {
-    return save_file(path, image, image_length(image));
+    *count = CELLS;
+    if (text == NULL)
+        return true;
+    if (!read_decimal(text, count))
+        return complain(text, "CELLS is not a decimal number");
+    return *count <= COFFEE_MEMORY_MAX ||
+           complain(text, "refused with 1: more than 65,536 cells of data");
 }
 
-enum status new_command(const char *image)
+/* Makes the bytes of a new machine. */
+static bool make_machine(const char *path, size_t count, struct bytes *file)
 {
-    uint8_t buffer[COFFEE_IMAGE_MAX];
-    uint32_t refusal = coffee_reset(buffer, sizeof buffer);
-    enum status status = FAILED;
-    char *real;
+    struct machine machine = {.has_cells = true};
+    uint8_t image[COFFEE_IMAGE_MAX];
+    uint32_t refusal = coffee_reset(image, sizeof image);
+    bool made;
 
-    if (refusal != 0) {
-        complain_of_refusal(image, refusal);
+    if (refusal != 0)
+        return complain_of_refusal(path, refusal);
+    made = make_cells(path, &machine, count) && join_machine(path, image, &machine, file);
+    free_machine(&machine);
+    return made;
+}
+
+enum status new_command(const struct arguments *arguments)
+{
+    const char *path = arguments->words[0];
+    struct bytes file = {NULL, 0};
+    enum status status = FAILED;
+    struct save save;
+    uint64_t count;
+
+    if (!read_cell_count(arguments->words[1], &count) ||
+        !begin_save(&save, path, arguments->replace ? ANY : ABSENT))
         return FAILED;
-    }
-    if (!replaceable(image))
-        return FAILED;
-    if (file_exists(image) == 0)
-        return write_image(image, buffer);
-    real = resolve(image);
-    if (real != NULL)
-        status = write_image(real, buffer);
-    free(real);
+    if (make_machine(path, (size_t)count, &file) && fill_save(&save, &file))
+        status = end_save(&save);
+    else
+        drop_save(&save);
+    free(file.at);
     return status;
 }

@@ -7,6 +7,7 @@
 #include <stdarg.h>
 #include <stddef.h>
 #include <stdio.h>
+#include <stdlib.h>
 #include <string.h>
 
 /* The library's refusals in words. */
@@ -21,38 +22,49 @@ static const char *const reasons[] = {
     [8] = "a buffer too short for an image",
 };
 
-void complain(const char *name, const char *text, ...)
+/* Prints a text; names in it may hold line ends, and a complaint stays one line. */
+static void put_clean(const char *text)
+{
+    for (; *text != '\0'; text++)
+        fputc(iscntrl((unsigned char)*text) ? '?' : *text, stderr);
+}
+
+bool complain(const char *name, const char *text, ...)
 {
     va_list values;
+    char *rest;
 
-    fputs("service: ", stderr);
-    /* A name may hold line ends; the complaint stays one line. */
-    for (; *name != '\0'; name++)
-        fputc(iscntrl((unsigned char)*name) ? '?' : *name, stderr);
-    fputs(": ", stderr);
     va_start(values, text);
-    vfprintf(stderr, text, values);
+    if (vasprintf(&rest, text, values) < 0)
+        rest = NULL;
     va_end(values);
+    fputs("service: ", stderr);
+    put_clean(name);
+    fputs(": ", stderr);
+    put_clean(rest == NULL ? text : rest);
     fputc('\n', stderr);
+    fflush(stderr);
+    free(rest);
+    return false;
 }
 
-void complain_of_errno(const char *name)
+bool complain_of_errno(const char *name)
 {
-    complain(name, "%s", strerror(errno));
+    return complain(name, "%s", strerror(errno));
 }
 
-void complain_of_refusal(const char *name, uint32_t refusal)
+bool complain_of_refusal(const char *name, uint32_t refusal)
 {
     size_t known = sizeof reasons / sizeof reasons[0];
 
-    complain(name, "refused with %" PRIu32 ": %s", refusal,
-             refusal > 0 && refusal < known ? reasons[refusal] : "no reason that is known here");
+    return complain(name, "refused with %" PRIu32 ": %s", refusal,
+                    refusal > 0 && refusal < known ? reasons[refusal]
+                                                   : "no reason that is known here");
 }
 
 bool end_output(void)
 {
     if (fflush(stdout) == 0 && !ferror(stdout))
         return true;
-    complain_of_errno("standard output");
-    return false;
+    return complain("standard output", "%s; nothing is changed", strerror(errno));
 }

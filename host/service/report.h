@@ -7,22 +7,24 @@
 
 enum status {
     DONE = 0,
-    /* Refused, or a file is bad or could not be saved: no file is changed. */
+    /* Refused, or a file is bad or could not be saved: nothing is changed. */
     FAILED = 1,
     /* The command line is not one that the program knows. */
     USAGE = 2,
-    /* A save began to replace files and could not be ended: the line says what is left. */
-    UNFINISHED = 3
+    /* Saved, but not confirmed by the disk, or only one file of two. */
+    UNSURE = 3,
+    /* A run that had to reach its limit ended in a stop. */
+    STOPPED = 4
 };
 
-/* Prints "service: NAME: " and the text as one line on standard error. */
-__attribute__((format(printf, 2, 3))) void complain(const char *name, const char *text, ...);
+/* Prints "service: NAME: " and the text as one line on standard error; gives false. */
+__attribute__((format(printf, 2, 3))) bool complain(const char *name, const char *text, ...);
 
 /* Complains of the reason in errno. */
-void complain_of_errno(const char *name);
+bool complain_of_errno(const char *name);
 
-/* Complains of a refusal by the library; the name is that of the file or word refused. */
-void complain_of_refusal(const char *name, uint32_t refusal);
+/* Complains of a refusal by the library, in general words. */
+bool complain_of_refusal(const char *name, uint32_t refusal);
 
 /* Sees that all that was printed went out, or complains. */
 bool end_output(void);

@@ -1,214 +1,205 @@
 /* The command run: loads a machine, runs it a number of steps, saves it, prints the answer. */
+#include "call.h"
 #include "commands.h"
 #include "image.h"
-#include "input.h"
+#include "names.h"
+#include "progress.h"
 #include "save.h"
-#include "text.h"
 
-#include <coffee.h>
 #include <inttypes.h>
+#include <signal.h>
 #include <stdio.h>
 #include <stdlib.h>
 
-/* A list of requests is as long as 1,000,000 lines of eight digits and a line end of two bytes
-   can be. */
-enum { LONGEST_REQUESTS = 10000000 };
+/* As many steps are watched for exceptions, one at a time, where the answer says them in words. */
+enum { COUNTED_STEPS = 1000000 };
 
-/* The words of the command line; requests may be NULL. */
-struct words {
-    const char *program, *image, *data, *steps, *requests;
+/* A run under way. */
+struct run {
+    struct call_words words;
+    struct call call;
+    struct save save;
+    bool in_words;
+    uint64_t exceptions; /* entered in the steps that are watched */
+    uint8_t watched[COFFEE_IMAGE_MAX]; /* the image after those */
 };
 
-/* All that a run call takes and gives. */
-struct call {
-    struct bytes program, image, data;
-    uint32_t *cells, *requests;
-    size_t cells_len, requests_len;
-    uint32_t limit;
-    uint8_t buffer[COFFEE_IMAGE_MAX];
-    struct coffee_answer answer;
-};
+/* ---- the steps */
 
-/* Frees what a call holds. */
-static void free_call(struct call *call)
+/* Set by a signal that asks the program to end. */
+static volatile sig_atomic_t asked_to_end;
+
+static void ask_to_end(int number)
 {
-    free(call->program.at);
-    free(call->image.at);
-    free(call->data.at);
-    free(call->cells);
-    free(call->requests);
+    (void)number;
+    asked_to_end = 1;
 }
 
-/* Room for numbers, never NULL for none, or a complaint. */
-static uint32_t *make_numbers(const char *name, size_t count)
+/* Has these signals end the steps, but for those that the caller had ignored. */
+static void watch_signals(void)
 {
-    uint32_t *numbers = calloc(count + 1, sizeof *numbers);
+    static const int signals[] = {SIGINT, SIGTERM, SIGHUP};
+    struct sigaction action = {.sa_handler = ask_to_end, .sa_flags = SA_RESTART}, old;
 
-    if (numbers == NULL)
-        complain_of_errno(name);
-    return numbers;
-}
-
-/* Loads the data cells, 32 bits each, high byte first. */
-static bool load_cells(const char *path, struct call *call)
-{
-    if (!load(path, READ_DATA, &call->data))
-        return false;
-    if (call->data.len % 4 != 0) {
-        complain(path, "its length, %zu bytes, is not in fours", call->data.len);
-        return false;
+    for (size_t i = 0; i < sizeof signals / sizeof signals[0]; i++) {
+        if (sigaction(signals[i], NULL, &old) == 0 && old.sa_handler != SIG_IGN)
+            sigaction(signals[i], &action, NULL);
     }
-    call->cells_len = call->data.len / 4;
-    call->cells = make_numbers(path, call->cells_len);
-    if (call->cells == NULL)
-        return false;
-    for (size_t i = 0; i < call->cells_len; i++)
-        call->cells[i] = number_from(call->data.at + 4 * i);
+}
+
+/* The steps of the next piece. */
+static uint32_t piece(const struct call *call)
+{
+    uint64_t left = call->steps - call->done;
+
+    return left < COFFEE_STEPS_MAX ? (uint32_t)left : COFFEE_STEPS_MAX;
+}
+
+/* Does steps one at a time. */
+static bool watch_steps(struct run *run, uint32_t steps)
+{
+    struct call *call = &run->call;
+
+    for (uint32_t i = 0; i < steps && call->ending == 0; i++) {
+        if (!call_counted_step(&run->words, call, &run->exceptions))
+            return false;
+    }
+    for (size_t i = 0; i < image_length(call->image); i++)
+        run->watched[i] = call->image[i];
     return true;
 }
 
-/* Writes the data cells back over the bytes that they came from. */
-static void unload_cells(struct call *call)
+/* Does the next piece of the steps. */
+static bool do_piece(struct run *run)
 {
-    for (size_t i = 0; i < call->cells_len; i++)
-        number_to(call->data.at + 4 * i, call->cells[i]);
+    struct call *call = &run->call;
+    uint32_t steps = piece(call);
+
+    return run->in_words && call->done < COUNTED_STEPS ? watch_steps(run, steps)
+                                                       : call_steps(&run->words, call, steps);
 }
 
-/* Reads the requests from the text of their file. */
-static bool parse_requests(const char *path, const struct bytes *text, struct call *call)
+/* Does all steps, up to a stop. */
+static bool do_steps(struct run *run, struct progress *progress)
 {
-    size_t bad;
+    struct call *call = &run->call;
 
-    if (text->len > LONGEST_REQUESTS) {
-        complain(path, "longer than 10,000,000 bytes");
-        return false;
+    while (call->done < call->steps && call->ending == 0) {
+        if (!do_piece(run))
+            return false;
+        show_progress(progress, call->done, call->steps);
+        if (asked_to_end) {
+            end_progress(progress);
+            return complain(run->words.machine,
+                            "a signal ended the run after %" PRIu64 " steps; nothing is changed",
+                            call->done);
+        }
     }
-    call->requests_len = count_lines(text->at, text->len);
-    call->requests = make_numbers(path, call->requests_len);
-    if (call->requests == NULL)
-        return false;
-    bad = read_requests(text->at, text->len, call->requests);
-    if (bad != 0)
-        complain(path, "line %zu is not 1 to 8 hexadecimal digits", bad);
-    return bad == 0;
+    return true;
 }
 
-/* Loads the requests; without a file there are none. */
-static bool load_requests(const char *path, struct call *call)
-{
-    struct bytes text;
-    bool done;
+/* ---- the answer */
 
-    if (path == NULL) {
-        call->requests = make_numbers("requests", 0);
-        return call->requests != NULL;
+/* Whether the exception registers have changed since the watched steps. */
+static bool changed_since(const struct run *run)
+{
+    for (size_t place = EXCEPTION_CS; place <= EXCEPTION_PSR; place++) {
+        if (image_number(run->watched, place) != image_number(run->call.image, place))
+            return true;
     }
-    if (!load(path, LONGEST_REQUESTS + 1, &text))
-        return false;
-    done = parse_requests(path, &text, call);
-    free(text.at);
-    return done;
-}
-
-/* Loads all that a run call takes. */
-static bool load_call(const struct words *words, struct call *call)
-{
-    return load(words->program, READ_PROGRAM, &call->program) &&
-           load(words->image, READ_IMAGE, &call->image) && load_cells(words->data, call) &&
-           load_requests(words->requests, call);
-}
-
-/* The word of the command line that a refusal is about. */
-static const char *refused_word(const struct words *words, const struct call *call)
-{
-    switch (call->answer.refusal) {
-    case 1:
-        return call->program.len == READ_PROGRAM ? words->program : words->data;
-    case 6:
-        return words->requests != NULL ? words->requests : "requests";
-    case 7:
-        return words->steps;
-    default:
-        return words->image;
-    }
-}
-
-/* Makes the run call. */
-static bool make_call(const struct words *words, struct call *call)
-{
-    call->answer = coffee_run(call->program.at, call->program.len, call->cells, call->cells_len,
-                              call->image.at, call->image.len, call->requests, call->requests_len,
-                              call->limit, call->buffer, sizeof call->buffer);
-    if (call->answer.refusal == 0)
-        return true;
-    complain_of_refusal(refused_word(words, call), call->answer.refusal);
     return false;
 }
 
-/* Prints steps, ending and PC as the run program does. */
-static bool print_answer(const struct call *call)
+/* Prints how many exceptions were entered, and what the image tells of the last one. */
+static void print_exceptions(const struct run *run)
 {
-    printf("%" PRIu32 " %" PRIu32 " %08" PRIX32 "\n", call->answer.steps, call->answer.ending,
-           image_number(call->buffer, POSITION));
+    const uint8_t *image = run->call.image;
+    bool all = run->call.done <= COUNTED_STEPS;
+    uint64_t count = run->exceptions + (!all && changed_since(run));
+
+    if (count == 0) {
+        printf("%s\n", all ? "no exception entered"
+                           : "no exception entered in the first 1,000,000 steps, none shows since");
+        return;
+    }
+    printf("%s%" PRIu64 " exception%s entered, %scode %02" PRIX32 "h at %08" PRIX32 "\n",
+           all ? "" : "at least ", count, count == 1 ? "" : "s", count == 1 && all ? "" : "the last: ",
+           image_number(image, EXCEPTION_CS), image_number(image, EXCEPTION_PC));
+}
+
+/* Prints what the ending means, where, and the exceptions. */
+static void print_in_words(const struct run *run)
+{
+    const struct call *call = &run->call;
+    uint32_t pc = image_number(call->image, PC);
+
+    if (call->ending == 0)
+        printf("all steps done, next at %08" PRIX32 "; ", pc);
+    else
+        printf("stop %" PRIu32 " at %08" PRIX32 ": %s; ", call->ending, pc,
+               stop_meaning(call->ending));
+    print_exceptions(run);
+}
+
+/* Prints steps, ending and PC as the run program does. */
+static bool print_answer(const struct run *run)
+{
+    const struct call *call = &run->call;
+
+    printf("%" PRIu64 " %" PRIu32 " %08" PRIX32 "\n", call->done, call->ending,
+           image_number(call->image, PC));
+    if (run->in_words)
+        print_in_words(run);
     return end_output();
 }
 
-/* Saves image and data and prints the answer. It prints before the save is decided: so a line
-   that cannot be printed changes no file, and the exit status says whether the line holds. */
-static enum status save_call(struct call *call, const char *image, const char *data)
-{
-    struct bytes new_image = {call->buffer, image_length(call->buffer)};
-    struct save save;
+/* ---- the command */
 
-    unload_cells(call);
-    if (!begin_save(&save, image, &new_image, data, &call->data))
-        return FAILED;
-    if (!print_answer(call)) {
-        drop_save(&save);
-        return FAILED;
-    }
-    return end_save(&save);
+/* Writes the new file and prints the answer, then replaces the old one. A line that cannot be
+   printed so changes no file, and the exit status says whether the line holds. */
+static enum status save_run(struct run *run)
+{
+    struct bytes file = {NULL, 0};
+    bool done = join_call(&run->words, &run->call, &file) && fill_save(&run->save, &file) &&
+                print_answer(run);
+
+    free(file.at);
+    if (done)
+        return end_save(&run->save);
+    drop_save(&run->save);
+    return FAILED;
 }
 
-/* Loads, runs and saves; the two paths are those of the files themselves. */
-static enum status run_files(const struct words *words, uint32_t limit, const char *image,
-                             const char *data)
+/* Loads the machine and does the steps. */
+static bool load_and_run(struct run *run)
 {
-    struct call call = {.limit = limit};
+    struct progress progress;
+    bool done;
+
+    if (!load_call(&run->words, run->save.old.file, &run->call))
+        return false;
+    watch_signals();
+    begin_progress(&progress);
+    done = do_steps(run, &progress);
+    end_progress(&progress);
+    return done;
+}
+
+enum status run_command(const struct arguments *arguments)
+{
+    const char *const *words = arguments->words;
+    struct run run = {.words = {words[0], words[1], words[2], words[3]},
+                      .in_words = arguments->words_too};
     enum status status = FAILED;
 
-    if (settle_save(image, data) && load_call(words, &call) && make_call(words, &call))
-        status = save_call(&call, image, data);
-    free_call(&call);
-    return status;
-}
-
-/* Whether image and data are files that the command may replace. */
-static bool may_save(const struct words *words)
-{
-    return replaceable(words->image) && replaceable(words->data) &&
-           apart(words->image, words->data) && apart(words->image, words->program) &&
-           apart(words->data, words->program) && apart(words->image, words->requests) &&
-           apart(words->data, words->requests);
-}
-
-enum status run_command(const char *program, const char *image, const char *data,
-                        const char *steps, const char *requests)
-{
-    struct words words = {program, image, data, steps, requests};
-    enum status status = FAILED;
-    uint32_t limit;
-    char *real_image, *real_data;
-
-    if (!read_steps(steps, &limit)) {
-        complain(steps, "STEPS is not 1 to 7 decimal digits");
+    if (!begin_save(&run.save, run.words.machine, EXISTING))
         return FAILED;
-    }
-    real_image = resolve(image);
-    real_data = real_image == NULL ? NULL : resolve(data);
-    if (real_data != NULL && may_save(&words))
-        status = run_files(&words, limit, real_image, real_data);
-    free(real_image);
-    free(real_data);
+    if (load_and_run(&run))
+        status = save_run(&run);
+    else
+        drop_save(&run.save);
+    if (status == DONE && arguments->strict && run.call.ending != 0)
+        status = STOPPED;
+    free_call(&run.call);
     return status;
 }

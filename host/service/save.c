@@ -1,254 +1,125 @@
-/* Saving: one file, or a machine image and its data together.
-
-   One file is replaced by writing the new one beside it, seeing that to the disk, and renaming
-   it: at any moment the name is that of the old file or of the new one, whole.
-
-   Two files cannot be renamed at once, so a save of image and data goes in this order, each
-   part on the disk before the next begins:
-
-     1. a note: the file DATA.saving, with the tag of this save and the name of the image;
-     2. the new image beside the old one, as IMAGE.tag;
-     3. the new data beside the old one, as DATA.tag;
-     4. IMAGE.tag is renamed to IMAGE: from here on the save is decided;
-     5. DATA.tag is renamed to DATA;
-     6. the note is removed.
-
-   A cut before 4 leaves image and data as they were, and IMAGE.tag (or nothing but the note).
-   A cut between the two renames leaves the new image with the old data. It shows: there is a
-   note, DATA.tag is there, and IMAGE.tag is not. The next run looks for a note before it loads
-   anything. Where it finds IMAGE.tag the save was not decided, and it removes DATA.tag,
-   IMAGE.tag and the note, in this order, so that a cut in the middle of that is no other case.
-   Where it does not, it goes on with 5 and 6. So a run always starts from an image and the
-   data that were saved with it. */
+/* Replacing a file so that its name is at any moment that of one whole file. */
 #include "save.h"
+
+#include "rights.h"
 
 #include <errno.h>
 #include <stdio.h>
-#include <stdlib.h>
 #include <string.h>
+#include <unistd.h>
 
-enum { LONGEST_NOTE = 4096 };
-
-/* Complains of a file by the reason in errno. */
-static bool failed(const char *path)
+/* Complains that a folder takes no file, by the reason in errno. */
+static bool cannot_save(const struct save *save)
 {
-    complain_of_errno(path);
-    return false;
+    int reason = errno;
+    char entry[32], folder[PATH_MAX];
+    ssize_t len;
+
+    snprintf(entry, sizeof entry, "/proc/self/fd/%d", save->place.folder);
+    len = readlink(entry, folder, sizeof folder - 1);
+    folder[len < 0 ? 0 : len] = '\0';
+    return complain(save->path, "cannot save in %s: %s; nothing is changed",
+                    len > 0 ? folder : "its folder", strerror(reason));
 }
 
-enum status save_file(const char *path, const uint8_t *bytes, size_t len)
+/* Makes the new file. */
+static bool make_new(struct save *save)
 {
-    char tag[TAG_LENGTH + 1];
-    char *beside;
-    enum status status = FAILED;
-
-    make_tag(tag);
-    beside = joined(path, tag);
-    if (beside == NULL || !write_new(beside, bytes, len, path)) {
-        failed(path);
-    } else if (rename(beside, path) != 0) {
-        failed(path);
-        remove_file(beside);
-    } else if (!sync_folder(path)) {
-        complain(path, "replaced, but the disk does not say so: %s", strerror(errno));
-        status = UNFINISHED;
-    } else {
-        status = DONE;
+    remove_left_overs(save->place.folder);
+    save->new =
+        make_temporary(save->place.folder, save->old.file < 0 ? 0666 : 0600, save->temporary);
+    if (save->new < 0) {
+        save->temporary[0] = '\0';
+        return cannot_save(save);
     }
-    free(beside);
-    return status;
-}
-
-/* Frees the names of a save. */
-static void free_names(struct save *save)
-{
-    free(save->new_image);
-    free(save->new_data);
-    free(save->note);
-}
-
-/* Makes the names of the save with this tag. */
-static bool name_files(struct save *save, const char *image, const char *data, const char *tag)
-{
-    save->image = image;
-    save->data = data;
-    save->new_image = joined(image, tag);
-    save->new_data = joined(data, tag);
-    save->note = joined(data, ".saving");
-    if (save->new_image != NULL && save->new_data != NULL && save->note != NULL)
+    if (save->old.file < 0 || copy_rights(save->old.file, &save->old.state, save->new))
         return true;
-    free_names(save);
-    return false;
+    return complain(save->path, "its owner, group and rights cannot be kept: %s; nothing is changed",
+                    strerror(errno));
 }
 
-/* Removes what a save that is not decided has written; the order is said above. */
-static bool undo(const struct save *save)
+bool begin_save(struct save *save, const char *path, enum target target)
 {
-    return remove_file(save->new_data) && remove_file(save->new_image) && remove_file(save->note);
-}
-
-/* Does what is left of a save that is decided. */
-static bool finish(const struct save *save)
-{
-    if (!sync_folder(save->image))
-        return false;
-    if (rename(save->new_data, save->data) != 0 && errno != ENOENT)
-        return false;
-    return sync_folder(save->data) && remove_file(save->note);
-}
-
-/* The length of a note: a tag, the image's name, and a line end to show that it is whole. */
-static size_t note_length(const char *name)
-{
-    return TAG_LENGTH + strlen(name) + 1;
-}
-
-/* Writes the note of a save. */
-static bool write_note(const struct save *save, const char *tag)
-{
-    char *front = joined(tag, base_name(save->image));
-    char *text = front == NULL ? NULL : joined(front, "\n");
-    bool done = text != NULL &&
-                write_new(save->note, (const uint8_t *)text, strlen(text), save->data);
-
-    if (!done)
-        complain_of_errno(save->note);
-    free(text);
-    free(front);
-    return done;
-}
-
-/* Writes a new file beside an old one. */
-static bool write_beside(const char *path, const struct bytes *bytes, const char *old)
-{
-    return write_new(path, bytes->at, bytes->len, old) || failed(path);
-}
-
-bool begin_save(struct save *save, const char *image, const struct bytes *image_bytes,
-                const char *data, const struct bytes *data_bytes)
-{
-    char tag[TAG_LENGTH + 1];
-
-    make_tag(tag);
-    if (!name_files(save, image, data, tag))
-        return failed(image);
-    if (!write_note(save, tag)) {
-        free_names(save);
-        return false;
-    }
-    if (write_beside(save->new_image, image_bytes, image) &&
-        write_beside(save->new_data, data_bytes, data))
+    *save = (struct save){.path = path, .old.file = -1, .new = -1};
+    if (find_place(path, &save->place) &&
+        lock_target(path, &save->place, target, &save->old) && make_new(save))
         return true;
     drop_save(save);
     return false;
 }
 
-void drop_save(struct save *save)
+/* Writes all bytes to an open file. */
+static bool write_all(int file, const uint8_t *bytes, size_t len)
 {
-    undo(save);
-    free_names(save);
+    while (len > 0) {
+        ssize_t put = write(file, bytes, len);
+
+        if (put >= 0) {
+            bytes += put;
+            len -= (size_t)put;
+        } else if (errno != EINTR) {
+            return false;
+        }
+    }
+    return true;
+}
+
+bool fill_save(struct save *save, const struct bytes *bytes)
+{
+    return (write_all(save->new, bytes->at, bytes->len) && fsync(save->new) == 0) ||
+           cannot_save(save);
+}
+
+/* Renames the new file; with RENAME_NOREPLACE to a name that nothing has. Where the file system
+   cannot see to that, the program does. */
+static bool rename_new(const struct save *save, unsigned flags)
+{
+    int folder = save->place.folder;
+    struct stat state;
+
+    if (renameat2(folder, save->temporary, folder, save->place.name, flags) == 0)
+        return true;
+    if (errno != EINVAL && errno != ENOSYS)
+        return false;
+    if (flags != 0 && state_at(&save->place, &state) != 0) {
+        errno = EEXIST;
+        return false;
+    }
+    return renameat(folder, save->temporary, folder, save->place.name) == 0;
+}
+
+/* Puts the new file in place, or complains. */
+static bool put_in_place(const struct save *save)
+{
+    if (save->old.file >= 0 && !unchanged(&save->place, &save->old))
+        return complain(save->path, "another program has changed it meanwhile; it is left so");
+    if (rename_new(save, save->old.file < 0 ? RENAME_NOREPLACE : 0))
+        return true;
+    return errno == EEXIST ? complain(save->path, "is there already; nothing is changed")
+                           : cannot_save(save);
 }
 
 enum status end_save(struct save *save)
 {
-    enum status status = DONE;
-
-    if (rename(save->new_image, save->image) != 0) {
-        failed(save->image);
+    if (!put_in_place(save)) {
         drop_save(save);
         return FAILED;
     }
-    if (!finish(save)) {
-        complain(save->data, "%s: the image is saved, and the next run ends the save of the data",
-                 strerror(errno));
-        status = UNFINISHED;
-    }
-    free_names(save);
-    return status;
+    save->temporary[0] = '\0';
+    /* Some file systems cannot flush a folder, and say EINVAL. */
+    if (fsync(save->place.folder) == 0 || errno == EINVAL)
+        return DONE;
+    complain(save->path, "saved, but the disk does not confirm it: %s", strerror(errno));
+    return UNSURE;
 }
 
-/* Ends the save of a whole note. Without both new files it was cut off before the first was
-   there or after the second was in place. */
-static bool settle(const struct save *save)
+void drop_save(struct save *save)
 {
-    int image = file_exists(save->new_image);
-    int data = file_exists(save->new_data);
-
-    if (image < 0 || data < 0 || !(image ? undo(save) : finish(save)))
-        return failed(save->note);
-    complain(save->data, "the last save was cut off: image and data are %s",
-             image  ? "those before it"
-             : data ? "those after it"
-                    : "both those before it or both those after it");
-    return true;
-}
-
-/* Whether a byte can stand at this place of a note for this image. */
-static bool note_byte(uint8_t byte, size_t at, const char *name)
-{
-    if (at == 0)
-        return byte == '.';
-    if (at < TAG_LENGTH)
-        return (byte >= '0' && byte <= '9') || (byte >= 'a' && byte <= 'f');
-    return byte == (name[at - TAG_LENGTH] == '\0' ? '\n' : (uint8_t)name[at - TAG_LENGTH]);
-}
-
-/* Whether the bytes are a note for this image, or the front of one. */
-static bool note_for(const struct bytes *note, const char *name)
-{
-    if (note->len > note_length(name))
-        return false;
-    for (size_t i = 0; i < note->len; i++) {
-        if (!note_byte(note->at[i], i, name))
-            return false;
-    }
-    return true;
-}
-
-/* Ends the save that a note speaks of. A note that is not whole was cut off before anything
-   else was written. */
-static bool settle_note(const struct bytes *note, const char *path, const char *image,
-                        const char *data)
-{
-    char tag[TAG_LENGTH + 1] = "";
-    struct save save;
-    bool done;
-
-    if (!note_for(note, base_name(image))) {
-        complain(path, "a save with another image was cut off: run that image first");
-        return false;
-    }
-    if (note->len < note_length(base_name(image)))
-        return remove_file(path) || failed(path);
-    memcpy(tag, note->at, TAG_LENGTH);
-    if (!name_files(&save, image, data, tag))
-        return failed(path);
-    done = settle(&save);
-    free_names(&save);
-    return done;
-}
-
-/* Ends the save that the note of this name speaks of, if there is one. */
-static bool settle_path(const char *path, const char *image, const char *data)
-{
-    struct bytes note;
-    int there = file_exists(path);
-    bool done;
-
-    if (there == 0)
-        return true;
-    if (there < 0 || !read_file(path, LONGEST_NOTE, &note))
-        return failed(path);
-    done = settle_note(&note, path, image, data);
-    free(note.at);
-    return done;
-}
-
-bool settle_save(const char *image, const char *data)
-{
-    char *path = joined(data, ".saving");
-    bool done = path != NULL ? settle_path(path, image, data) : failed(data);
-
-    free(path);
-    return done;
+    if (save->temporary[0] != '\0')
+        unlinkat(save->place.folder, save->temporary, 0);
+    save->temporary[0] = '\0';
+    close_failed(save->new);
+    close_failed(save->old.file);
+    close_failed(save->place.folder);
+    save->new = save->old.file = save->place.folder = -1;
 }

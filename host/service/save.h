@@ -1,32 +1,32 @@
-/* Saving: one file, or a machine image and its data together. */
+/* Replacing a file so that its name is at any moment that of one whole file, and so that two at
+   once do not replace the same one. README.md, "Saving", has the order and the reasons. */
 #ifndef SAVE_H
 #define SAVE_H
 
-#include "files.h"
+#include "lock.h"
 #include "report.h"
+#include "temporary.h"
 
-/* Replaces one file, or makes it. */
-enum status save_file(const char *path, const uint8_t *bytes, size_t len);
-
-/* A save of two files under way; see save.c. */
+/* A save under way. */
 struct save {
-    const char *image, *data;
-    char *new_image, *new_data, *note;
+    const char *path; /* as typed */
+    struct place place;
+    struct locked old; /* the file that is replaced, if there is one */
+    int new;           /* the file that replaces it, locked */
+    char temporary[TEMPORARY_LENGTH + 1]; /* the name of that one until then, or empty */
 };
 
-/* Ends the save that an earlier run of this image and data left in the middle, if there is
-   one, and says on standard error which way it ended. */
-bool settle_save(const char *image, const char *data);
+/* Locks the file that is to be replaced, and makes the new one beside it with the same owner,
+   group and rights. Complains when that cannot be, and then leaves nothing to do. */
+bool begin_save(struct save *save, const char *path, enum target target);
 
-/* Writes the new image and the new data beside the old ones. Both paths are absolute, with no
-   links, and stay the caller's. A failure leaves nothing to do. */
-bool begin_save(struct save *save, const char *image, const struct bytes *image_bytes,
-                const char *data, const struct bytes *data_bytes);
+/* Writes the new file's bytes to the disk. */
+bool fill_save(struct save *save, const struct bytes *bytes);
 
-/* Puts the two new files in place of the old ones. */
+/* Puts the new file in place of the old one. The locks are held until the program ends. */
 enum status end_save(struct save *save);
 
-/* Removes the two new files. */
+/* Removes the new file, if it has not yet replaced the old one. */
 void drop_save(struct save *save);
 
 #endif

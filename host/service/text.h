@@ -1,4 +1,4 @@
-/* Numbers that a person writes: the step limit and the list of requests. */
+/* Numbers that a person writes. Those too large for 64 bits give the largest of 64 bits. */
 #ifndef TEXT_H
 #define TEXT_H
 
@@ -6,14 +6,13 @@
 #include <stddef.h>
 #include <stdint.h>
 
-/* Reads a step limit: 1 to 7 decimal digits, as in the run program's limit.txt. */
-bool read_steps(const char *text, uint32_t *steps);
+/* Reads a number: `len` digits of this base, 10 or 16, at least one. */
+bool read_digits(const char *text, size_t len, unsigned base, uint64_t *number);
 
-/* The number of lines of a text; the last line's end may be missing. */
-size_t count_lines(const uint8_t *text, size_t len);
+/* Reads a decimal number. */
+bool read_decimal(const char *text, uint64_t *number);
 
-/* Reads a number from each line, 1 to 8 hexadecimal digits; the answer is 0, or the number of
-   the first line that is something else, counted from 1. */
-size_t read_requests(const uint8_t *text, size_t len, uint32_t *requests);
+/* Reads a number that is decimal, or hexadecimal as 1F0h or 0x1F0. */
+bool read_number(const char *text, uint64_t *number);
 
 #endif

@@ -1,33 +1,27 @@
-/* For the tests: stands in for calls of the system and of the library, and makes one of them go
-   wrong, chosen by the environment.
+/* Faults: stand-ins for calls of the system and of the library, by the linker's --wrap. */
+#include "faults.h"
 
-     FAULT_AT       which call of the system, counted from 1
-     FAULT_CALL     the only call that is counted, as rename; all are, if this is not set
-     FAULT_KIND     fail: that call gives an error; dead: that one and all after it do;
-                    cut: the program ends there
-     FAULT_MARK     a file that is made when the fault comes
-     FAULT_LOG      a file that gets a line for each call but open and close: call and file
-     FAULT_REFUSAL  the number with which the library refuses */
-#define _XOPEN_SOURCE 700
 #include <coffee.h>
 #include <errno.h>
 #include <fcntl.h>
+#include <signal.h>
 #include <stdarg.h>
-#include <stdbool.h>
 #include <stdio.h>
-#include <stdlib.h>
 #include <string.h>
-#include <sys/types.h>
+#include <sys/file.h>
+#include <sys/mman.h>
+#include <sys/vfs.h>
+#include <time.h>
 #include <unistd.h>
 
-enum { CUT_STATUS = 99 };
-
-int __real_open(const char *path, int flags, ...);
+int __real_openat(int folder, const char *path, int flags, ...);
 ssize_t __real_write(int file, const void *bytes, size_t len);
 int __real_fsync(int file);
-int __real_close(int file);
-int __real_rename(const char *from, const char *to);
-int __real_unlink(const char *path);
+int __real_flock(int file, int what);
+int __real_fchmod(int file, mode_t mode);
+int __real_renameat2(int from, const char *old, int to, const char *new, unsigned flags);
+int __real_unlinkat(int folder, const char *path, int flags);
+int __real_fstatfs(int file, struct statfs *state);
 struct coffee_answer __real_coffee_run(const uint8_t *program, size_t program_bytes,
                                        uint32_t *cells, size_t cell_count, const uint8_t *image,
                                        size_t image_bytes, const uint32_t *requests,
@@ -35,97 +29,128 @@ struct coffee_answer __real_coffee_run(const uint8_t *program, size_t program_by
                                        size_t buffer_bytes);
 uint32_t __real_coffee_reset(uint8_t *buffer, size_t buffer_bytes);
 
-/* A number of the environment, or 0. */
-static unsigned long setting(const char *name)
-{
-    const char *text = getenv(name);
+struct fault_setting fault_setting;
 
-    return text == NULL ? 0 : strtoul(text, NULL, 10);
+/* In a child, between begin_fault and end_fault. */
+static bool in_child;
+
+/* Shared with the child: whether the fault has come. */
+static volatile int *came;
+
+void no_fault(void)
+{
+    fault_setting = (struct fault_setting){0};
+    if (came == NULL)
+        came = mmap(NULL, sizeof *came, PROT_READ | PROT_WRITE, MAP_SHARED | MAP_ANONYMOUS, -1, 0);
 }
 
-/* Whether the fault is of this kind. */
-static bool of_kind(const char *kind)
+void expect_fault(void)
 {
-    const char *chosen = getenv("FAULT_KIND");
-
-    return chosen != NULL && strcmp(chosen, kind) == 0;
+    *came = 0;
 }
 
-/* The path of an open file. */
-static const char *path_of(int file)
+void begin_fault(void)
+{
+    in_child = true;
+}
+
+void end_fault(void)
+{
+    in_child = false;
+}
+
+bool fault_came(void)
+{
+    return *came != 0;
+}
+
+void await_fault(void)
+{
+    struct timespec pause = {0, 100000};
+
+    for (int i = 0; i < 100000 && !fault_came(); i++)
+        nanosleep(&pause, NULL);
+}
+
+/* Adds a call to the log. */
+static void log_call(const char *call, const char *name)
+{
+    char line[400];
+    int len;
+
+    if (fault_setting.log <= 0)
+        return;
+    if (strncmp(name, ".service-", 9) == 0)
+        name = "TEMPORARY";
+    len = snprintf(line, sizeof line, "%s %s\n", call, name);
+    if (__real_write(fault_setting.log, line, (size_t)len) != len)
+        _exit(98);
+}
+
+/* The last part of an open file's path. */
+static const char *name_of(int file)
 {
     static char path[4096];
     char entry[64];
     ssize_t len;
+    char *slash;
 
     snprintf(entry, sizeof entry, "/proc/self/fd/%d", file);
     len = readlink(entry, path, sizeof path - 1);
     path[len < 0 ? 0 : len] = '\0';
-    return path;
+    slash = strrchr(path, '/');
+    return slash == NULL ? path : slash + 1;
 }
 
-/* Adds a call to the log. */
-static void log_call(const char *call, const char *path)
-{
-    const char *log = getenv("FAULT_LOG");
-    const char *slash = strrchr(path, '/');
-    FILE *file = log == NULL ? NULL : fopen(log, "a");
-
-    if (file == NULL)
-        return;
-    fprintf(file, "%s %s\n", call, slash == NULL ? path : slash + 1);
-    fclose(file);
-}
-
-/* Makes the file that says that the fault came. */
-static void mark(void)
-{
-    const char *path = getenv("FAULT_MARK");
-
-    if (path != NULL)
-        __real_close(__real_open(path, O_WRONLY | O_CREAT, 0666));
-}
-
-/* Counts a call; ends the program where it is cut there; tells whether the call fails. */
+/* Has the fault come, if this is the call; tells whether the call fails. */
 static bool goes_wrong(const char *call)
 {
-    static unsigned long calls;
-    const char *counted = getenv("FAULT_CALL");
-    unsigned long chosen = setting("FAULT_AT");
+    static unsigned calls;
+    const struct fault_setting *set = &fault_setting;
 
-    if (counted != NULL && strcmp(counted, call) != 0)
+    if (!in_child || set->kind == NONE || (set->call != NULL && strcmp(set->call, call) != 0))
         return false;
     calls++;
-    if (chosen == 0 || calls < chosen || (calls > chosen && !of_kind("dead")))
+    if (calls < set->at || (calls > set->at && set->kind != DEAD))
         return false;
-    mark();
-    if (of_kind("cut"))
-        _exit(CUT_STATUS);
-    errno = EIO;
+    *came = 1;
+    if (set->kind == CUT)
+        kill(getpid(), SIGKILL);
+    while (set->kind == WAIT)
+        pause();
+    if (set->kind == HOOK) {
+        in_child = false;
+        set->hook();
+        in_child = true;
+        return false;
+    }
+    errno = set->error != 0 ? set->error : EIO;
     return true;
 }
 
-int __wrap_open(const char *path, int flags, ...)
+int __wrap_openat(int folder, const char *path, int flags, ...)
 {
     va_list rest;
     mode_t mode = 0;
 
-    if (goes_wrong("open"))
+    if (goes_wrong("openat"))
         return -1;
     if (flags & O_CREAT) {
         va_start(rest, flags);
         mode = va_arg(rest, mode_t);
         va_end(rest);
     }
-    return __real_open(path, flags, mode);
+    return __real_openat(folder, path, flags, mode);
 }
 
-/* Writes in two calls: half of the bytes, then the rest. */
+/* Writes to a file in two calls: half of the bytes, then the rest. */
 ssize_t __wrap_write(int file, const void *bytes, size_t len)
 {
     static bool half;
 
-    log_call("write", path_of(file));
+    if (!in_child)
+        return __real_write(file, bytes, len);
+    log_call("write", name_of(file));
     if (goes_wrong("write"))
         return -1;
     half = !half;
@@ -134,31 +159,44 @@ ssize_t __wrap_write(int file, const void *bytes, size_t len)
 
 int __wrap_fsync(int file)
 {
-    log_call("fsync", path_of(file));
+    if (in_child)
+        log_call("fsync", name_of(file));
     return goes_wrong("fsync") ? -1 : __real_fsync(file);
 }
 
-int __wrap_close(int file)
+int __wrap_flock(int file, int what)
 {
-    bool wrong = goes_wrong("close");
-    int closed = __real_close(file);
-
-    if (!wrong)
-        return closed;
-    errno = EIO;
-    return -1;
+    if (in_child)
+        log_call("flock", name_of(file));
+    return goes_wrong("flock") ? -1 : __real_flock(file, what);
 }
 
-int __wrap_rename(const char *from, const char *to)
+int __wrap_fchmod(int file, mode_t mode)
 {
-    log_call("rename", from);
-    return goes_wrong("rename") ? -1 : __real_rename(from, to);
+    return goes_wrong("fchmod") ? -1 : __real_fchmod(file, mode);
 }
 
-int __wrap_unlink(const char *path)
+int __wrap_renameat2(int from, const char *old, int to, const char *new, unsigned flags)
 {
-    log_call("unlink", path);
-    return goes_wrong("unlink") ? -1 : __real_unlink(path);
+    if (in_child)
+        log_call("rename", old);
+    return goes_wrong("rename") ? -1 : __real_renameat2(from, old, to, new, flags);
+}
+
+int __wrap_unlinkat(int folder, const char *path, int flags)
+{
+    if (in_child)
+        log_call("unlink", path);
+    return goes_wrong("unlink") ? -1 : __real_unlinkat(folder, path, flags);
+}
+
+int __wrap_fstatfs(int file, struct statfs *state)
+{
+    int done = __real_fstatfs(file, state);
+
+    if (in_child && fault_setting.file_system != 0)
+        state->f_type = fault_setting.file_system;
+    return done;
 }
 
 struct coffee_answer __wrap_coffee_run(const uint8_t *program, size_t program_bytes,
@@ -167,17 +205,18 @@ struct coffee_answer __wrap_coffee_run(const uint8_t *program, size_t program_by
                                        size_t request_count, uint32_t limit, uint8_t *buffer,
                                        size_t buffer_bytes)
 {
-    struct coffee_answer refused = {(uint32_t)setting("FAULT_REFUSAL"), 0, 0};
+    struct coffee_answer refused = {fault_setting.refusal, 0, 0};
 
-    if (refused.refusal != 0)
+    if (in_child && refused.refusal != 0)
         return refused;
+    goes_wrong("coffee_run");
     return __real_coffee_run(program, program_bytes, cells, cell_count, image, image_bytes,
                              requests, request_count, limit, buffer, buffer_bytes);
 }
 
 uint32_t __wrap_coffee_reset(uint8_t *buffer, size_t buffer_bytes)
 {
-    uint32_t refusal = (uint32_t)setting("FAULT_REFUSAL");
-
-    return refusal != 0 ? refusal : __real_coffee_reset(buffer, buffer_bytes);
+    if (in_child && fault_setting.refusal != 0)
+        return fault_setting.refusal;
+    return __real_coffee_reset(buffer, buffer_bytes);
 }

@@ -1,0 +1,27 @@
+/* The file that a save replaces: found, locked, and still the same. A lock lies on the open file,
+   so it does not depend on a name, and vanishes with its process. */
+#ifndef LOCK_H
+#define LOCK_H
+
+#include "files.h"
+
+/* Which files a save may replace: one that is there; none; either. */
+enum target { EXISTING, ABSENT, ANY };
+
+/* A file, open and locked, and its state then; or -1 for none. */
+struct locked {
+    int file;
+    struct stat state;
+};
+
+/* Locks an open file for this process, or fails at once. */
+bool lock(int file);
+
+/* Locks the file at a place, if there is one, or complains by the path that was typed. */
+bool lock_target(const char *path, const struct place *place, enum target target,
+                 struct locked *locked);
+
+/* Whether a locked file is where it was, and as it was. */
+bool unchanged(const struct place *place, const struct locked *locked);
+
+#endif
