@@ -10,7 +10,7 @@ use Rattle.word.specs.Choice.{if_then_else_}
 use Rattle.machine.specs.Machine.{Machine, Memory}
 use Rattle.formed.specs.Questions.{allBelow, readBy}
 use Rattle.formed.proofs.Tests.{Passed, no-more, _also_}
-use Rattle.image.specs.Image.{readImage}
+use Rattle.image.specs.Image.{question2, readImage}
 use Rattle.emulator.specs.Run.{answers, firstNo, askedBy, ask}
 use Rattle.emulator.proofs.Questions.{none-passed, first-among, asked-no, said, ofImage, read-says}
 
@@ -38,6 +38,10 @@ module _ (p image : List ℕ) (memory : Memory) (requests : List ℕ) (limit roo
     past-sizes : ask p image memory requests limit room ≡ askedBy (firstNo 2 (ofImage image ++ ofCall requests limit room)) (said image)
     unfolding ask answers firstNo ofCall if_then_else_
     past-sizes = rw (le-leb (length p) 65536 g, le-leb (length (memory .cells)) 65536 h)
+
+    pub sections-no : question2 image ≡ false → askedBy 2 m ≡ ask p image memory requests limit room
+    unfolding firstNo askedBy if_then_else_
+    sections-no e = sym (past-sizes ∙ rw e)
 
     pub image-no : (n : ℕ) → readBy n m ≡ readImage image → (n ≡ 0 → ⊥) → askedBy n m ≡ ask p image memory requests limit room
     image-no n e z =

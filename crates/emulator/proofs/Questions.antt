@@ -1,6 +1,6 @@
 -- The questions in order: the first no gives the call's refusal, and a call without one starts. Assumes nothing.
 use mathlib.Core.Path.{_≡_, refl, sym, ap, _∙_}
-use mathlib.Core.Bool.{Bool, true, false, not, true≢false, _&&_}
+use mathlib.Core.Bool.{Bool, true, false, not, true≢false}
 use mathlib.Core.List.{List, [], _∷_, _++_}
 use Prim.Native.Nat.{ℕ, zero, suc, _+_, _-_, _≤_, _<_, suc-le-suc}
 use native.Mathlib.Omega.{arith}
@@ -12,7 +12,7 @@ use Rattle.word.specs.Choice.{if_then_else_}
 use Rattle.word.proofs.Tests.{and-parts, and-both}
 use Rattle.codec.specs.Number.{numbersOf}
 use Rattle.machine.specs.Machine.{Machine, Memory}
-use Rattle.formed.specs.Questions.{allBelow, question3, question4, question5, Read, Refused, Accepted, askMachine, readBy}
+use Rattle.formed.specs.Questions.{question3, question4, question5, Refused, Accepted, askMachine, readBy}
 use Rattle.formed.proofs.Tests.{Passed, no-more, _also_, below-true, true-below}
 use Rattle.image.specs.Image.{machineIn, question2, readImage}
 use Rattle.emulator.specs.Run.{Call, answers, firstNo, No, Start, askedBy, ask, asked}

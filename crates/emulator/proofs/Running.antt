@@ -1,12 +1,12 @@
 -- The steps of a call and the call itself, by what its code does. Assumes nothing.
-use mathlib.Core.Path.{_≡_, refl, sym, ap, _∙_}
+use mathlib.Core.Path.{_≡_, sym, ap, _∙_}
 use mathlib.Core.Bool.{true}
 use mathlib.Core.List.{List}
-use Prim.Native.Nat.{ℕ, zero, suc, _+_, _-_, _≤_, _<_}
+use Prim.Native.Nat.{ℕ, suc, _+_, _-_, _≤_, _<_}
 use native.Mathlib.Omega.{arith}
 use lib.ListN.{length, getD}
 use Rattle.codec.specs.Number.{over}
-use Rattle.machine.specs.Machine.{Machine, Memory}
+use Rattle.machine.specs.Machine.{Memory}
 use Rattle.machine.specs.Words.{machineOf, stateOf}
 use Rattle.formed.specs.Questions.{wellFormed}
 use Rattle.image.specs.Image.{writeImage}

@@ -51,9 +51,13 @@ fn refusal(
     if MOST_MEMORY < cells.len() {
         return 1;
     }
-    let read = image::read(image, w);
-    if read != 0 {
-        return read;
+    if !image::sections_fit(image) {
+        return 2;
+    }
+    image::read(image, w);
+    let first = formed::ask_machine(w);
+    if first != 0 {
+        return first;
     }
     if !formed::all_below(requests, 0x1000) {
         return 6;

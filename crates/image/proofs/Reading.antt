@@ -1,20 +1,20 @@
 -- Question 2 as the code asks it, and the words that it reads from an image. Assumes nothing.
-use mathlib.Core.Path.{_≡_, refl, sym, ap, _∙_}
+use mathlib.Core.Path.{_≡_, sym, ap, _∙_}
 use mathlib.Core.Bool.{true, false, _&&_, and-true, and-false, and-assoc}
 use mathlib.Core.List.{List}
-use Prim.Native.Nat.{ℕ, zero, suc, _+_, _*_, _/_, _≤_, _<_}
+use Prim.Native.Nat.{ℕ, _+_, _*_, _/_, _≤_, _<_}
 use native.Mathlib.Omega.{arith}
 use lib.Dec.{eqb}
-use lib.ListN.{length, getD, take}
+use lib.ListN.{length, take}
 use borrow.Author.Tests.{le-leb, lt-leb, ne-eqb}
 use Rattle.word.specs.Choice.{if_then_else_}
 use Rattle.codec.specs.Number.{numberAt, numbersOf, over}
 use Rattle.codec.proofs.Laws.{getD-numbersOf, take-over, getD-over-front, length-over}
+use Rattle.machine.specs.Machine.{Machine}
 use Rattle.machine.specs.Words.{SOURCES, DEPTH, WORDS, machineOf}
-use Rattle.machine.proofs.Flat.{depth-is}
-use Rattle.formed.specs.Questions.{all, Read, Refused, Accepted, askMachine, readBy}
-use Rattle.image.specs.Image.{STACK-AT, countOf, machineIn, imageBytes, SHORTEST, sectionTests, question2, readImage, loaded, loadedBy}
-use Rattle.image.proofs.Sections.{Counted, same-order, machineIn-imageNumbers, counts-machineIn, imageNumbers-machineIn}
+use Rattle.formed.specs.Questions.{all, askMachine}
+use Rattle.image.specs.Image.{STACK-AT, countOf, machineIn, imageBytes, SHORTEST, sectionTests, question2, readImage}
+use Rattle.image.proofs.Sections.{Counted, same-order, machineIn-imageNumbers, depth-machineIn, counts-machineIn, imageNumbers-machineIn}
 use Rattle.image.proofs.Image.{sectioned}
 
 -- ---- question 2
@@ -45,10 +45,6 @@ module _ (s : List ℕ) where
         and-true,
       )
 
-pub refused-2 : (s w : List ℕ) → question2 s ≡ false → loadedBy 2 w ≡ loaded w (readImage s)
-unfolding readImage loadedBy loaded if_then_else_
-refused-2 s w e = rw e
-
 -- ---- an image that passes question 2
 
 -- words with the counts say the machine of the numbers before their last entry
@@ -77,11 +73,8 @@ module _ (s w : List ℕ) (e : question2 s ≡ true) (h : length w ≡ WORDS) wh
         position = getD-over-front (numbersOf s) w 121 (omega arith) ∙ z .counted .position;
       }
 
-  pub read-length : length ws ≡ WORDS
+  read-length : length ws ≡ WORDS
   read-length = let z = sectioned s e in length-over (numbersOf s) w (omega arith) ∙ h
-
-  pub read-deep : length (machineOf ws .stack) ≤ SOURCES
-  read-deep = let z = sectioned s e in omega (arith, depth-is ws, read-depth)
 
   -- the running words say the machine that the image's numbers say
   pub read-words : machineOf ws ≡ machineIn (numbersOf s)
@@ -92,30 +85,13 @@ module _ (s w : List ℕ) (e : question2 s ≡ true) (h : length w ≡ WORDS) wh
       let all = machine-front ws read-counted (omega (arith, read-length)) in
       sym (ap machineIn (sym front) ∙ all ∙ same-order ws)
 
-  pub read-machine : askMachine (machineOf ws) ≡ readImage s
+-- ---- questions 3 to 5 of it
+
+module _ (s : List ℕ) (e : question2 s ≡ true) where
+  pub said-deep : length (machineIn (numbersOf s) .stack) ≤ SOURCES
+  said-deep = let z = sectioned s e in omega (arith, depth-machineIn (numbersOf s))
+
+  -- what is asked of words that say its machine is asked of it
+  pub said-asked : (m : Machine) → m ≡ machineIn (numbersOf s) → askMachine m ≡ readImage s
   unfolding readImage if_then_else_
-  read-machine =
-      let asked : readImage s ≡ askMachine (machineIn (numbersOf s)) = rw e in
-      ap askMachine read-words ∙ sym asked
-
--- ---- what is lent
-
-module _ (w words : List ℕ) where
-  -- refused: the words stay
-  pub loaded-no : (n : ℕ) (r : Read) → readBy n (machineOf words) ≡ r → (n ≡ 0 → ⊥) → loadedBy n w ≡ loaded w r
-  unfolding readBy loadedBy loaded
-  loaded-no zero r e z = absurd (z refl)
-  loaded-no (suc n) r e z = rw (← e)
-
-  -- accepted: they are those that were asked
-  pub loaded-yes : (n : ℕ) (r : Read) → readBy n (machineOf words) ≡ r → n ≡ 0 → loadedBy 0 words ≡ loaded w r
-  unfolding readBy loadedBy loaded
-  loaded-yes n r e z = rw (← (rw z at e))
-
-  -- so the words after a reading say what the image says
-  pub loaded-read : (n : ℕ) (r : Read) → loadedBy n words ≡ loaded w r → readBy n (machineOf words) ≡ r
-  unfolding readBy loadedBy loaded
-  loaded-read zero (Refused k) e = absurd (let z : _≡_ {A = ℕ} 0 1 = cc in omega arith)
-  loaded-read zero (Accepted m) e = cc
-  loaded-read (suc n) (Refused k) e = cc
-  loaded-read (suc n) (Accepted m) e = absurd (let z : _≡_ {A = ℕ} 0 1 = cc in omega arith)
+  said-asked m same = rw (same, e)

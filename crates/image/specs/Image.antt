@@ -7,8 +7,8 @@ use lib.Dec.{leb, eqb}
 use Rattle.word.specs.Choice.{if_then_else_}
 use Rattle.codec.specs.Number.{numbersOf, bytesOf}
 use Rattle.machine.specs.Machine.{Machine}
-use Rattle.machine.specs.Words.{REGISTERS, FLAGS, OFFSETS, PLACES, SOURCES, section, positionOf, entriesOf, machineOf}
-use Rattle.formed.specs.Questions.{all, Read, Refused, Accepted, askMachine}
+use Rattle.machine.specs.Words.{REGISTERS, FLAGS, OFFSETS, PLACES, SOURCES, section, positionOf, entriesOf}
+use Rattle.formed.specs.Questions.{all, Read, Refused, askMachine}
 use Rattle.machine.specs.declared.Position.{Position}
 use Rattle.machine.specs.declared.Entry.{Entry}
 
@@ -104,24 +104,7 @@ question2 image = all (sectionTests (length image) (numbersOf image))
 unfoldable pub readImage : (image : List ℕ) → Read
 readImage image = if question2 image then askMachine (machineIn (numbersOf image)) else Refused 2
 
--- ---- an image read into lent words
-
--- what the words are afterwards: such as say a machine, or, with the number of a refusal, what they were
-pub data Loaded : Type 0 where
-  Holds : Machine → Loaded
-  Kept : (no : ℕ) (words : List ℕ) → Loaded
-
--- "Every refusal by any public function .. changes no lent memory"
-unfoldable pub loaded : (words : List ℕ) → Read → Loaded
-loaded words (Refused n) = Kept n words
-loaded words (Accepted m) = Holds m
-
--- what an answer and the words after it say: 0 accepts
-unfoldable pub loadedBy : (answer : ℕ) (words : List ℕ) → Loaded
-loadedBy zero words = Holds (machineOf words)
-loadedBy (suc n) words = Kept (suc n) words
-
 -- to unfold `sections` is to unfold all definitions of this file
 unfoldable pub sections : Unit {0}
-unfolding positionNumbers entryNumbers imageNumbers writeImage machineIn sectionTests question2 readImage loaded loadedBy
+unfolding positionNumbers entryNumbers imageNumbers writeImage machineIn sectionTests question2 readImage
 sections = tt

@@ -1,11 +1,12 @@
-// The machine image: read, written, and at reset. An image becomes the machine's words once, and questions 3 to 5 are asked of those.
+// The machine image: question 2, reading, writing, and the image at reset. An image becomes the machine's words once; questions 3 to 5 are asked of those.
 ghost use mathlib.Core.Path.{_≡_};
+ghost use mathlib.Core.Bool.{true};
 ghost use Prim.Native.Nat.{_≤_};
 ghost use lib.ListN.{length};
-ghost use Rattle.codec.specs.Number.{over};
+ghost use Rattle.codec.specs.Number.{numbersOf, over};
 ghost use Rattle.machine.specs.Control.{reset as resetOf};
 ghost use Rattle.machine.specs.Words.{SOURCES, MachineWords, machineOf};
-ghost use Rattle.image.specs.Image.{imageBytes, question2, readImage, loaded, loadedBy, writeImage};
+ghost use Rattle.image.specs.Image.{imageBytes, machineIn, question2, writeImage};
 
 // Bytes of an image with no stack entries, and of the longest.
 pub const SHORTEST: usize = 4 * machine::ENTRIES;
@@ -37,7 +38,7 @@ const STACK_COUNT: usize = machine::DEPTH;
 // ---- question 2
 
 // Whether an image has exactly the sections and counts. The count at place n of the numbers begins at byte 4 × n.
-fn sections_fit(image: &[u8]) -> bool
+pub fn sections_fit(image: &[u8]) -> bool
     ensures { λ r. ⌜ r ≡ question2 (now (image .entry)) ⌝ }
 {
     if image.len() < SHORTEST {
@@ -58,24 +59,12 @@ fn sections_fit(image: &[u8]) -> bool
 
 // ---- reading
 
-// Reads an image: the number of the first question that says no, and then the lent words stay; or 0, and they hold the machine. It is read aside, so that
-// questions 3 to 5 come before anything lent is written.
-pub fn read(image: &[u8], w: &mut [u32]) -> u32
-    requires { ⌜ MachineWords (now w) ⌝ }
-    ensures { λ r. ⌜ loadedBy r (now (w .exit)) ≡ loaded (now (w .entry)) (readImage (now (image .entry))) ⌝ }
+// Reads an image with its sections into the machine's words. Nothing is refused here: question 2 comes before anything lent is written.
+pub fn read(image: &[u8], w: &mut [u32])
+    requires { ⌜ MachineWords (now w) × (question2 (now image) ≡ true) ⌝ }
+    ensures { λ _. ⌜ machineOf (now (w .exit)) ≡ machineIn (numbersOf (now (image .entry))) ⌝ }
 {
-    if sections_fit(image) {
-        let mut words = [0u32; machine::WORDS];
-        codec::read_numbers(image, &mut words);
-        let no = formed::ask_machine(&words);
-        if no != 0 {
-            return no;
-        }
-        codec::copy(&words, w);
-        0
-    } else {
-        2
-    }
+    codec::read_numbers(image, w);
 }
 
 // ---- writing
