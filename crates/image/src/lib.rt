@@ -5,7 +5,7 @@ ghost use Prim.Native.Nat.{_≤_};
 ghost use lib.ListN.{length};
 ghost use Rattle.codec.specs.Number.{numbersOf, over};
 ghost use Rattle.machine.specs.Control.{reset as resetOf};
-ghost use Rattle.machine.specs.Words.{SOURCES, MachineWords, machineOf};
+ghost use Rattle.machine.specs.Words.{SOURCES, MachineWords, machineOf, Says};
 ghost use Rattle.image.specs.Image.{imageBytes, machineIn, question2, writeImage};
 
 // Bytes of an image with no stack entries, and of the longest.
@@ -62,7 +62,7 @@ pub fn sections_fit(image: &[u8]) -> bool
 // Reads an image with its sections into the machine's words. Nothing is refused here: question 2 comes before anything lent is written.
 pub fn read(image: &[u8], w: &mut [u32])
     requires { ⌜ MachineWords (now w) × (question2 (now image) ≡ true) ⌝ }
-    ensures { λ _. ⌜ machineOf (now (w .exit)) ≡ machineIn (numbersOf (now (image .entry))) ⌝ }
+    ensures { λ _. ⌜ Says (now (w .exit)) (machineIn (numbersOf (now (image .entry)))) ⌝ }
 {
     codec::read_numbers(image, w);
 }
@@ -139,7 +139,7 @@ const SPSR: usize = machine::SET2 + machine::SPSR as usize;
 
 // Words that say the machine at reset.
 pub fn reset() -> [u32; machine::WORDS]
-    ensures { λ r. ⌜ machineOf r ≡ resetOf ⌝ }
+    ensures { λ r. ⌜ Says r resetOf ⌝ }
 {
     let control = RESET;
     let mut words = [0u32; machine::WORDS];
