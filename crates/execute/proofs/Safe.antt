@@ -3,11 +3,10 @@ use mathlib.Core.Path.{_≡_, refl}
 use mathlib.Core.Bool.{Bool, true, false}
 use mathlib.Core.Option.{Option, none, some}
 use mathlib.Core.List.{List}
-use Prim.Native.Nat.{ℕ, _+_, _^_, _≤_, _<_}
+use Prim.Native.Nat.{ℕ, _≤_}
 use native.Mathlib.Omega.{arith}
 use lib.Dec.{lit≤}
 use lib.IntN.{ℤ}
-use borrow.Author.Tests.{le-leb}
 use Rattle.word.specs.Choice.{if_then_else_}
 use Rattle.word.specs.Word.{wordOf}
 use Rattle.word.specs.declared.Sum.{Sum}
@@ -18,8 +17,8 @@ use Rattle.isa.specs.declared.Instruction.{Instruction}
 use Rattle.machine.specs.Machine.{State, userMode, widthOf}
 use Rattle.view.specs.View.{Attempt, Found, Raises, Stops, Location, Block, Cell, View, view}
 use Rattle.view.proofs.Addresses.{Reached}
-use Rattle.view.proofs.Answers.{Code, protects, tests, traps, Numbered, AnswersNumbered, view-numbered}
-use Rattle.word.proofs.Tests.{and-both, if-holds}
+use Rattle.view.proofs.Answers.{Code, tests, traps, Numbered, AnswersNumbered, view-numbered}
+use Rattle.word.proofs.Tests.{if-holds}
 use Rattle.word.proofs.Bounds.{word-below}
 use Rattle.operation.specs.Execute.{checked, wrapped, product, onFound, stored, targetBy, jumped, branch, execute}
 use Rattle.execute.specs.Decide.{perform, ifAvailable, instruction, fetchedThen, decide}
@@ -95,16 +94,12 @@ super-only w false e = refl
 -- the code of one that is not, or 0
 unavailable-coded : (a : Availability) (w : Width) (user : Bool) → Code (codeOf (unavailable a w user))
 unfolding unavailable codeOf
-unavailable-coded anywhere w user = protects refl
+unavailable-coded anywhere w user = tests refl
 unavailable-coded wideOnly w16 user = tests refl
-unavailable-coded wideOnly w32 user = protects refl
+unavailable-coded wideOnly w32 user = tests refl
 unavailable-coded superOnly w true = tests refl
-unavailable-coded superOnly w false = protects refl
+unavailable-coded superOnly w false = tests refl
 unavailable-coded nowhere w user = tests refl
-
--- "trap n has code 224 + n"
-trap-coded : (n : ℕ) → n < 2 ^ 5 → Code (224 + n)
-trap-coded n h = traps (and-both _ _ (le-leb 224 (224 + n) (omega arith)) (le-leb (224 + n) 255 (omega arith)))
 
 module _ (v : View) (h : AnswersNumbered v) (i : Instruction) (x y : ℕ) where
   execute-safe : (op : Operation) → Available v op → Safe v (execute op v i x y)
@@ -164,7 +159,7 @@ module _ (v : View) (h : AnswersNumbered v) (i : Instruction) (x y : ℕ) where
   execute-safe di e = tt
   execute-safe ei e = tt
   execute-safe swm e = tt
-  execute-safe trap e = trap-coded _ (word-below 5 (i .immediate))
+  execute-safe trap e = traps _ (word-below 5 (i .immediate)) refl
   execute-safe scon e = tt
   execute-safe rcon e = tt
   execute-safe unknown e = tests refl

@@ -1,14 +1,14 @@
 -- The codes of exceptions: those of 01, and no other. Assumes nothing.
 use mathlib.Core.Path.{_≡_, refl}
-use mathlib.Core.Bool.{Bool, true, false, _||_}
+use mathlib.Core.Bool.{true}
 use mathlib.Core.List.{List}
 use mathlib.Core.Option.{Option, none, some}
 use Prim.Native.Nat.{ℕ}
-use lib.Dec.{eqb}
-use Rattle.isa.specs.Theorems.{between}
+use native.Mathlib.Omega.{arith}
+use Rattle.isa.proofs.Table.{values, agree}
 use Rattle.machine.specs.Machine.{State}
 use Rattle.view.specs.View.{View, view}
-use Rattle.view.proofs.Answers.{Code, protects, tests, traps}
+use Rattle.view.proofs.Answers.{Code, tests, traps}
 use Rattle.execute.specs.Decide.{decide}
 use Rattle.execute.proofs.Safe.{Safe, decide-safe}
 use Rattle.effect.specs.Effect.{Effect, Stopped, Raised, SystemCall, InterruptReturn, StoreCell, Updates}
@@ -28,15 +28,10 @@ Coded kind.SystemCall = Unit {0}
 Coded kind.InterruptReturn = Unit {0}
 Coded (kind.Stop n) = Unit {0}
 
-or-true : (a : Bool) → a || true ≡ true
-or-true true = refl
-or-true false = refl
-
 code-is : (c : ℕ) → Code c → isCode c ≡ true
-unfolding isCode
-code-is c (protects e) = rw e
-code-is c (tests e) = rw (e, or-true (eqb c 0))
-code-is c (traps e) = rw (e, or-true (eqb c 0 || between 0x01 0x09 c))
+unfolding isCode values
+code-is c (tests e) = rw e
+code-is c (traps n h e) = agree isCode (λ c. true) 224 32 refl c (omega arith) (omega arith)
 
 effect-coded : (v : View) (s : State) (e : Effect) → Safe v e → Coded (apply e s .kind)
 unfolding apply machineOnly storeCell

@@ -2,21 +2,20 @@
 use mathlib.Core.Path.{_≡_, refl}
 use mathlib.Core.List.{List}
 use mathlib.Core.Option.{Option, none, some}
-use Prim.Native.Nat.{ℕ, zero, suc, _*_, _+_, _≤_}
-use lib.Dec.{lit≤}
+use Prim.Native.Nat.{ℕ, zero, suc, _*_, _+_, _≤_, _<_}
+use lib.Dec.{eqb, lit≤}
 use lib.IntN.{ℤ}
 use lib.ListN.{getElem?}
-use mathlib.Core.Bool.{Bool, true}
+use mathlib.Core.Bool.{Bool, true, _||_}
 use Rattle.word.proofs.Tests.{if-holds}
 use Rattle.isa.specs.Theorems.{between}
 use Rattle.machine.specs.Machine.{State}
 use Rattle.view.specs.View.{Attempt, Found, Raises, Stops, mapFound, byteThen, bytesAt, fetchAt, foundAt, placeAt, View, view}
 
--- a code of an exception: of the tests of an instruction, or of trap
+-- a code of an exception: of a test of an instruction, or "trap n has code 224 + n"
 pub data Code (c : ℕ) : Type 0 where
-  protects : c ≡ 0x00 → Code c
-  tests : between 0x01 0x09 c ≡ true → Code c
-  traps : between 224 255 c ≡ true → Code c
+  tests : eqb c 0x00 || between 0x01 0x09 c ≡ true → Code c
+  traps : (n : ℕ) → n < 32 → c ≡ 224 + n → Code c
 
 -- an exception has such a code, a stop a number of 01's, 11 to 15
 abbrev pub Numbered : {A : Type 0} → Attempt A → Type 0
@@ -42,7 +41,7 @@ bytes-numbered program (suc n) a w = byte-numbered (getElem? program a) _ (λ x.
 
 fetch-numbered : (program : List ℕ) (low high : ℕ) (user : Bool) (n pc : ℕ) → Numbered (fetchAt program low high user n pc)
 unfolding fetchAt
-fetch-numbered program low high user n pc = if-holds Numbered _ (λ _. tests refl) (λ _. if-holds Numbered _ (λ _. protects refl) (λ _. bytes-numbered program n pc 0))
+fetch-numbered program low high user n pc = if-holds Numbered _ (λ _. tests refl) (λ _. if-holds Numbered _ (λ _. tests refl) (λ _. bytes-numbered program n pc 0))
 
 place-numbered : (s : State) (z : ℤ) → Numbered (placeAt s z)
 unfolding placeAt foundAt
