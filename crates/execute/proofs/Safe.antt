@@ -10,7 +10,7 @@ use lib.IntN.{ℤ}
 use Rattle.word.specs.Choice.{if_then_else_}
 use Rattle.word.specs.Word.{wordOf}
 use Rattle.word.specs.declared.Sum.{Sum}
-use Rattle.isa.specs.Operation.{Operation, nop, add, addu, sub, subu, and, or, xor, muls, mulu, mulus, muls16, mulu16, mulus16, sll, srl, sra, sext, addi, addiu, andi, ori, muli, slli, srli, srai, sexti, ld, st, mov, not, mulhi, cmp, cmpi, lli, lui, jmp, jal, jmpr, jalr, bc, begt, belt, beq, bgt, blt, bne, bnc, scall, retu, reti, chrs, di, ei, swm, trap, scon, rcon, unknown, operationOf, Width, w16, w32, Availability, anywhere, wideOnly, superOnly, nowhere, unavailable, codeOf, properties}
+use Rattle.isa.specs.Operation.{Operation, nop, add, addu, sub, subu, and, or, xor, muls, mulu, mulus, muls16, mulu16, mulus16, sll, srl, sra, sext, addi, addiu, andi, ori, muli, slli, srli, srai, sexti, ld, st, mov, not, mulhi, cmp, cmpi, lli, lui, jmp, jal, jmpr, jalr, bc, begt, belt, beq, bgt, blt, bne, bnc, scall, retu, reti, chrs, di, ei, swm, trap, scon, rcon, conb, conh, exb, exh, exbf, exbfi, operationOf, Width, w16, w32, Availability, anywhere, wideOnly, superOnly, unavailable, codeOf, properties}
 use Rattle.isa.specs.Condition.{Condition}
 use Rattle.isa.specs.Decode.{decode}
 use Rattle.isa.specs.declared.Instruction.{Instruction}
@@ -99,7 +99,6 @@ unavailable-coded wideOnly w16 user = tests refl
 unavailable-coded wideOnly w32 user = tests refl
 unavailable-coded superOnly w true = tests refl
 unavailable-coded superOnly w false = tests refl
-unavailable-coded nowhere w user = tests refl
 
 module _ (v : View) (h : AnswersNumbered v) (i : Instruction) (x y : ℕ) where
   execute-safe : (op : Operation) → Available v op → Safe v (execute op v i x y)
@@ -162,7 +161,12 @@ module _ (v : View) (h : AnswersNumbered v) (i : Instruction) (x y : ℕ) where
   execute-safe trap e = traps _ (word-below 5 (i .immediate)) refl
   execute-safe scon e = tt
   execute-safe rcon e = tt
-  execute-safe unknown e = tests refl
+  execute-safe conb e = tt
+  execute-safe conh e = tt
+  execute-safe exb e = tt
+  execute-safe exh e = tt
+  execute-safe exbf e = tt
+  execute-safe exbfi e = tt
 
 -- ---- the order of the tests
 
