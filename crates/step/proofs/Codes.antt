@@ -1,6 +1,6 @@
--- The codes of exceptions: those of 01, and no other. Assumes nothing.
-use mathlib.Core.Path.{_≡_, refl}
-use mathlib.Core.Bool.{true}
+-- The codes of exceptions: those of 01 but for 01h, and no other. Assumes nothing.
+use mathlib.Core.Path.{_≡_, refl, sym}
+use mathlib.Core.Bool.{true, true≢false}
 use mathlib.Core.List.{List}
 use mathlib.Core.Option.{Option, none, some}
 use Prim.Native.Nat.{ℕ}
@@ -17,7 +17,7 @@ use Rattle.effect.specs.Kind.{Kind}
 use Rattle.effect.specs.Kind as kind
 use Rattle.step.specs.Interrupt.{withRequests, acceptedSource}
 use Rattle.step.specs.Step.{interruptOr, step}
-use Rattle.step.specs.Codes.{isCode, ExceptionCodes}
+use Rattle.step.specs.Codes.{isCode, ExceptionCodes, Never01h}
 
 -- an exception has a code of those
 abbrev Coded : Kind → Type 0
@@ -53,3 +53,7 @@ step-coded p s q = let r = withRequests q s in taken-coded p (acceptedSource (vi
 
 pub exception-codes : ExceptionCodes
 exception-codes p s q c e = rw e at (step-coded p s q)
+
+pub never-01h : Never01h
+unfolding isCode
+never-01h p s q e = true≢false (sym (exception-codes p s q 0x01 e))

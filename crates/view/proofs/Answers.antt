@@ -14,7 +14,7 @@ use Rattle.view.specs.View.{Attempt, Found, Raises, Stops, mapFound, byt
 
 -- a code of an exception: of a test of an instruction, or "trap n has code 224 + n"
 pub data Code (c : ℕ) : Type 0 where
-  tests : eqb c 0x00 || between 0x01 0x09 c ≡ true → Code c
+  tests : eqb c 0x00 || between 0x02 0x09 c ≡ true → Code c
   traps : (n : ℕ) → n < 32 → c ≡ 224 + n → Code c
 
 -- an exception has such a code, a stop a number of 01's, 11 to 15
