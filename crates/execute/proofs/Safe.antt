@@ -1,4 +1,4 @@
--- What a decision can be: a stop is one of the five, a store goes to a place that passed the data tests, and a privileged effect is not user mode's. Assumes nothing.
+-- What a decision can be: a stop is one of the five, an exception has a code of 01's, a store goes to a place that passed the data tests, and a privileged effect is not user mode's. Assumes nothing.
 use mathlib.Core.Path.{_≡_, refl}
 use mathlib.Core.Bool.{Bool, true, false}
 use mathlib.Core.Option.{Option, none, some}
@@ -10,15 +10,16 @@ use lib.IntN.{ℤ}
 use Rattle.word.specs.Choice.{if_then_else_}
 use Rattle.word.specs.Word.{wordOf}
 use Rattle.word.specs.declared.Sum.{Sum}
-use Rattle.isa.specs.Operation.{Operation, nop, add, addu, sub, subu, and, or, xor, muls, mulu, mulus, muls16, mulu16, mulus16, sll, srl, sra, sext, addi, addiu, andi, ori, muli, slli, srli, srai, sexti, ld, st, mov, not, mulhi, cmp, cmpi, lli, lui, jmp, jal, jmpr, jalr, bc, begt, belt, beq, bgt, blt, bne, bnc, scall, retu, reti, chrs, di, ei, swm, trap, scon, rcon, unknown, operationOf, Width, superOnly, unavailable, properties}
+use Rattle.isa.specs.Operation.{Operation, nop, add, addu, sub, subu, and, or, xor, muls, mulu, mulus, muls16, mulu16, mulus16, sll, srl, sra, sext, addi, addiu, andi, ori, muli, slli, srli, srai, sexti, ld, st, mov, not, mulhi, cmp, cmpi, lli, lui, jmp, jal, jmpr, jalr, bc, begt, belt, beq, bgt, blt, bne, bnc, scall, retu, reti, chrs, di, ei, swm, trap, scon, rcon, conb, conh, exb, exh, exbf, exbfi, operationOf, Width, w16, w32, Availability, anywhere, wideOnly, superOnly, unavailable, codeOf, properties}
 use Rattle.isa.specs.Condition.{Condition}
 use Rattle.isa.specs.Decode.{decode}
 use Rattle.isa.specs.declared.Instruction.{Instruction}
 use Rattle.machine.specs.Machine.{State, userMode, widthOf}
 use Rattle.view.specs.View.{Attempt, Found, Raises, Stops, Location, Block, Cell, View, view}
 use Rattle.view.proofs.Addresses.{Reached}
-use Rattle.view.proofs.Answers.{Numbered, StopsNumbered, view-numbered}
+use Rattle.view.proofs.Answers.{Code, tests, traps, Numbered, AnswersNumbered, view-numbered}
 use Rattle.word.proofs.Tests.{if-holds}
+use Rattle.word.proofs.Bounds.{word-below}
 use Rattle.operation.specs.Execute.{checked, wrapped, product, onFound, stored, targetBy, jumped, branch, execute}
 use Rattle.execute.specs.Decide.{perform, ifAvailable, instruction, fetchedThen, decide}
 use Rattle.effect.specs.Update.{Update}
@@ -44,7 +45,7 @@ SafeUpdate v (update.SwitchWidth w) = Unit {0}
 -- and of effects
 abbrev pub Safe : View → Effect → Type 0
 Safe v (Stopped n) = (11 ≤ n) × (n ≤ 15)
-Safe v (Raised c) = Unit {0}
+Safe v (Raised c) = Code c
 Safe v SystemCall = Unit {0}
 Safe v InterruptReturn = v .nested ≡ true
 Safe v (StoreCell a x) = Reached v (Cell a)
@@ -58,12 +59,12 @@ module _ (v : View) where
 
   checked-safe : (d : ℕ) (s : Sum) → Safe v (checked d s)
   unfolding checked
-  checked-safe d s = if-safe _ _ _ (λ _. tt) (λ _. tt)
+  checked-safe d s = if-safe _ _ _ (λ _. tests refl) (λ _. tt)
 
   found-safe : {A : Type 0} (f : A → Effect) (t : Attempt A) → Numbered t → ((x : A) → t ≡ Found x → Safe v (f x)) → Safe v (onFound f t)
   unfolding onFound
   found-safe f (Found x) n h = h x refl
-  found-safe f (Raises c) n h = tt
+  found-safe f (Raises c) n h = n
   found-safe f (Stops k) n h = n
 
   stored-safe : (x : ℕ) (l : Location) → Reached v l → Safe v (stored x l)
@@ -73,7 +74,7 @@ module _ (v : View) where
 
   jumped-safe : (z : ℤ) (taken : ℕ → Effect) → ((t : ℕ) → Safe v (taken t)) → Safe v (jumped v z taken)
   unfolding jumped
-  jumped-safe z taken h = if-safe _ _ _ (λ _. tt) (λ _. if-safe _ _ _ (λ _. tt) (λ _. if-safe _ _ _ (λ _. tt) (λ _. h (wordOf 32 z))))
+  jumped-safe z taken h = if-safe _ _ _ (λ _. tests refl) (λ _. if-safe _ _ _ (λ _. tests refl) (λ _. if-safe _ _ _ (λ _. tests refl) (λ _. h (wordOf 32 z))))
 
   branch-safe : (when : Condition) (i : Instruction) → Safe v (branch when v i)
   unfolding branch
@@ -90,7 +91,16 @@ unfolding unavailable
 super-only w true e = absurd (let z : _≡_ {A = ℕ} 0 1 = cc in omega arith)
 super-only w false e = refl
 
-module _ (v : View) (h : StopsNumbered v) (i : Instruction) (x y : ℕ) where
+-- the code of one that is not, or 0
+unavailable-coded : (a : Availability) (w : Width) (user : Bool) → Code (codeOf (unavailable a w user))
+unfolding unavailable codeOf
+unavailable-coded anywhere w user = tests refl
+unavailable-coded wideOnly w16 user = tests refl
+unavailable-coded wideOnly w32 user = tests refl
+unavailable-coded superOnly w true = tests refl
+unavailable-coded superOnly w false = tests refl
+
+module _ (v : View) (h : AnswersNumbered v) (i : Instruction) (x y : ℕ) where
   execute-safe : (op : Operation) → Available v op → Safe v (execute op v i x y)
   unfolding execute wrapped product properties
   execute-safe nop e = tt
@@ -148,18 +158,23 @@ module _ (v : View) (h : StopsNumbered v) (i : Instruction) (x y : ℕ) where
   execute-safe di e = tt
   execute-safe ei e = tt
   execute-safe swm e = tt
-  execute-safe trap e = tt
+  execute-safe trap e = traps _ (word-below 5 (i .immediate)) refl
   execute-safe scon e = tt
   execute-safe rcon e = tt
-  execute-safe unknown e = tt
+  execute-safe conb e = tt
+  execute-safe conh e = tt
+  execute-safe exb e = tt
+  execute-safe exh e = tt
+  execute-safe exbf e = tt
+  execute-safe exbfi e = tt
 
 -- ---- the order of the tests
 
-module _ (v : View) (h : StopsNumbered v) where
+module _ (v : View) (h : AnswersNumbered v) where
   available-safe : (i : Instruction) (op : Operation) (o : Option ℕ)
       → unavailable (properties op .availability) (widthOf (v .status)) (userMode (v .status)) ≡ o → Safe v (ifAvailable v i op o)
-  unfolding ifAvailable perform
-  available-safe i op (some c) e = tt
+  unfolding ifAvailable perform codeOf
+  available-safe i op (some c) e = rw e at (unavailable-coded (properties op .availability) (widthOf (v .status)) (userMode (v .status)))
   available-safe i op none e =
       if-safe v _ _ _ (λ _. (lit≤ tt, lit≤ tt)) (λ _. if-safe v _ _ _ (λ _. tt) (λ _. execute-safe v h i (v .source (i .sreg1)) (v .source (i .sreg2)) op e))
 

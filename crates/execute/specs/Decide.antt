@@ -17,7 +17,7 @@ use Rattle.effect.specs.Effect.{Effect, Stopped, Raised, Next}
 unfoldable pub perform : View → Instruction → Operation → Effect
 perform v i op = execute op v i (v .source (i .sreg1)) (v .source (i .sreg2))
 
--- the code of 01h or 02h, if there is one; stop 13 for a control transfer in a slot, condition true or not; "condition false: nothing
+-- the code of 02h, if it is there; stop 13 for a control transfer in a slot, condition true or not; "condition false: nothing
 -- but PC moves"; its own effect
 unfoldable pub ifAvailable : View → Instruction → Operation → Option ℕ → Effect
 ifAvailable v i op (some code) = Raised code
@@ -26,7 +26,7 @@ ifAvailable v i op none =
     else if conditionFalse v i then Next
     else perform v i op
 
--- a decoded instruction: 01h unknown, 02h not in this width or mode; then the rest
+-- a decoded instruction: 02h not in this width or mode ("Code 01h no longer occurs"); then the rest
 unfoldable pub instruction : View → Instruction → Effect
 instruction v i =
     let op = operationOf (i .opcode) in

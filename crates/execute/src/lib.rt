@@ -16,6 +16,7 @@ use effect::next;
 use machine::wide_words;
 use operation::access;
 use operation::branches;
+use operation::fields;
 use operation::immediates;
 use operation::jumps;
 use operation::moves;
@@ -145,6 +146,25 @@ fn system_word(w: &mut [u32], word: u32, op: u32) -> u32
     }
 }
 
+// Words of operations 58 to 63: conb to exbfi. exbfi is not there in 16-bit words.
+fn field_word(w: &mut [u32], word: u32, op: u32) -> u32
+    requires { ⌜ MachineWords (now w) × (op ≡ opcodeOf (widthOf (psr (machineOf (now w)))) word) × (58 ≤ op) × (op ≤ 63) ⌝ }
+    ensures { λ r. ⌜ PerformsSeen (λ v. fetchedThen v (Found word)) r (now (w .entry)) (now (w .exit)) ⌝ }
+{
+    let code = unavailability(w, op);
+    if code != 0 {
+        return effect::raise(w, code);
+    }
+    let i = isa::decode_field(word, wide_words(w), op);
+    if condition_false(w, i) {
+        next(w)
+    } else {
+        let x = source(w, i.sreg1);
+        let y = source(w, i.sreg2);
+        fields(w, i, x, y)
+    }
+}
+
 // Words of the lower half of the operations, 0 to 28: nop to st.
 fn lower_half(w: &mut [u32], cells: &mut [u32], word: u32, op: u32) -> u32
     requires { ⌜ MachineWords (now w) × (op ≡ opcodeOf (widthOf (psr (machineOf (now w)))) word) × (op < 29) ⌝ }
@@ -158,7 +178,7 @@ fn lower_half(w: &mut [u32], cells: &mut [u32], word: u32, op: u32) -> u32
     }
 }
 
-// Words of the upper half: mov to rcon, and those that are unknown.
+// Words of the upper half, 29 to 63: mov to exbfi.
 fn upper_half(w: &mut [u32], word: u32, op: u32) -> u32
     requires { ⌜ MachineWords (now w) × (machineOf (now w) .position .pc < MOST-MEMORY) × StackShown (machineOf (now w)) × (op ≡ opcodeOf (widthOf (psr (machineOf (now w)))) word) × (29 ≤ op) ⌝ }
     ensures { λ r. ⌜ PerformsSeen (λ v. fetchedThen v (Found word)) r (now (w .entry)) (now (w .exit)) ⌝ }
@@ -168,7 +188,7 @@ fn upper_half(w: &mut [u32], word: u32, op: u32) -> u32
         36..=39 => jump_word(w, word, op),
         40..=47 => branch_word(w, word, op),
         48..=57 => system_word(w, word, op),
-        _ => effect::raise(w, 0x01),
+        _ => field_word(w, word, op),
     }
 }
 

@@ -6,7 +6,7 @@ use native.Mathlib.Omega.{arith}
 use Rattle.isa.specs.Operation.{operationOf, Width, w16, w32, Properties, properties}
 use Rattle.isa.specs.Computed.{instructions}
 use Rattle.isa.specs.Theorems.{codeAt}
-use Rattle.isa.proofs.Table.{values, agree, unknown-from}
+use Rattle.isa.proofs.Table.{values, agree}
 
 -- nop to cmpi may be used anywhere
 pub usable-low : (width : Width) (user : Bool) (n : ℕ) → n < 34 → codeAt width user n ≡ 0
@@ -30,15 +30,15 @@ usable-jump width user = agree (codeAt width user) (λ n. 0) 36 12 (computed wid
     computed w32 true = refl
     computed w32 false = refl
 
--- from 58 on they are unknown, 01h
-pub unknown-code : (width : Width) (user : Bool) (n : ℕ) → 58 ≤ n → codeAt width user n ≡ 0x01
-unfolding instructions
-unknown-code width user n h = rw (unknown-from n h)
-
 -- nop to lui are no control transfers
 pub no-transfer : (n : ℕ) → n < 36 → properties (operationOf n) .transfer ≡ false
 unfolding instructions values
 no-transfer n h = agree (λ n. properties (operationOf n) .transfer) (λ n. false) 0 36 refl n (omega arith) h
+
+-- nor are conb to exbfi
+pub no-field-transfer : (n : ℕ) → 58 ≤ n → n < 64 → properties (operationOf n) .transfer ≡ false
+unfolding instructions values
+no-field-transfer = agree (λ n. properties (operationOf n) .transfer) (λ n. false) 58 6 refl
 
 -- jumps and branches are
 pub transfers : (n : ℕ) → 36 ≤ n → n < 48 → properties (operationOf n) .transfer ≡ true

@@ -1,4 +1,4 @@
--- The table of operations against 01's sentences, each by one computed test; mnemonic-short is for a listing. Assumes nothing.
+-- The table of operations against the sentences of 01 and 02, each by one computed test; mnemonic-short is for a listing. Assumes nothing.
 use mathlib.Core.Path.{_≡_, refl}
 use mathlib.Core.Logic.{_≢_}
 use mathlib.Core.Option.{Option, none, some}
@@ -8,7 +8,7 @@ use native.Mathlib.Omega.{arith}
 use lib.Dec.{leb, eqb}
 use lib.ListN.{length}
 use borrow.Author.Tests.{leb-true, le-leb, lt-leb, ne-eqb}
-use Rattle.isa.specs.Operation.{operationOf, Width, w16, w32, widthBy, Availability, anywhere, wideOnly, superOnly, nowhere, unavailable, codeOf, properties}
+use Rattle.isa.specs.Operation.{operationOf, Width, w16, w32, widthBy, Availability, anywhere, wideOnly, superOnly, unavailable, codeOf, properties}
 use Rattle.isa.specs.Computed.{instructions}
 use Rattle.isa.specs.Theorems.{Numbered, between, ConditionalIs, TransferIs, codeAt, codeBy, UnavailableIs}
 use Rattle.isa.proofs.Table.{values, agree, by-number}
@@ -20,7 +20,7 @@ not-between low high n h = rw (lt-leb n high h) (and-false (leb low n))
 -- each row has its own number
 pub numbered : Numbered
 unfolding instructions values
-numbered n h = agree (λ n. properties (operationOf n) .number) (λ n. n) 0 58 refl n (omega arith) h
+numbered n h = agree (λ n. properties (operationOf n) .number) (λ n. n) 0 64 refl n (omega arith) h
 
 -- mnemonics have at most eight bytes
 pub mnemonic-short : (n : ℕ) → length (properties (operationOf n) .mnemonic) ≤ 8
@@ -29,10 +29,10 @@ mnemonic-short n = leb-true _ 8 (by-number (λ o. leb (length (properties o .mne
 
 pub conditional-is : ConditionalIs
 unfolding instructions values
-conditional-is = by-number (λ o. properties o .conditional) (λ n. (between 1 31 n || between 38 39 n) || eqb n 48) refl high
+conditional-is = by-number (λ o. properties o .conditional) (λ n. ((between 1 31 n || between 38 39 n) || eqb n 48) || between 58 62 n) refl high
   where
-    high : (n : ℕ) → 64 ≤ n → (between 1 31 n || between 38 39 n) || eqb n 48 ≡ false
-    high n h = rw (not-between 1 31 n (omega arith), not-between 38 39 n (omega arith), ne-eqb n 48 (λ e. omega arith))
+    high : (n : ℕ) → 64 ≤ n → ((between 1 31 n || between 38 39 n) || eqb n 48) || between 58 62 n ≡ false
+    high n h = rw (not-between 1 31 n (omega arith), not-between 38 39 n (omega arith), ne-eqb n 48 (λ e. omega arith), not-between 58 62 n (omega arith))
 
 pub transfer-is : TransferIs
 unfolding instructions values
@@ -51,8 +51,8 @@ unavailable-is wide user = by-number (λ o. codeOf (unavailable (properties o .a
     computed false true = refl
     computed false false = refl
 
-    high : (n : ℕ) → 64 ≤ n → codeBy wide user n ≡ 0x01
-    high n h = rw (le-leb 58 n (omega arith))
+    high : (n : ℕ) → 64 ≤ n → codeBy wide user n ≡ codeBy wide user 63
+    high n h = rw (le-leb 63 n (omega arith), not-between 34 35 n (omega arith), ne-eqb n 49 (λ e. omega arith), ne-eqb n 51 (λ e. omega arith))
 
 -- ---- the answer of `unavailability`
 
@@ -64,7 +64,6 @@ available wideOnly w16 user e = let z : ⊥ = omega arith in absurd z
 available wideOnly w32 user e = refl
 available superOnly width true e = let z : ⊥ = omega arith in absurd z
 available superOnly width false e = refl
-available nowhere width user e = let z : ⊥ = omega arith in absurd z
 
 -- another number: it is the exception's code
 pub refused : (o : Option ℕ) → codeOf o ≢ 0 → o ≡ some (codeOf o)

@@ -1,5 +1,5 @@
 -- The table of operations by number: a test computed for the 64 numbers is a law. Assumes nothing.
-use mathlib.Core.Path.{_≡_, refl, sym, ap, _∙_}
+use mathlib.Core.Path.{_≡_, sym, ap, _∙_}
 use mathlib.Core.Bool.{Bool}
 use mathlib.Core.List.{List, [], _∷_}
 use Prim.Native.Nat.{ℕ, zero, suc, _+_, _≤_, _<_}
@@ -8,9 +8,8 @@ use lib.Dec.{ltb}
 use lib.ListN.{List·getD-eq-default}
 use borrow.Author.Tests.{ltb-true, ltb-false}
 use Rattle.word.proofs.Tests.{either}
-use Rattle.isa.specs.Operation.{Operation, unknown, operations, operationOf, widthBy, Form, properties}
+use Rattle.isa.specs.Operation.{Operation, exbfi, operations, operationOf, widthBy, Form, properties}
 use Rattle.isa.specs.Decode.{operandsOf}
-use Rattle.isa.specs.Theorems.{UnknownFrom}
 use Rattle.isa.specs.declared.Operands.{Operands}
 
 module _ {A : Type 0} where
@@ -32,10 +31,10 @@ module _ {A : Type 0} where
       let same : f first ≡ g first = cc in
       cc)
 
--- no operation has a number of 64 or more
-pub beyond : (n : ℕ) → 64 ≤ n → operationOf n ≡ unknown
+-- beyond the table it is as at 63
+beyond : (n : ℕ) → 64 ≤ n → operationOf n ≡ exbfi
 unfolding operationOf operations
-beyond n h = List·getD-eq-default operations unknown h
+beyond n h = List·getD-eq-default operations exbfi h
 
 -- a property of the operations, computed for the 64 numbers, at every number: beyond them it is as at 63
 pub by-number : {A : Type 0} (f : Operation → A) (g : ℕ → A) → values (λ n. f (operationOf n)) 0 64 ≡ values g 0 64
@@ -46,14 +45,8 @@ by-number f g e high n =
     (λ t. agree (λ n. f (operationOf n)) g 0 64 e n (omega arith) (ltb-true n 64 t))
     (λ t.
     let l : 64 ≤ n = ltb-false n 64 t in
-    let last : f unknown ≡ g 63 = agree (λ n. f (operationOf n)) g 0 64 e 63 (omega arith) (omega arith) in
+    let last : f exbfi ≡ g 63 = agree (λ n. f (operationOf n)) g 0 64 e 63 (omega arith) (omega arith) in
     ap f (beyond n l) ∙ last ∙ sym (high n l))
-
--- 58 to 63 are unknown, and beyond them there is nothing
-pub unknown-from : UnknownFrom
-unfolding values operationOf operations
-unknown-from n l =
-    either (ltb n 64) (λ t. agree operationOf (λ n. unknown) 58 6 refl n l (ltb-true n 64 t)) (λ t. beyond n (ltb-false n 64 t))
 
 -- the operands of a word whose operation has the form of its neighbours; w is the value that wide is known to have
 pub grouped : {wide w : Bool} {o : Operands} (form : Form) (first count : ℕ)

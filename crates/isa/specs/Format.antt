@@ -1,9 +1,10 @@
--- Where the fields of an instruction word stand (01 "Instruction words"), and which operands a listing shows (002 section 6.2). Assumes nothing.
+-- Where the fields of an instruction word stand (01 "Instruction words"; exbfi: 02 wish 1), and which operands a listing shows (002 section 6.2). Assumes nothing.
 use mathlib.Core.Bool.{Bool, true, false}
 use mathlib.Core.List.{List, [], _∷_}
 use Prim.Native.Nat.{ℕ, _+_, _-_, _*_, _^_}
+use lib.ListN.{take, drop}
 use Rattle.word.specs.Word.{Field, bits_to_, fieldOf}
-use Rattle.isa.specs.Operation.{Width, w16, w32, Form, NoOperands, ThreeRegisters, TwoRegisters, Destination, Source, CompareRegisters, CompareImmediate, SignedImmediate, UnsignedImmediate, Shift, Memory, Halfword, Jump, Branch, LowBits}
+use Rattle.isa.specs.Operation.{Width, w16, w32, Form, NoOperands, ThreeRegisters, ReversedRegisters, TwoRegisters, Destination, Source, CompareRegisters, CompareImmediate, SignedImmediate, UnsignedImmediate, Count, BitField, Memory, Halfword, Jump, Branch, LowBits}
 
 -- ---- fields in pieces: the first piece above the others. No pieces: there is no such field, and it reads 0
 
@@ -42,6 +43,7 @@ conditionField w16 = []
 -- what an operand is to the operation
 pub data Role : Type 0 where
   Dreg Sreg1 Sreg2 Creg Imm : Role
+  Length Position : Role  -- of exbfi: the immediate's first piece, and the rest
 
 pub record Immediate : Type 0 where
   pub signed : Bool
@@ -100,6 +102,7 @@ low n = bits n - 1 to 0 ∷ []
 unfoldable pub layoutOf : Width → Form → Layout
 layoutOf w32 NoOperands = layout [] [] [] absent []
 layoutOf w32 ThreeRegisters = layout d s₁ s₂ absent (Dreg ∷ Sreg1 ∷ Sreg2 ∷ [])
+layoutOf w32 ReversedRegisters = layout d s₁ s₂ absent (Dreg ∷ Sreg2 ∷ Sreg1 ∷ [])
 layoutOf w32 TwoRegisters = layout d s₁ [] absent (Dreg ∷ Sreg1 ∷ [])
 layoutOf w32 Destination = layout d [] [] absent (Dreg ∷ [])
 layoutOf w32 Source = layout [] s₁ [] absent (Sreg1 ∷ [])
@@ -107,7 +110,8 @@ layoutOf w32 CompareRegisters = layout [] s₁ s₂ absent (Creg ∷ Sreg1 ∷ S
 layoutOf w32 CompareImmediate = layout [] s₁ [] (signed imm9) (Creg ∷ Sreg1 ∷ Imm ∷ [])
 layoutOf w32 SignedImmediate = layout d s₁ [] (signed imm9) (Dreg ∷ Sreg1 ∷ Imm ∷ [])
 layoutOf w32 UnsignedImmediate = layout d s₁ [] (unsigned imm9) (Dreg ∷ Sreg1 ∷ Imm ∷ [])
-layoutOf w32 Shift = layout d s₁ [] (unsigned (low 5)) (Dreg ∷ Sreg1 ∷ Imm ∷ [])
+layoutOf w32 (Count n) = layout d s₁ [] (unsigned (low n)) (Dreg ∷ Sreg1 ∷ Imm ∷ [])
+layoutOf w32 BitField = layout d s₁ [] (unsigned (bits 24 to 19 ∷ bits 4 to 0 ∷ [])) (Dreg ∷ Sreg1 ∷ Length ∷ Position ∷ [])
 layoutOf w32 Memory = layout d s₁ [] (signed imm9) (Dreg ∷ Sreg1 ∷ Imm ∷ [])
 layoutOf w32 Halfword = layout (bits 20 to 16 ∷ []) [] [] (unsigned (bits 15 to 0 ∷ [])) (Dreg ∷ Imm ∷ [])
 layoutOf w32 Jump = layout [] [] [] (signed (bits 24 to 0 ∷ [])) (Imm ∷ [])
@@ -115,6 +119,7 @@ layoutOf w32 Branch = layout [] [] [] (signed (bits 21 to 0 ∷ [])) (Creg ∷ I
 layoutOf w32 (LowBits n) = layout [] [] [] (unsigned (low n)) (Imm ∷ [])
 layoutOf w16 NoOperands = layout [] [] [] absent []
 layoutOf w16 ThreeRegisters = layout dr sr dr absent (Dreg ∷ Sreg1 ∷ [])
+layoutOf w16 ReversedRegisters = layout dr sr dr absent (Dreg ∷ Sreg1 ∷ [])
 layoutOf w16 TwoRegisters = layout dr sr [] absent (Dreg ∷ Sreg1 ∷ [])
 layoutOf w16 Destination = layout dr [] [] absent (Dreg ∷ [])
 layoutOf w16 Source = layout [] sr [] absent (Sreg1 ∷ [])
@@ -122,7 +127,8 @@ layoutOf w16 CompareRegisters = layout [] sr dr absent (Sreg1 ∷ Sreg2 ∷ [])
 layoutOf w16 CompareImmediate = layout [] dr [] (signed imm7) (Sreg1 ∷ Imm ∷ [])
 layoutOf w16 SignedImmediate = layout dr dr [] (signed imm7) (Dreg ∷ Imm ∷ [])
 layoutOf w16 UnsignedImmediate = layout dr dr [] (unsigned imm7) (Dreg ∷ Imm ∷ [])
-layoutOf w16 Shift = layout dr dr [] (unsigned (bits 7 to 3 ∷ [])) (Dreg ∷ Imm ∷ [])
+layoutOf w16 (Count n) = layout dr dr [] (unsigned (bits n + 2 to 3 ∷ [])) (Dreg ∷ Imm ∷ [])
+layoutOf w16 BitField = layout [] [] [] absent []
 layoutOf w16 Memory = layout dr sr [] (signed (bits 9 to 6 ∷ [])) (Dreg ∷ Sreg1 ∷ Imm ∷ [])
 layoutOf w16 Halfword = layout [] [] [] absent []
 layoutOf w16 Jump = layout [] [] [] (signed (bits 9 to 0 ∷ [])) (Imm ∷ [])
@@ -136,6 +142,8 @@ operandFields width form Sreg1 = layoutOf width form .sreg1
 operandFields width form Sreg2 = layoutOf width form .sreg2
 operandFields width form Creg = cregField width
 operandFields width form Imm = layoutOf width form .immediate .fields
+operandFields width form Length = take 1 (layoutOf width form .immediate .fields)
+operandFields width form Position = drop 1 (layoutOf width form .immediate .fields)
 
 -- to unfold all of these
 unfoldable pub formats : Unit {0}

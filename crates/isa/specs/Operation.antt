@@ -1,4 +1,5 @@
--- The operations, one row for each (01 "Operations", "Never conditional", "Super user only", stop 13; mnemonics: 002 section 6.2). Assumes nothing.
+-- The operations, one row for each (01 "Operations", "Never conditional", "Super user only", stop 13; 02 wish 1; mnemonics: 002 section 6.2).
+-- Assumes nothing.
 use mathlib.Core.Bool.{Bool, true, false}
 use mathlib.Core.List.{List, [], _∷_}
 use mathlib.Core.Option.{Option, none, some}
@@ -14,7 +15,8 @@ pub data Operation : Type 0 where
   addi addiu andi ori muli slli srli srai sexti : Operation
   ld st mov not mulhi cmp cmpi lli lui : Operation
   jmp jal jmpr jalr bc begt belt beq bgt blt bne bnc : Operation
-  scall retu reti chrs di ei swm trap scon rcon unknown : Operation
+  scall retu reti chrs di ei swm trap scon rcon : Operation
+  conb conh exb exh exbf exbfi : Operation
 
 -- by number, 0 to 63
 unfoldable pub operations : List Operation
@@ -26,12 +28,12 @@ operations =
     cmp ∷ cmpi ∷ lli ∷ lui ∷ jmp ∷ jal ∷ jmpr ∷ jalr ∷  -- 32 to 39
     bc ∷ begt ∷ belt ∷ beq ∷ bgt ∷ blt ∷ bne ∷ bnc ∷  -- 40 to 47
     scall ∷ retu ∷ reti ∷ chrs ∷ di ∷ ei ∷ swm ∷ trap ∷  -- 48 to 55
-    scon ∷ rcon ∷ unknown ∷ unknown ∷ unknown ∷ unknown ∷ unknown ∷ unknown ∷  -- 56 to 63
+    scon ∷ rcon ∷ conb ∷ conh ∷ exb ∷ exh ∷ exbf ∷ exbfi ∷  -- 56 to 63
     []
 
--- the operation of a number
+-- the operation of a number; a word has one below 64
 unfoldable pub operationOf : ℕ → Operation
-operationOf n = getD operations n unknown
+operationOf n = getD operations n exbfi
 
 -- ---- properties
 
@@ -48,6 +50,7 @@ widthBy false = w16
 pub data Form : Type 0 where
   NoOperands : Form
   ThreeRegisters : Form  -- dreg, sreg1, sreg2
+  ReversedRegisters : Form  -- the same, written dreg, sreg2, sreg1
   TwoRegisters : Form  -- dreg, sreg1
   Destination : Form  -- dreg
   Source : Form  -- sreg1
@@ -55,7 +58,8 @@ pub data Form : Type 0 where
   CompareImmediate : Form  -- creg, sreg1, signed immediate
   SignedImmediate : Form  -- dreg, sreg1, signed immediate
   UnsignedImmediate : Form  -- dreg, sreg1, immediate filled with zeros
-  Shift : Form  -- dreg, sreg1, five bits
+  Count : ℕ → Form  -- dreg, sreg1, so many of an immediate's lowest bits: five of shifts and sexti, two of exb, one of exh
+  BitField : Form  -- dreg, sreg1, length, position
   Memory : Form  -- dreg, sreg1, signed immediate
   Halfword : Form  -- dreg, sixteen bits
   Jump : Form  -- signed immediate
@@ -64,16 +68,15 @@ pub data Form : Type 0 where
 
 -- where an operation may be used
 pub data Availability : Type 0 where
-  anywhere wideOnly superOnly nowhere : Availability
+  anywhere wideOnly superOnly : Availability
 
--- the code of the exception where it may not: 01h unknown, 02h not in this width or not in user mode
+-- the code of the exception where it may not: 02h not in this width or not in user mode
 unfoldable pub unavailable : Availability → Width → (user : Bool) → Option ℕ
 unavailable anywhere w user = none
 unavailable wideOnly w16 user = some 0x02
 unavailable wideOnly w32 user = none
 unavailable superOnly w true = some 0x02
 unavailable superOnly w false = none
-unavailable nowhere w user = some 0x01
 
 -- that code as a number, 0 where the operation may be used (00h is no code of this kind)
 unfoldable pub codeOf : Option ℕ → ℕ
@@ -126,10 +129,10 @@ properties addiu = optional 19 "addiu" UnsignedImmediate
 properties andi = optional 20 "andi" UnsignedImmediate
 properties ori = optional 21 "ori" UnsignedImmediate
 properties muli = optional 22 "muli" SignedImmediate
-properties slli = optional 23 "slli" Shift
-properties srli = optional 24 "srli" Shift
-properties srai = optional 25 "srai" Shift
-properties sexti = optional 26 "sexti" Shift
+properties slli = optional 23 "slli" (Count 5)
+properties srli = optional 24 "srli" (Count 5)
+properties srai = optional 25 "srai" (Count 5)
+properties sexti = optional 26 "sexti" (Count 5)
 properties ld = optional 27 "ld" Memory
 properties st = optional 28 "st" Memory
 properties mov = optional 29 "mov" TwoRegisters
@@ -161,7 +164,12 @@ properties swm = alwaysTransfer 54 "swm" (LowBits 1) anywhere
 properties trap = always 55 "trap" (LowBits 5) anywhere
 properties scon = always 56 "scon" Destination anywhere
 properties rcon = always 57 "rcon" Source anywhere
-properties unknown = always 58 "?" NoOperands nowhere
+properties conb = optional 58 "conb" ThreeRegisters
+properties conh = optional 59 "conh" ReversedRegisters
+properties exb = optional 60 "exb" (Count 2)
+properties exh = optional 61 "exh" (Count 1)
+properties exbf = optional 62 "exbf" ThreeRegisters
+properties exbfi = always 63 "exbfi" BitField wideOnly
 
 -- to unfold all of these
 unfoldable pub table : Unit {0}

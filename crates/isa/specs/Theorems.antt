@@ -1,31 +1,27 @@
--- What is proved of the instruction set: the statements, each with the sentence of 01 that it says. Assumes nothing.
+-- What is proved of the instruction set: the statements, each with the sentence of 01 or 02 that it says. Assumes nothing.
 use mathlib.Core.Path.{_≡_}
 use mathlib.Core.Logic.{_⊎_}
 use mathlib.Core.Bool.{Bool, not, _&&_, _||_}
 use Prim.Native.Nat.{ℕ, _≤_, _<_}
 use lib.Dec.{leb, eqb}
 use Rattle.word.specs.Choice.{if_then_else_}
-use Rattle.isa.specs.Operation.{unknown, operationOf, Width, w16, widthBy, unavailable, codeOf, properties}
+use Rattle.isa.specs.Operation.{operationOf, Width, w16, widthBy, unavailable, codeOf, properties}
 use Rattle.isa.specs.Decode.{decode}
 use Rattle.isa.specs.declared.Instruction.{Instruction}
 
 -- ---- the table, of all operations at once
 
--- "Operations: 0 nop; 1 add, .. 56 scon, rcon": the operation with number n has n in its row
+-- "Operations: 0 nop; 1 add, .. 56 scon, rcon", "58 conb .. 63 exbfi": the operation with number n has n in its row
 abbrev pub Numbered : Type 0
-Numbered = (n : ℕ) → n < 58 → properties (operationOf n) .number ≡ n
-
--- "58 to 63 are unknown"
-abbrev pub UnknownFrom : Type 0
-UnknownFrom = (n : ℕ) → 58 ≤ n → operationOf n ≡ unknown
+Numbered = (n : ℕ) → n < 64 → properties (operationOf n) .number ≡ n
 
 -- n is one of low to high
 abbrev pub between : (low high n : ℕ) → Bool
 between low high n = leb low n && leb n high
 
--- "Never conditional, bit 25 ignored: nop, cmp, cmpi .., lli, lui, jumps with an immediate, branches, 49 to 57"
+-- "Never conditional, bit 25 ignored: nop, cmp, cmpi .., lli, lui, jumps with an immediate, branches, 49 to 57"; "63 exbfi: .. unconditional"
 abbrev pub ConditionalIs : Type 0
-ConditionalIs = (n : ℕ) → properties (operationOf n) .conditional ≡ (between 1 31 n || between 38 39 n) || eqb n 48
+ConditionalIs = (n : ℕ) → properties (operationOf n) .conditional ≡ ((between 1 31 n || between 38 39 n) || eqb n 48) || between 58 62 n
 
 -- "control transfer in a slot (stop 13; operations 36 to 50 and swm ..)"
 abbrev pub TransferIs : Type 0
@@ -35,12 +31,9 @@ TransferIs = (n : ℕ) → properties (operationOf n) .transfer ≡ between 36 5
 abbrev pub codeAt : Width → (user : Bool) (n : ℕ) → ℕ
 codeAt width user n = codeOf (unavailable (properties (operationOf n) .availability) width user)
 
--- "58 to 63 are unknown (code 01h)"; "Code 02h: lli, lui in 16-bit; those two (retu, chrs) in user mode"
+-- "Code 02h: lli, lui in 16-bit; those two (retu, chrs) in user mode"; "63 exbfi: .. code 02h in 16-bit"; "Code 01h no longer occurs"
 abbrev pub codeBy : (wide user : Bool) (n : ℕ) → ℕ
-codeBy wide user n =
-    if leb 58 n then 0x01
-    else if (between 34 35 n && not wide) || (eqb n 49 || eqb n 51) && user then 0x02
-    else 0
+codeBy wide user n = if (between 34 35 n || leb 63 n) && not wide || (eqb n 49 || eqb n 51) && user then 0x02 else 0
 
 abbrev pub UnavailableIs : Type 0
 UnavailableIs = (wide user : Bool) (n : ℕ) → codeAt (widthBy wide) user n ≡ codeBy wide user n

@@ -43,7 +43,7 @@ pub fn opcode(word: u32, wide: bool) -> u32
 fn is_conditional(op: u32) -> bool
     ensures { λ r. ⌜ r ≡ properties (operationOf op) .conditional ⌝ }
 {
-    (1 <= op) & (op <= 31) | (38 <= op) & (op <= 39) | (op == 48)
+    (1 <= op) & (op <= 31) | (38 <= op) & (op <= 39) | (op == 48) | (58 <= op) & (op <= 62)
 }
 
 // Whether an operation is a control transfer.
@@ -57,9 +57,7 @@ pub fn is_transfer(op: u32) -> bool
 pub fn unavailability(op: u32, wide: bool, user: bool) -> u32
     ensures { λ r. ⌜ r ≡ codeOf (unavailable (properties (operationOf op) .availability) (widthBy wide) user) ⌝ }
 {
-    if 58 <= op {
-        1
-    } else if (34 <= op) & (op <= 35) & !wide | ((op == 49) | (op == 51)) & user {
+    if ((34 <= op) & (op <= 35) | (63 <= op)) & !wide | ((op == 49) | (op == 51)) & user {
         2
     } else {
         0
@@ -234,6 +232,37 @@ fn system_operands(w: u32, wide: bool, op: u32) -> Operands
     }
 }
 
+// conb to exbfi. The immediate of exbfi is length × 32 + position, what exbf has in its second source; in 16-bit words it has no operands.
+fn field_operands(w: u32, wide: bool, op: u32) -> Operands
+    requires { ⌜ (58 ≤ op) × (op ≤ 63) ⌝ }
+    ensures { λ r. ⌜ r ≡ operandsOf (widthBy wide) (properties (operationOf op) .form) w ⌝ }
+{
+    if wide {
+        let d = w / 1024 % 32;
+        let s = w / 32 % 32;
+        let n = w % 32;
+        match op {
+            58 => registers(d, s, n),
+            59 => registers(d, s, n),
+            60 => unsigned(d, s, w % 4),
+            61 => unsigned(d, s, w % 2),
+            62 => registers(d, s, n),
+            _ => unsigned(d, s, w / 0x0008_0000 % 64 * 32 + n),
+        }
+    } else {
+        let d = w % 8 + 24;
+        let s = w / 8 % 8 + 24;
+        match op {
+            58 => registers(d, s, d),
+            59 => registers(d, s, d),
+            60 => unsigned(d, d, w / 8 % 4),
+            61 => unsigned(d, d, w / 8 % 2),
+            62 => registers(d, s, d),
+            _ => registers(0, 0, 0),
+        }
+    }
+}
+
 // The instruction of a word, from the number of its operation and its operands.
 fn assembled(word: u32, wide: bool, op: u32, o: Operands) -> Instruction
     requires { ⌜ (op ≡ opcodeOf (widthBy wide) word) × (o ≡ operandsOf (widthBy wide) (properties (operationOf op) .form) word) ⌝ }
@@ -336,6 +365,18 @@ pub fn decode_system(word: u32, wide: bool, op: u32) -> Instruction
         assembled(word, wide, op, system_operands(word, wide, op))
     } else {
         assembled(word, wide, op, system_operands(word, wide, op))
+    }
+}
+
+// Operations 58 to 63: conb to exbfi.
+pub fn decode_field(word: u32, wide: bool, op: u32) -> Instruction
+    requires { ⌜ (op ≡ opcodeOf (widthBy wide) word) × (58 ≤ op) × (op ≤ 63) ⌝ }
+    ensures { λ r. ⌜ r ≡ decode (widthBy wide) word ⌝ }
+{
+    if wide {
+        assembled(word, wide, op, field_operands(word, wide, op))
+    } else {
+        assembled(word, wide, op, field_operands(word, wide, op))
     }
 }
 

@@ -1,4 +1,4 @@
--- What each operation does: one clause for each (01 "Instruction words" and "One step"; 002 section 6). Assumes nothing.
+-- What each operation does: one clause for each (01 "Instruction words" and "One step"; 02 wish 1; 002 section 6). Assumes nothing.
 use mathlib.Core.Bool.{true, false}
 use mathlib.Core.Bool as bool
 use mathlib.Core.List.{List, [], _∷_}
@@ -8,10 +8,10 @@ use lib.Dec.{eqb}
 use lib.IntN.{ℤ, pos, _+ℤ_, _*ℤ_}
 use Rattle.word.specs.Choice.{if_then_else_}
 use Rattle.word.specs.Word.{signedOf, wordOf, isAddress}
-use Rattle.word.specs.Arithmetic.{addOf, subOf, cmpOf, productOf, shortProductOf, half, signedHalf, sllOf, srlOf, sraOf, sextOf, andOf, orOf, xorOf, notOf}
+use Rattle.word.specs.Arithmetic.{addOf, subOf, cmpOf, productOf, shortProductOf, half, signedHalf, sllOf, srlOf, sraOf, sextOf, andOf, orOf, xorOf, notOf, joinOf, pieceOf, extractOf}
 use Rattle.word.specs.declared.Sum.{Sum}
 use Rattle.word.specs.declared.Product.{Product}
-use Rattle.isa.specs.Operation.{Operation, nop, add, addu, sub, subu, and, or, xor, muls, mulu, mulus, muls16, mulu16, mulus16, sll, srl, sra, sext, addi, addiu, andi, ori, muli, slli, srli, srai, sexti, ld, st, mov, not, mulhi, cmp, cmpi, lli, lui, jmp, jal, jmpr, jalr, bc, begt, belt, beq, bgt, blt, bne, bnc, scall, retu, reti, chrs, di, ei, swm, trap, scon, rcon, unknown}
+use Rattle.isa.specs.Operation.{Operation, nop, add, addu, sub, subu, and, or, xor, muls, mulu, mulus, muls16, mulu16, mulus16, sll, srl, sra, sext, addi, addiu, andi, ori, muli, slli, srli, srai, sexti, ld, st, mov, not, mulhi, cmp, cmpi, lli, lui, jmp, jal, jmpr, jalr, bc, begt, belt, beq, bgt, blt, bne, bnc, scall, retu, reti, chrs, di, ei, swm, trap, scon, rcon, conb, conh, exb, exh, exbf, exbfi}
 use Rattle.isa.specs.Condition.{Condition, holds}
 use Rattle.isa.specs.Condition as condition
 use Rattle.isa.specs.Decode.{wordBytes}
@@ -139,7 +139,12 @@ execute swm v i x y = SwitchWidth (eqb (wordOf 1 (i .immediate)) 1)
 execute trap v i x y = Raised (224 + wordOf 5 (i .immediate))
 execute scon v i x y = Result (i .dreg) (packed (v .conditions))
 execute rcon v i x y = Conditions x
-execute unknown v i x y = Raised 0x01
+execute conb v i x y = Result (i .dreg) (joinOf 8 x y)
+execute conh v i x y = Result (i .dreg) (joinOf 16 x y)
+execute exb v i x y = Result (i .dreg) (pieceOf 8 x (wordOf 2 (i .immediate)))
+execute exh v i x y = Result (i .dreg) (pieceOf 16 x (wordOf 1 (i .immediate)))
+execute exbf v i x y = Result (i .dreg) (extractOf x y)
+execute exbfi v i x y = Result (i .dreg) (extractOf x (wordOf 32 (i .immediate)))
 
 -- to unfold all of these
 unfoldable pub executing : Unit {0}

@@ -3,6 +3,7 @@ ghost use mathlib.Core.Path.{_≡_};
 ghost use Rattle.word.specs.Word.{wordOf};
 
 mod arithmetic;
+mod field;
 mod jump;
 mod memory;
 mod mov;
@@ -10,6 +11,7 @@ mod status;
 
 pub use arithmetic::immediates;
 pub use arithmetic::registers;
+pub use field::fields;
 use isa::Instruction;
 pub use jump::branches;
 pub use jump::jumps;

@@ -7,3 +7,4 @@ pub mod Requests
 pub mod Entered
 pub mod Stops
 pub mod Transitions
+pub mod Codes

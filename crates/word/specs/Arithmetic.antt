@@ -1,10 +1,10 @@
--- What the arithmetic operations give (01 "Instruction words"; 002 section 6). A register holds a number below 2 ^ 32. Assumes nothing.
+-- What the arithmetic operations give (01 "Instruction words"; 02 wish 1; 002 section 6). A register holds a number below 2 ^ 32. Assumes nothing.
 use mathlib.Core.Bool.{Bool, _||_}
 use Prim.Native.Nat.{ℕ, _+_, _-_, _*_, _/_, _%_, _^_, min, max}
 use lib.IntN.{ℤ, pos, negℤ, _+ℤ_, _-ℤ_, _*ℤ_}
 use lib.Signed.{ltZ}
 use lib.Dec.{leb, eqb}
-use Rattle.word.specs.Word.{bitOf, signedOf, divZ, wordOf, extendOf, bitwiseOf}
+use Rattle.word.specs.Word.{bitOf, fieldOf, signedOf, divZ, wordOf, extendOf, bitwiseOf}
 use Rattle.word.specs.declared.Sum.{Sum}
 use Rattle.word.specs.declared.Product.{Product}
 
@@ -91,7 +91,21 @@ xorOf = bitwiseOf (λ x y. (x + y) % 2) 32
 unfoldable pub notOf : (a : ℕ) → ℕ
 notOf a = 2 ^ 32 - 1 - a
 
+-- ---- bytes, halfwords and fields
+
+-- the k lowest bits of a above those of b: "low byte of first × 256 + low byte of second", "the same with halfwords and 65,536"
+unfoldable pub joinOf : (k a b : ℕ) → ℕ
+joinOf k a b = a % 2 ^ k * 2 ^ k + b % 2 ^ k
+
+-- the n-th piece of k bits, "0 lowest": a byte, a halfword
+unfoldable pub pieceOf : (k a n : ℕ) → ℕ
+pieceOf k a n = fieldOf (record { place = k * n; width = k }) a
+
+-- "length from second source bits 10..5, position 4..0"; "A field's bits beyond 31 are zero; a length over 32 counts as 32"
+unfoldable pub extractOf : (a s : ℕ) → ℕ
+extractOf a s = fieldOf (record { place = s % 32; width = min 32 (s / 32 % 64) }) a
+
 -- to unfold all of these
 unfoldable pub arithmetic : Unit {0}
-unfolding addOf subOf cmpOf productOf shortProductOf sllOf srlOf sraOf sextOf andOf orOf xorOf notOf
+unfolding addOf subOf cmpOf productOf shortProductOf sllOf srlOf sraOf sextOf andOf orOf xorOf notOf joinOf pieceOf extractOf
 arithmetic = tt

@@ -1,5 +1,4 @@
 -- `isa::unavailability` meets its contract. Assumes nothing.
-use borrow.Author.Tests.{le-leb, lt-leb}
 use Rattle.word.specs.Choice.{if_then_else_}
 use Rattle.isa.proofs.Rules.{unavailable-is}
 use Rattle.isa.proofs.unavailability.Statement.{statement}
@@ -7,9 +6,4 @@ use Rattle.isa.proofs.unavailability.Tie as tie
 
 pub unavailability-spec : {M : Type 1} → statement M
 unfolding if_then_else_
-unavailability-spec =
-    tie.close
-    (tie.spec
-    (λ c. rw (unavailable-is, le-leb _ _ (c .if1 .taken)))
-    (λ c. rw (unavailable-is, lt-leb _ _ (c .before .if1 .left), c .if2 .taken))
-    (λ c. rw (unavailable-is, lt-leb _ _ (c .before .if1 .left), c .if2 .left)))
+unavailability-spec = tie.close (tie.spec (λ c. rw (unavailable-is, c .if1 .taken)) (λ c. rw (unavailable-is, c .if1 .left)))
