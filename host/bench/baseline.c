@@ -81,13 +81,12 @@ enum {
     NOP, ADD, ADDU, SUB, SUBU, AND, OR, XOR, MULS, MULU, MULUS, MULS_16, MULU_16, MULUS_16,
     SLL, SRL, SRA, SEXT, ADDI, ADDIU, ANDI, ORI, MULI, SLLI, SRLI, SRAI, SEXTI, LD, ST, MOV, NOT,
     MULHI, CMP, CMPI, LLI, LUI, JMP, JAL, JMPR, JALR, BC, BEGT, BELT, BEQ, BGT, BLT, BNE, BNC,
-    SCALL, RETU, RETI, CHRS, DI, EI, SWM, TRAP, SCON, RCON,
+    SCALL, RETU, RETI, CHRS, DI, EI, SWM, TRAP, SCON, RCON, CONB, CONH, EXB, EXH, EXBF, EXBFI,
 };
 
-// Exception codes (002, table 5.5).
+// Exception codes (002, table 5.5); 01h does not occur.
 enum {
     PROTECTED_INSTRUCTION = 0x00,
-    UNKNOWN_OPERATION = 0x01,
     ILLEGAL_INSTRUCTION = 0x02,
     MISALIGNED_JUMP = 0x03,
     JUMP_OVERFLOW = 0x04,
@@ -139,7 +138,7 @@ static uint32_t widened(uint32_t half)
     switch (op) {
     case ADDI: case MULI: case CMPI:
         return assembled(op, dr, dr, extended(half >> 3, 7));
-    case ADDIU: case ANDI: case ORI: case SLLI: case SRLI: case SRAI: case SEXTI:
+    case ADDIU: case ANDI: case ORI: case SLLI: case SRLI: case SRAI: case SEXTI: case EXB: case EXH:
         return assembled(op, dr, dr, half >> 3 & 0x7F);
     case LD: case ST:
         return assembled(op, dr, sr, extended(half >> 6, 4));
@@ -157,7 +156,8 @@ static uint32_t widened(uint32_t half)
 // Whether an operation may be conditional.
 static inline bool is_conditional(uint32_t op)
 {
-    return (op >= ADD && op <= MULHI) || op == JMPR || op == JALR || op == SCALL;
+    return (op >= ADD && op <= MULHI) || op == JMPR || op == JALR || op == SCALL
+        || (op >= CONB && op <= EXBF);
 }
 
 // Whether an operation is a control transfer.
@@ -309,6 +309,13 @@ static inline uint32_t result_flags(uint32_t value, bool carry)
 static inline uint32_t compared(uint32_t a, uint32_t b)
 {
     return (a == b) * 4 + ((int32_t)a < (int32_t)b) * 2 + (a >= b);
+}
+
+// The field of a value whose length is in bits 10..5 and whose position is in bits 4..0. A length over
+// 32 takes no more than there is.
+static inline uint32_t extracted(uint32_t value, uint32_t field)
+{
+    return value >> (field & 31) & (uint32_t)((1ull << (field >> 5 & 63)) - 1);
 }
 
 // The bits that a store to a control register leaves; none for one that is only read.
@@ -610,9 +617,28 @@ static inline uint32_t instruction(struct machine *m, const struct memories *len
             m->conditions[n] = a >> 3 * n & 7;
         goto done;
 
-    default:
-        code = UNKNOWN_OPERATION;
-        goto exception;
+    case CONB:
+        value = (a & 0xFF) << 8 | (b & 0xFF);
+        goto result;
+    case CONH:
+        value = a << 16 | (b & 0xFFFF);
+        goto result;
+    case EXB:
+        value = a >> 8 * (word & 3) & 0xFF;
+        goto result;
+    case EXH:
+        value = a >> 16 * (word & 1) & 0xFFFF;
+        goto result;
+    case EXBF:
+        value = extracted(a, b);
+        goto result;
+    default: // EXBFI
+        if (!(psr & IL)) {
+            code = ILLEGAL_INSTRUCTION;
+            goto exception;
+        }
+        value = extracted(a, (word >> 14 & 0x7E0) | (word & 31));
+        goto result;
     }
 
 jump:

@@ -15,6 +15,14 @@ const TRACED_STEPS: u32 = 600;
 const TRACED_CELLS: usize = 5000;
 const TRACED_BYTES: usize = 2000;
 
+/// Exception codes but for traps; 01h does not occur.
+const CODES: [usize; 9] = [0, 2, 3, 4, 5, 6, 7, 8, 9];
+
+/// The operations that take fields, and the lengths and positions at the ends.
+const FIELD_KINDS: [&str; 3] = ["16-bit exbf", "32-bit exbf", "exbfi"];
+const END_LENGTHS: [usize; 5] = [0, 31, 32, 33, 63];
+const END_POSITIONS: [usize; 2] = [0, 31];
+
 /// A number that EXCEPTION_PSR can hold and that no PSR is.
 const NO_PSR: u32 = 0xFF;
 
@@ -33,8 +41,15 @@ pub struct Coverage {
     status: [u64; 32],
     /// By width (0 for 16 bits, 1 for 32) and operation: carried out, and carried out
     /// with a visible effect beyond PC going on.
-    done: [[u64; 58]; 2],
-    effect: [[u64; 58]; 2],
+    done: [[u64; 64]; 2],
+    effect: [[u64; 64]; 2],
+    /// Parts that exb and exh take, by width.
+    bytes: [[u64; 4]; 2],
+    halfwords: [[u64; 2]; 2],
+    /// Fields by kind: their lengths, their positions, those that pass bit 31.
+    lengths: [[u64; 64]; 3],
+    positions: [[u64; 32]; 3],
+    beyond: [u64; 3],
     /// Conditional words by condition, false and true.
     conditional: [[u64; 2]; 8],
     /// Branches by width and condition, not taken and taken.
@@ -71,8 +86,13 @@ impl Coverage {
             traced_calls: 0,
             traced_steps: 0,
             status: [0; 32],
-            done: [[0; 58]; 2],
-            effect: [[0; 58]; 2],
+            done: [[0; 64]; 2],
+            effect: [[0; 64]; 2],
+            bytes: [[0; 4]; 2],
+            halfwords: [[0; 2]; 2],
+            lengths: [[0; 64]; 3],
+            positions: [[0; 32]; 3],
+            beyond: [0; 3],
             conditional: [[0; 2]; 8],
             branches: [[[0; 2]; 8]; 2],
             exceptions: [0; 256],
@@ -187,6 +207,7 @@ impl Coverage {
             let taken = after.position[SLOT] as usize;
             self.branches[width][(operation - BRANCH) as usize][taken] += 1;
         }
+        self.count_parts(word, operation, before);
         let mut stored = false;
         if matches!(operation, LD | ST) {
             let (base, immediate) = memory_operand(word, wide);
@@ -220,6 +241,32 @@ impl Coverage {
         self.effect[width][operation as usize] += u64::from(effect);
     }
 
+    /// Counts what exb, exh, exbf and exbfi take of their source.
+    fn count_parts(&mut self, word: u32, operation: u32, before: &Image) {
+        let wide = before.wide();
+        let width = usize::from(wide);
+        let immediate = low_immediate(word, wide) as usize;
+        let (kind, length, position) = match operation {
+            EXB => {
+                self.bytes[width][immediate & 3] += 1;
+                return;
+            }
+            EXH => {
+                self.halfwords[width][immediate & 1] += 1;
+                return;
+            }
+            EXBF => {
+                let field = before.source(second_source(word, wide));
+                (width, field >> 5 & 63, field & 31)
+            }
+            EXBFI => (2, word >> 19 & 63, word & 31),
+            _ => return,
+        };
+        self.lengths[kind][length as usize] += 1;
+        self.positions[kind][position as usize] += 1;
+        self.beyond[kind] += u64::from(length.min(32) + position > 32);
+    }
+
     /// A line for each thing that a session should meet and did not.
     pub fn warnings(&self) -> Vec<String> {
         let mut warnings = Vec::new();
@@ -237,7 +284,7 @@ impl Coverage {
         for ending in [0, 11, 12, 13, 14, 15] {
             need(self.endings[ending], format!("ending {ending}"));
         }
-        for code in 0..=9 {
+        for code in CODES {
             need(self.exceptions[code], format!("exception {code:02X}h"));
         }
         for code in 224..=255 {
@@ -251,8 +298,7 @@ impl Coverage {
         );
         for (width, name) in ["16-bit", "32-bit"].into_iter().enumerate() {
             for (operation, mnemonic) in NAMES.iter().enumerate() {
-                // "Code 02h: lli, lui in 16-bit"
-                if width == 0 && matches!(operation as u32, LLI | LUI) {
+                if width == 0 && only_wide(operation as u32) {
                     continue;
                 }
                 let count = match operation as u32 {
@@ -260,6 +306,12 @@ impl Coverage {
                     _ => self.effect[width][operation],
                 };
                 need(count, format!("{name} {mnemonic} with its effect"));
+            }
+            for (byte, &count) in self.bytes[width].iter().enumerate() {
+                need(count, format!("{name} exb of byte {byte}"));
+            }
+            for (halfword, &count) in self.halfwords[width].iter().enumerate() {
+                need(count, format!("{name} exh of halfword {halfword}"));
             }
             for condition in 0..8 {
                 for (taken, word) in ["not taken", "taken"].into_iter().enumerate() {
@@ -269,6 +321,21 @@ impl Coverage {
                     );
                 }
             }
+        }
+        for (kind, name) in FIELD_KINDS.into_iter().enumerate() {
+            for length in END_LENGTHS {
+                need(
+                    self.lengths[kind][length],
+                    format!("{name} of length {length}"),
+                );
+            }
+            for position in END_POSITIONS {
+                need(
+                    self.positions[kind][position],
+                    format!("{name} at position {position}"),
+                );
+            }
+            need(self.beyond[kind], format!("{name} that passes bit 31"));
         }
         for condition in 0..8 {
             for (passed, word) in ["false", "true"].into_iter().enumerate() {
@@ -358,7 +425,8 @@ impl Coverage {
                 modes(UM, 0)
             ),
         );
-        line(out, "exceptions", self.exceptions[..10].iter().enumerate());
+        let exceptions = CODES.map(|code| (code, &self.exceptions[code]));
+        line(out, "exceptions", exceptions);
         let traps = &self.exceptions[224..];
         put(
             out,
@@ -432,6 +500,12 @@ impl Coverage {
                 conditional(0)
             ),
         );
+        for (kind, name) in FIELD_KINDS.into_iter().enumerate() {
+            let lengths = END_LENGTHS.map(|length| (length, &self.lengths[kind][length]));
+            line(out, &format!("{name} by length"), lengths);
+            let positions = END_POSITIONS.map(|place| (place, &self.positions[kind][place]));
+            line(out, &format!("{name} by position"), positions);
+        }
         for (name, width) in [("32-bit", 1), ("16-bit", 0)] {
             let counts = NAMES.iter().zip(&self.effect[width]).skip(1);
             let nop = ("nop", &self.done[width][NOP as usize]);

@@ -30,9 +30,11 @@ pub const CONTROL_BASES: [u32; 2] = [2, 25];
 pub const CODE_BASES: [u32; 2] = [3, 26];
 /// A register for shift amounts.
 pub const AMOUNT: u32 = 4;
+/// Registers for the second source of exbf.
+pub const FIELDS: [u32; 2] = [13, 27];
 
-/// The draw of a raw random word, after the operations and UNKNOWN.
-const RAW: u32 = 59;
+/// The draw of a raw random word, after the operations.
+const RAW: u32 = 64;
 
 /// The number of kinds of programs.
 pub const THEMES: usize = 9;
@@ -93,11 +95,12 @@ fn weight(theme: usize, operation: u32) -> u32 {
         CHRS => 3,
         EI => 4,
         SCON | RCON => 3,
+        CONB..=EXBFI => 4,
         _ => 1,
     };
     match (theme, operation) {
-        // Arithmetic and flags.
-        (1, 1..=30 | CMP | CMPI | SCON | RCON) => 3 * mixed,
+        // Arithmetic, fields and flags.
+        (1, 1..=30 | CMP | CMPI | SCON..=EXBFI) => 3 * mixed,
         // Loads and stores.
         (2, LD | ST) => 6 * mixed,
         // Jumps and branches.
@@ -264,7 +267,7 @@ impl Filler<'_> {
         } else if operation == MULHI && !held && self.random.percent(70) {
             operation = MULU;
         }
-        if !wide && matches!(operation, LLI | LUI) && self.random.percent(90) {
+        if !wide && only_wide(operation) && self.random.percent(90) {
             operation = 19;
         }
         // A conditional transfer in a slot: stop 13 "condition true or not".
@@ -282,9 +285,11 @@ impl Filler<'_> {
                 let immediate = self.random.number() & 0xFFFF;
                 operation << 26 | self.noise(0x03E0_0000) | self.target() << 16 | immediate
             }
-            UNKNOWN => {
-                let unknown = self.random.range(UNKNOWN, 63);
-                self.plain(unknown, wide)
+            EXBFI if wide => {
+                let (length, position) = field(self.random);
+                wide_field(self.target(), self.source(), length, position)
+                    | self.noise(0x0007_8000)
+                    | self.random.below(2) << 25
             }
             RAW => {
                 let raw = self.random.word();
@@ -300,13 +305,18 @@ impl Filler<'_> {
 
     /// An operation on registers, with an immediate or without operands.
     fn plain(&mut self, operation: u32, wide: bool) -> u32 {
-        let target = self.target();
+        let target = match operation {
+            // The second source too.
+            EXBF if !wide && self.random.percent(60) => FIELDS[1],
+            _ => self.target(),
+        };
         let first = match operation {
             JMPR | JALR => self.code_register(wide),
             _ => self.source(),
         };
         let second = match operation {
             14..=17 if self.random.percent(40) => AMOUNT,
+            EXBF if self.random.percent(60) => FIELDS[usize::from(self.random.one_in(4))],
             _ => self.source(),
         };
         let immediate = self.immediate();
@@ -457,6 +467,21 @@ impl Filler<'_> {
             _ => self.random.word() & 511,
         }
     }
+}
+
+/// Length and position of a field, often at their ends.
+pub fn field(random: &mut Random) -> (u32, u32) {
+    let length = match random.below(8) {
+        0..=3 => random.pick(&[0, 31, 32, 33, 63]),
+        4 => random.below(64),
+        _ => random.range(1, 30),
+    };
+    let position = match random.below(4) {
+        0 => 0,
+        1 => 31,
+        _ => random.below(32),
+    };
+    (length, position)
 }
 
 /// The address of a word of the given width, mostly in a region of that width.

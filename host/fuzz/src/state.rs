@@ -1,7 +1,7 @@
 //! Random images that questions 2 to 5 accept (01, "Machine image").
 
 use crate::image::*;
-use crate::program::{self, Region, Role, AMOUNT, CODE_BASES, CONTROL_BASES, DATA_BASES};
+use crate::program::{self, Region, Role, AMOUNT, CODE_BASES, CONTROL_BASES, DATA_BASES, FIELDS};
 use crate::random::Random;
 use crate::words;
 
@@ -227,6 +227,16 @@ impl Builder<'_> {
             }
             let amount = self.random.below(34);
             self.set(second, AMOUNT, amount);
+            for register in FIELDS {
+                let (length, position) = program::field(self.random);
+                // The bits above are ignored.
+                let above = if self.random.percent(50) {
+                    self.random.word() << 11
+                } else {
+                    0
+                };
+                self.set(second, register, above | length << 5 | position);
+            }
             let wide = self.random.percent(60);
             let link = self.code_address(wide);
             self.set(second, LINK as u32, link);

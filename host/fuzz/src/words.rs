@@ -1,12 +1,13 @@
-//! Instruction words in both widths (01, "Instruction words").
+//! Instruction words in both widths (01, "Instruction words"; 02, wish 1).
 
-/// The names of the operations 0 to 57.
-pub const NAMES: [&str; 58] = [
+/// The names of the operations.
+pub const NAMES: [&str; 64] = [
     "nop", "add", "addu", "sub", "subu", "and", "or", "xor", "muls", "mulu", "mulus", "muls_16",
     "mulu_16", "mulus_16", "sll", "srl", "sra", "sext", "addi", "addiu", "andi", "ori", "muli",
     "slli", "srli", "srai", "sexti", "ld", "st", "mov", "not", "mulhi", "cmp", "cmpi", "lli",
     "lui", "jmp", "jal", "jmpr", "jalr", "bc", "begt", "belt", "beq", "bgt", "blt", "bne", "bnc",
-    "scall", "retu", "reti", "chrs", "di", "ei", "swm", "trap", "scon", "rcon",
+    "scall", "retu", "reti", "chrs", "di", "ei", "swm", "trap", "scon", "rcon", "conb", "conh",
+    "exb", "exh", "exbf", "exbfi",
 ];
 
 /// Operation numbers that the generator treats apart.
@@ -38,8 +39,11 @@ pub const SWM: u32 = 54;
 pub const TRAP: u32 = 55;
 pub const SCON: u32 = 56;
 pub const RCON: u32 = 57;
-/// The first unknown operation.
-pub const UNKNOWN: u32 = 58;
+pub const CONB: u32 = 58;
+pub const EXB: u32 = 60;
+pub const EXH: u32 = 61;
+pub const EXBF: u32 = 62;
+pub const EXBFI: u32 = 63;
 
 /// Whether the operation may not stand in a branch slot (stop 13).
 pub fn is_transfer(operation: u32) -> bool {
@@ -53,12 +57,17 @@ pub fn holds_product(operation: u32) -> bool {
 
 /// Whether the operation takes the 9-bit or 7-bit immediate.
 pub fn has_immediate(operation: u32) -> bool {
-    matches!(operation, 18..=26 | CMPI)
+    matches!(operation, 18..=26 | CMPI | EXB | EXH)
 }
 
 /// "Never conditional, bit 25 ignored."
 pub fn never_conditional(operation: u32) -> bool {
-    matches!(operation, NOP | CMP..=JAL | BRANCH..=LAST_BRANCH | RETU..=RCON)
+    matches!(operation, NOP | CMP..=JAL | BRANCH..=LAST_BRANCH | RETU..=RCON | EXBFI)
+}
+
+/// Whether the operation is 02h in a 16-bit word.
+pub fn only_wide(operation: u32) -> bool {
+    matches!(operation, LLI | LUI | EXBFI)
 }
 
 /// The operation number of a word.
@@ -89,6 +98,11 @@ pub fn wide_immediate(operation: u32, target: u32, first: u32, immediate: u32) -
     operation << 26 | (immediate >> 5 & 15) << 15 | target << 10 | first << 5 | immediate & 31
 }
 
+/// A 32-bit exbfi, "length in bits 24..19, position in 4..0".
+pub fn wide_field(target: u32, first: u32, length: u32, position: u32) -> u32 {
+    EXBFI << 26 | length << 19 | target << 10 | first << 5 | position
+}
+
 /// A 16-bit word of two registers, given by their low three bits.
 pub fn short_registers(operation: u32, sr: u32, dr: u32) -> u32 {
     operation << 10 | (sr & 7) << 3 | dr & 7
@@ -112,6 +126,24 @@ pub fn memory_operand(word: u32, wide: bool) -> (usize, i64) {
     } else {
         let immediate = i64::from(word >> 6 & 15);
         ((word >> 3 & 7) as usize + 24, (immediate ^ 8) - 8)
+    }
+}
+
+/// The register that is the second source.
+pub fn second_source(word: u32, wide: bool) -> usize {
+    if wide {
+        (word & 31) as usize
+    } else {
+        (word & 7) as usize + 24
+    }
+}
+
+/// The immediate of exb and exh, of which they use the lowest bits.
+pub fn low_immediate(word: u32, wide: bool) -> u32 {
+    if wide {
+        word & 31
+    } else {
+        word >> 3 & 31
     }
 }
 
@@ -143,5 +175,14 @@ mod tests {
         assert_eq!(LLI << 26 | 1 << 16 | 5, 0x8801_0005);
         assert_eq!(wide_registers(TRAP, 0, 0, 3), 0xDC00_0003);
         assert_eq!(memory_operand(0x4807_883F, true), (1, -1));
+    }
+
+    /// The numbers that 02's wish 1 gives.
+    #[test]
+    fn byte_and_field_operations() {
+        let names = ["conb", "conh", "exb", "exh", "exbf", "exbfi"];
+        assert_eq!(NAMES[CONB as usize..=EXBFI as usize], names);
+        assert_eq!(wide_field(31, 31, 63, 31), 0xFDF8_7FFF);
+        assert_eq!(wide_field(0, 0, 1, 0), 0xFC08_0000);
     }
 }

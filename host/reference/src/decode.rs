@@ -1,4 +1,4 @@
-//! Instruction words: their fields in both widths (01, "Instruction words").
+//! Instruction words: their fields in both widths (01, "Instruction words"; 02, wish 1).
 
 use self::Operation::*;
 
@@ -120,12 +120,19 @@ pub enum Operation {
     Trap,
     Scon,
     Rcon,
+    Conb,
+    Conh,
+    Exb,
+    Exh,
+    Exbf,
+    Exbfi,
 }
 
 impl Operation {
-    /// The operation with a number of 0 to 57; "58 to 63 are unknown".
-    pub fn from_number(number: u32) -> Option<Operation> {
-        let operation = match number {
+    /// The operation with the number that the low six bits of `number` give: 01's list,
+    /// and 58 to 63 by wish 1 of 02.
+    pub fn from_number(number: u32) -> Operation {
+        match number & 63 {
             0 => Nop,
             1 => Add,
             2 => Addu,
@@ -177,13 +184,17 @@ impl Operation {
             55 => Trap,
             56 => Scon,
             57 => Rcon,
-            _ => return None,
-        };
-        Some(operation)
+            58 => Conb,
+            59 => Conh,
+            60 => Exb,
+            61 => Exh,
+            62 => Exbf,
+            _ => Exbfi,
+        }
     }
 
     /// "Never conditional, bit 25 ignored: nop, cmp, cmpi, lli, lui, jumps with an
-    /// immediate, branches, 49 to 57."
+    /// immediate, branches, 49 to 57", and exbfi, which is "unconditional".
     fn may_be_conditional(self) -> bool {
         !matches!(
             self,
@@ -203,6 +214,7 @@ impl Operation {
                 | Trap
                 | Scon
                 | Rcon
+                | Exbfi
         )
     }
 
@@ -215,12 +227,12 @@ impl Operation {
         )
     }
 
-    /// The operations 18 to 26 and 33, which in a 16-bit word take dr as source
+    /// The operations 18 to 26, 33, 60 and 61, which in a 16-bit word take dr as source
     /// and target: "with an immediate, but for ld and st, dr is source and target".
     fn has_register_and_immediate(self) -> bool {
         matches!(
             self,
-            Addi | Addiu | Andi | Ori | Muli | Slli | Srli | Srai | Sexti | Cmpi
+            Addi | Addiu | Andi | Ori | Muli | Slli | Srli | Srai | Sexti | Cmpi | Exb | Exh
         )
     }
 }
@@ -252,13 +264,13 @@ pub fn operation_number(word: u32, length: WordLength) -> u32 {
     }
 }
 
-/// Decodes a word, or nothing where its operation is unknown.
-pub fn decode(word: u32, length: WordLength) -> Option<Instruction> {
-    let operation = Operation::from_number(operation_number(word, length))?;
-    Some(match length {
+/// Decodes a word.
+pub fn decode(word: u32, length: WordLength) -> Instruction {
+    let operation = Operation::from_number(operation_number(word, length));
+    match length {
         WordLength::Bits32 => decode_32(operation, word),
         WordLength::Bits16 => decode_16(operation, word),
-    })
+    }
 }
 
 /// "32-bit: bits 31..26 operation; bit 25 conditional; 24..22 condition register;
@@ -291,6 +303,10 @@ fn immediate_32(operation: Operation, word: u32) -> i64 {
         Jmp | Jal => sign_extend(bits(word, 24, 0), 25),
         Branch(_) => sign_extend(bits(word, 21, 0), 22),
         Swm | Chrs | Trap => i64::from(bits(word, 4, 0)),
+        Exb => i64::from(nine_bits & 3),
+        Exh => i64::from(nine_bits & 1),
+        // "length in bits 24..19, position in 4..0", combined as exbf's second source is.
+        Exbfi => i64::from(bits(word, 24, 19) << 5 | bits(word, 4, 0)),
         _ => 0,
     }
 }
@@ -327,6 +343,8 @@ fn immediate_16(operation: Operation, word: u32) -> i64 {
         Ld | St => sign_extend(bits(word, 9, 6), 4),
         Jmp | Jal | Branch(_) => sign_extend(bits(word, 9, 0), 10),
         Swm | Chrs | Trap => i64::from(bits(word, 4, 0)),
+        Exb => i64::from(seven_bits & 3),
+        Exh => i64::from(seven_bits & 1),
         _ => 0,
     }
 }

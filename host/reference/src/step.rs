@@ -7,10 +7,9 @@ use crate::machine::{
     SUPER_USER_PSR, UM,
 };
 
-/// Exception codes (002, table 5.5).
+/// Exception codes (002, table 5.5). 02: "Code 01h no longer occurs."
 mod exception {
     pub const INSTRUCTION_ADDRESS_VIOLATION: u32 = 0x00;
-    pub const UNKNOWN_OPCODE: u32 = 0x01;
     pub const ILLEGAL_INSTRUCTION: u32 = 0x02;
     pub const MISALIGNED_JUMP_ADDRESS: u32 = 0x03;
     pub const JUMP_ADDRESS_OVERFLOW: u32 = 0x04;
@@ -122,7 +121,7 @@ impl Machine {
         match self.fetch(program) {
             Ok(word) => {
                 let number = operation_number(word, self.word_length());
-                Operation::from_number(number) == Some(Operation::Mulhi)
+                Operation::from_number(number) == Operation::Mulhi
             }
             Err(_) => false,
         }
@@ -217,9 +216,7 @@ impl Machine {
     /// a fault the machine is of no further use: the caller goes on with a copy.
     fn run_instruction(&mut self, program: &[u8], cells: &mut [u32]) -> Result<(), Fault> {
         let word = self.fetch(program)?;
-
-        let instruction =
-            decode(word, self.word_length()).ok_or(Fault::Exception(exception::UNKNOWN_OPCODE))?;
+        let instruction = decode(word, self.word_length());
 
         if self.illegal(instruction.operation) {
             return Err(Fault::Exception(exception::ILLEGAL_INSTRUCTION));
@@ -248,10 +245,13 @@ impl Machine {
         self.execute(instruction, address, product, cells)
     }
 
-    /// "Code 02h: lli, lui in 16-bit; those two [retu, chrs] in user mode."
+    /// "Code 02h: lli, lui in 16-bit; those two [retu, chrs] in user mode." 02: exbfi is
+    /// "code 02h in 16-bit".
     fn illegal(&self, operation: Operation) -> bool {
         match operation {
-            Operation::Lli | Operation::Lui => self.word_length() == WordLength::Bits16,
+            Operation::Lli | Operation::Lui | Operation::Exbfi => {
+                self.word_length() == WordLength::Bits16
+            }
             Operation::Retu | Operation::Chrs => self.user_mode(),
             _ => false,
         }
@@ -429,6 +429,15 @@ impl Machine {
                     *register = first >> (3 * n) & 7;
                 }
             }
+
+            Conb => self.write_register(target, concatenate(first, second, 8)),
+            Conh => self.write_register(target, concatenate(first, second, 16)),
+            // "byte number immediate bits 1..0 of the source, 0 lowest"; "halfword by
+            // bit 0"
+            Exb => self.write_register(target, first >> (8 * extended) & 0xFF),
+            Exh => self.write_register(target, first >> (16 * extended) & 0xFFFF),
+            Exbf => self.write_register(target, extract_field(first, second)),
+            Exbfi => self.write_register(target, extract_field(first, extended)),
         }
         Ok(())
     }
@@ -572,4 +581,21 @@ fn extend_sign_from(value: u32, position: u32) -> u32 {
     } else {
         value & !above
     }
+}
+
+/// conb and conh: the low `width` bits of the first above those of the second. 02, wish 1:
+/// "low byte of first × 256 + low byte of second", "the same with halfwords and 65,536".
+fn concatenate(first: u32, second: u32, width: u32) -> u32 {
+    let low_bits = (1 << width) - 1;
+    (first & low_bits) << width | second & low_bits
+}
+
+/// exbf and exbfi: the field of `value` that `field` names, "length from second source
+/// bits 10..5, position 4..0". "A field's bits beyond 31 are zero; a length over 32 counts
+/// as 32."
+fn extract_field(value: u32, field: u32) -> u32 {
+    let length = (field >> 5 & 63).min(32);
+    let position = field & 31;
+    let low_bits = ((1_u64 << length) - 1) as u32;
+    value >> position & low_bits
 }

@@ -232,6 +232,11 @@ pub fn plain(operation: u32, immediate: u32) -> u32 {
     operation << 26 | immediate
 }
 
+/// exbfi (63), "length in bits 24..19, position in 4..0".
+pub fn exbfi(dreg: u32, sreg1: u32, length: u32, position: u32) -> u32 {
+    63 << 26 | length << 19 | dreg << 10 | sreg1 << 5 | position
+}
+
 /// The same word as executed on a condition of a condition register.
 pub fn when(condition: u32, creg: u32, word: u32) -> u32 {
     word | 1 << 25 | creg << 22 | condition << 19

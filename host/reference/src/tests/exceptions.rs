@@ -38,24 +38,31 @@ fn code_00() {
     bench.raises(0x00);
 }
 
-/// 01h: operations 58 to 63.
+/// 02: "Code 01h no longer occurs", whatever the operation, the width and the mode.
 #[test]
-fn code_01() {
-    for operation in 58..64 {
-        Bench::new(&[operation << 26]).raises(0x01);
-        Bench::new(&[when(0, 0, operation << 26)]).raises(0x01);
-        Bench::new_16(&[(operation << 10) as u16]).raises(0x01);
+fn no_code_01() {
+    for operation in 0..64 {
+        for bits in [0, 0x03FF_FFFF] {
+            let wide = operation << 26 | bits;
+            let short = (operation << 10 | bits & 0x3FF) as u16;
+            for bench in [
+                Bench::new(&[wide]),
+                Bench::new(&[wide]).user(),
+                Bench::new_16(&[short]),
+                Bench::new_16(&[short]).user(),
+            ] {
+                let mut bench = bench.control(offset::EXCEPTION_CS, 0xFF);
+                bench.run(1);
+                assert_ne!(bench.exception_code(), 0x01, "operation {operation}");
+            }
+        }
     }
-    // In a slot too, and the slot is dropped.
-    let mut bench = Bench::new(&[jump(36, 8), 60 << 26]);
-    bench.steps(1);
-    bench.raises(0x01);
 }
 
-/// 02h: "lli, lui in 16-bit; those two in user mode" (retu, chrs).
+/// 02h: "lli, lui in 16-bit; those two in user mode" (retu, chrs), and exbfi in 16-bit.
 #[test]
 fn code_02() {
-    for operation in [34, 35] {
+    for operation in [34, 35, 63] {
         Bench::new_16(&[operation << 10]).raises(0x02);
         Bench::new_16(&[operation << 10]).user().raises(0x02);
     }
@@ -65,9 +72,9 @@ fn code_02() {
             .raises(0x02);
         Bench::new_16(&[operation << 10]).user().raises(0x02);
     }
-    // lli and lui are fine in user mode with 32-bit words, and no other operation is
-    // refused in user mode.
-    for operation in (0..=57).filter(|operation| ![49, 51].contains(operation)) {
+    // lli, lui and exbfi are fine in user mode with 32-bit words, and no other operation
+    // is refused in user mode.
+    for operation in (0..=63).filter(|operation| ![49, 51].contains(operation)) {
         let mut bench = Bench::new(&[operation << 26]).user().in_service(0, 0, 9, 0);
         bench.machine.position.product = Some(0);
         bench.steps(1);

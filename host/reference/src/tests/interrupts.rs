@@ -304,8 +304,11 @@ fn the_mulhi_rule() {
 /// Acceptance comes before anything of the instruction is asked.
 #[test]
 fn acceptance_before_the_instruction() {
-    // An absent word, a misaligned address, an unknown operation.
-    for bench in [ready(&[]), ready(&[NOP]).at(1), ready(&[63 << 26])] {
+    // 16-bit exbfi, which is 02h.
+    let mut illegal = ready(&[63 << 26]);
+    illegal.machine.set_psr(0x16);
+    // An absent word, a misaligned address, an illegal instruction.
+    for bench in [ready(&[]), ready(&[NOP]).at(1), illegal] {
         let mut bench = bench;
         let pc = bench.pc();
         assert_eq!(accepted(&mut bench, 2), Some(1));

@@ -1,9 +1,10 @@
 //! Tests. Every expectation is derived from the papers: 01's "Worked by hand" and
-//! the sentences quoted at each test, and 002's sections.
+//! the sentences quoted at each test, 02's wishes, and 002's sections.
 
 mod bench;
 mod control_block;
 mod exceptions;
+mod fields;
 mod images;
 mod interrupts;
 mod operations;

@@ -4,7 +4,7 @@ use super::bench::*;
 use crate::machine::offset;
 
 /// Runs an operation on two registers in both widths: result and C0.
-fn compute(operation: u32, first: u32, second: u32) -> (u32, u32) {
+pub fn compute(operation: u32, first: u32, second: u32) -> (u32, u32) {
     let mut wide = Bench::new(&[rrr(operation, 25, 26, 27)])
         .pr(26, first)
         .pr(27, second);
@@ -24,7 +24,7 @@ fn compute(operation: u32, first: u32, second: u32) -> (u32, u32) {
 
 /// Runs an operation on a register and an immediate that both widths can hold: result
 /// and C0.
-fn compute_immediate(operation: u32, first: u32, immediate: i32) -> (u32, u32) {
+pub fn compute_immediate(operation: u32, first: u32, immediate: i32) -> (u32, u32) {
     let mut wide = Bench::new(&[rri(operation, 25, 26, immediate)]).pr(26, first);
     wide.steps(1);
     let mut short = Bench::new_16(&[h_ri(operation as u16, 1, immediate as i16)]).pr(25, first);
@@ -147,7 +147,7 @@ fn bitwise() {
 /// No flags are written but by add, addi, addu, addiu, sub, subu, cmp, cmpi, rcon, reti.
 #[test]
 fn flags_untouched() {
-    for operation in (5..=17).chain(20..=26).chain([29, 30]) {
+    for operation in (5..=17).chain(20..=26).chain([29, 30]).chain(58..=63) {
         let mut bench = Bench::new(&[rrr(operation, 3, 1, 2)])
             .pr(1, 0x8000_0001)
             .pr(2, 0xFFFF_FFFF);

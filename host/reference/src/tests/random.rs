@@ -36,12 +36,6 @@ fn random_bench(random: &mut Random) -> Bench {
     let mut bench = Bench::new(&[]);
     let length = random.below(300);
     bench.program = (0..length).map(|_| random.next() as u8).collect();
-    for word in bench.program.chunks_exact_mut(4) {
-        // Mostly known operations.
-        if random.below(4) != 0 {
-            word[0] = (random.below(58) << 2 | random.below(4)) as u8;
-        }
-    }
     bench.cells = (0..random.below(80)).map(|_| random.next()).collect();
     bench.requests = (0..random.below(60))
         .map(|_| {

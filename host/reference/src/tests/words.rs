@@ -4,14 +4,14 @@ use super::bench::*;
 use crate::decode::{decode, Condition, Operation, WordLength};
 
 fn decode_32(word: u32) -> crate::decode::Instruction {
-    decode(word, WordLength::Bits32).unwrap()
+    decode(word, WordLength::Bits32)
 }
 
 fn decode_16(word: u16) -> crate::decode::Instruction {
-    decode(u32::from(word), WordLength::Bits16).unwrap()
+    decode(u32::from(word), WordLength::Bits16)
 }
 
-/// The numbers that 01's list of operations names.
+/// The numbers that 01's list of operations names, and those of 02's wish 1.
 #[test]
 fn operation_numbers() {
     use Operation::*;
@@ -50,14 +50,16 @@ fn operation_numbers() {
         (55, Trap),
         (56, Scon),
         (57, Rcon),
+        (58, Conb),
+        (59, Conh),
+        (60, Exb),
+        (61, Exh),
+        (62, Exbf),
+        (63, Exbfi),
     ];
     for (number, operation) in named {
         assert_eq!(decode_32(number << 26).operation, operation);
         assert_eq!(decode_16((number << 10) as u16).operation, operation);
-    }
-    for number in 58..64 {
-        assert_eq!(decode(number << 26, WordLength::Bits32), None);
-        assert_eq!(decode(number << 10, WordLength::Bits16), None);
     }
 }
 
@@ -103,6 +105,17 @@ fn immediates_of_32_bit_words() {
     for operation in [54, 51, 55] {
         assert_eq!(decode_32(operation << 26 | 0x3FF_FFF5).immediate, 0x15);
     }
+    // exb: "immediate bits 1..0"; exh: "by bit 0".
+    for immediate in 0..0x200 {
+        assert_eq!(
+            decode_32(rri(60, 4, 5, immediate)).immediate,
+            i64::from(immediate & 3)
+        );
+        assert_eq!(
+            decode_32(rri(61, 4, 5, immediate)).immediate,
+            i64::from(immediate & 1)
+        );
+    }
 }
 
 #[test]
@@ -112,8 +125,8 @@ fn fields_of_16_bit_words() {
         (instruction.target, instruction.source1, instruction.source2),
         (25, 26, 25)
     );
-    // With an immediate, dr is source and target: 18 to 26 and 33.
-    for operation in (18..=26).chain([33]) {
+    // With an immediate, dr is source and target: 18 to 26, 33, 60 and 61.
+    for operation in (18..=26).chain([33, 60, 61]) {
         let instruction = decode_16(h_ri(operation, 5, 0x55));
         assert_eq!((instruction.target, instruction.source1), (29, 29));
     }
@@ -147,8 +160,18 @@ fn fields_of_16_bit_words() {
     for operation in [54, 51, 55] {
         assert_eq!(decode_16(operation << 10 | 0x3F5).immediate, 0x15);
     }
+    for immediate in 0..0x80 {
+        assert_eq!(
+            decode_16(h_ri(60, 0, immediate)).immediate,
+            i64::from(immediate & 3)
+        );
+        assert_eq!(
+            decode_16(h_ri(61, 0, immediate)).immediate,
+            i64::from(immediate & 1)
+        );
+    }
     // "Nothing is conditional, only C0 is used."
-    for operation in 0..58 {
+    for operation in 0..64 {
         let instruction = decode_16(operation << 10 | 0x3FF);
         assert_eq!(instruction.condition, None);
         assert_eq!(instruction.condition_register, 0);
@@ -217,10 +240,10 @@ fn conditions() {
 }
 
 /// Every operation that may be conditional does nothing on a false condition but move
-/// PC; 1 to 31, 38, 39, 48.
+/// PC; 1 to 31, 38, 39, 48, 58 to 62.
 #[test]
 fn false_conditions() {
-    for operation in (1..=31).chain([38, 39, 48]) {
+    for operation in (1..=31).chain([38, 39, 48]).chain(58..=62) {
         let word = when(0, 3, rrr(operation, 3, 1, 2));
         let mut bench = Bench::new(&[word]).pr(1, 0x7FFF_FFFF).pr(2, 0x7FFF_FFFF);
         bench.moves_only_pc(4);
@@ -275,6 +298,10 @@ fn never_conditional() {
     let mut bench = Bench::new(&[always(rrr(57, 0, 3, 0))]).pr(3, 6 << 6);
     bench.steps(1);
     assert_eq!(bench.machine.conditions[2], 6);
+    // exbfi: its length is where the condition would be, here C0 and c.
+    let mut bench = Bench::new(&[always(exbfi(3, 1, 0, 0))]).pr(3, 7);
+    bench.steps(1);
+    assert_eq!(bench.machine.set2[3], 0);
 }
 
 /// In 16-bit words what would be bit 25 does not exist: jmpr, jalr and scall happen.

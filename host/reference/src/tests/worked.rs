@@ -187,6 +187,27 @@ fn addition_wider_than_32_bits() {
     assert_eq!(bench.machine.set2[6], 0x31);
 }
 
+/// 002, section 6.2, exbf: the field of length 5 at position 6, by a constant and by length
+/// and position in registers.
+#[test]
+fn a_field_of_a_message_frame() {
+    let mut bench = Bench::new(&[lli(2, 0x0A6), rrr(62, 3, 0, 2)]).pr(0, 0xFFFF_FD7F);
+    bench.steps(2);
+    assert_eq!(bench.machine.set2[3], 0b10101);
+
+    let mut bench = Bench::new(&[
+        rri(23, 1, 1, 5), // slli PR1, PR1, 5
+        rrr(6, 2, 2, 1),  // or PR2, PR2, PR1
+        rrr(62, 3, 0, 2), // exbf PR3, PR0, PR2
+    ])
+    .pr(0, 0xFFFF_FD7F)
+    .pr(1, 5)
+    .pr(2, 6);
+    bench.steps(3);
+    assert_eq!(bench.machine.set2[2], 0x0A6);
+    assert_eq!(bench.machine.set2[3], 0b10101);
+}
+
 /// 002, section 4.5, first example: remapping the control block, then a store to its
 /// second register at the new place.
 #[test]
