@@ -1,4 +1,4 @@
--- What a decision can be: a stop is one of the five, an exception has a code of 01's, a store goes to a place that passed the data tests, and a privileged effect is not user mode's. Assumes nothing.
+-- What a decision can be: a stop is one of the five, an exception has the code of a test or of trap, a store goes to a place that passed the data tests, and a privileged effect is not user mode's. Assumes nothing.
 use mathlib.Core.Path.{_≡_, refl}
 use mathlib.Core.Bool.{Bool, true, false}
 use mathlib.Core.Option.{Option, none, some}

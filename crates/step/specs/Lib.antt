@@ -1,4 +1,4 @@
--- One step: interrupts (Interrupt), the step itself (Step), 01's worked examples (Worked), what is proved (Theorems; Codes of the codes of exceptions), and the code's search for the source to accept (Search).
+-- One step: interrupts (Interrupt), the step itself (Step), 01's worked examples (Worked), what is proved (Theorems, and Codes of the codes of exceptions), and the code's search for the source to accept (Search).
 pub mod Interrupt
 pub mod Step
 pub mod Search
