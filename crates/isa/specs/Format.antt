@@ -1,4 +1,5 @@
--- Where the fields of an instruction word stand (01 "Instruction words"; exbfi: 02 wish 1), and which operands a listing shows (002 section 6.2). Assumes nothing.
+-- Where the fields of an instruction word stand (01 "Instruction words"; exbfi: 02 wish 1), and which operands a listing shows (002 section 6.2).
+-- Assumes nothing.
 use mathlib.Core.Bool.{Bool, true, false}
 use mathlib.Core.List.{List, [], _∷_}
 use Prim.Native.Nat.{ℕ, _+_, _-_, _*_, _^_}
