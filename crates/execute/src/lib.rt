@@ -179,7 +179,7 @@ fn lower_half(w: &mut [u32], cells: &mut [u32], word: u32, op: u32) -> u32
 }
 
 // Words of the upper half, 29 to 63: mov to exbfi. The last group is called in two places: a function with one caller would be made a part of
-// the loop over steps, and the words of the other groups would take 7 % more instructions.
+// the loop over steps, and the words of the other groups would take 5 to 8 % more instructions.
 fn upper_half(w: &mut [u32], word: u32, op: u32) -> u32
     requires { ⌜ MachineWords (now w) × (machineOf (now w) .position .pc < MOST-MEMORY) × StackShown (machineOf (now w)) × (op ≡ opcodeOf (widthOf (psr (machineOf (now w)))) word) × (29 ≤ op) ⌝ }
     ensures { λ r. ⌜ PerformsSeen (λ v. fetchedThen v (Found word)) r (now (w .entry)) (now (w .exit)) ⌝ }
