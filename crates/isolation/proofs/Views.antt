@@ -70,7 +70,7 @@ place-same s t i j l z =
     let guard : userMode (psr (s .machine)) && protectedCell (s .machine) a ≡ userMode (psr (t .machine)) && protectedCell (t .machine) a =
     cc (l .shown .status, l .dmemLow, l .dmemHigh) in
     rw (← guard)
-    (if-else _ _ _ _ (λ _. if-else _ _ _ _ (λ e.
+    (if-else _ _ _ _ (λ e. if-else _ _ _ _ (λ _.
     found-same s t i j l a (rw (mode-user i) at e))))
 
 -- no register of such a block is unprotected

@@ -71,8 +71,8 @@ module _ (s : State) where
   unfolding placeAt
   place-meant z =
       let a = wordOf 32 z in
-      if-holds Meant (not (isAddress z)) (λ _. tt) (λ _.
       if-holds Meant (userMode (psr (s .machine)) && protectedCell (s .machine) a) (λ _. tt) (λ p.
+      if-holds Meant (not (isAddress z)) (λ _. tt) (λ _.
       found-meant a (word-below 32 z) (open-in _ _ p)))
 
   pub place-cell : (z : ℤ) (a : ℕ) → placeAt s z ≡ Found (Cell a) → CellOf s a

@@ -85,13 +85,13 @@ foundAt s a =
     else if ltb a (length (s .memory .cells)) then Found (Cell a)
     else Stops 12
 
--- "Data tests: address outside 32 bits (08h); user and protected (07h); neither block nor cell (stop 12)". The block's addresses are
--- protected like the cells'
+-- 01's data tests in the order of 02, wish 3, "In user mode, if the address taken modulo 2^32 is protected, it is now 07h": user and protected
+-- (07h); "address outside 32 bits (08h)"; "neither block nor cell (stop 12)". The block's addresses are protected like the cells'
 unfoldable pub placeAt : State → (address : ℤ) → Attempt Location
 placeAt s address =
     let a = wordOf 32 address in
-    if not (isAddress address) then Raises 0x08
-    else if userMode (psr (s .machine)) && protectedCell (s .machine) a then Raises 0x07
+    if userMode (psr (s .machine)) && protectedCell (s .machine) a then Raises 0x07
+    else if not (isAddress address) then Raises 0x08
     else foundAt s a
 
 -- the number and values of each case of the code's answer

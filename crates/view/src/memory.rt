@@ -40,16 +40,16 @@ fn found(w: &[u32], cells: &[u32], a: u32) -> Place
     }
 }
 
-// What an access of a data address reaches: 08h, 07h, or what is there.
+// What an access of a data address reaches: 07h by its low 32 bits, 08h, or what is there.
 pub fn place(w: &[u32], cells: &[u32], address: i64) -> Place
     requires { ⌜ MachineWords (now w) ⌝ }
     ensures { λ r. ⌜ placeAs r ≡ placeAt (stateOf (now (w .entry)) (memoryOf (now (cells .entry)))) address ⌝ }
 {
     let a = word::low_word(address);
-    if !word::is_address(address) {
-        Place::Denied(0x08)
-    } else if guarded(w, a) {
+    if guarded(w, a) {
         Place::Denied(0x07)
+    } else if !word::is_address(address) {
+        Place::Denied(0x08)
     } else {
         found(w, cells, a)
     }

@@ -12,24 +12,24 @@ use Rattle.view.proofs.memory.place.Tie as tie
 word-is : (c : tie.After-low-word) → c .low-word .result ≡ wordOf 32 (c .before .before .before .args .address)
 word-is c = handed (wordOf 32) (c .before .before .before .fits .address) (c .low-word .ensures)
 
-address-is : (c : tie.After-is-address) → c .is-address .result ≡ isAddress (c .before .before .before .before .args .address)
-address-is c = handed isAddress (c .before .before .before .before .fits .address) (c .is-address .ensures)
+address-is : (c : tie.After-is-address) → c .is-address .result ≡ isAddress (c .before .before .before .before .before .before .args .address)
+address-is c = handed isAddress (c .before .before .before .before .before .before .fits .address) (c .is-address .ensures)
 
 returns : tie.Need-returns
 unfolding placeAt placeAs if_then_else_
-returns c = simp (← (address-is (c .before)), ← (word-is (c .before .before)), c .if1 .taken)
+returns c = simp (← (word-is (c .before .before)), ← (c .before .guarded .ensures), c .if1 .taken)
 
 returns-2 : tie.Need-returns-2
 unfolding placeAt placeAs if_then_else_
 returns-2 c =
     let asked = c .before .before .before in
-    simp (← (address-is asked), ← (word-is (asked .before)), ← (c .before .guarded .ensures), c .before .before .if1 .left, c .if2 .taken)
+    simp (← (word-is (asked .before)), ← (asked .guarded .ensures), ← (address-is (c .before)), c .before .before .if1 .left, c .if2 .taken)
 
 returns-3 : tie.Need-returns-3
 unfolding placeAt placeAs if_then_else_
 returns-3 c =
     let asked = c .before .before .before .before in
-    rw (← (address-is asked), ← (word-is (asked .before)), ← (c .before .before .guarded .ensures), c .before .before .before .if1 .left, c .before .if2 .left)
+    rw (← (word-is (asked .before)), ← (asked .guarded .ensures), ← (address-is (c .before .before)), c .before .before .before .if1 .left, c .before .if2 .left)
     (c .found .ensures)
 
 pub place-spec : {M : Type 1} → statement M
