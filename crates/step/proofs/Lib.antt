@@ -8,3 +8,4 @@ pub mod Entered
 pub mod Stops
 pub mod Transitions
 pub mod Codes
+pub mod AddressOrder

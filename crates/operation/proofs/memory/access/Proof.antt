@@ -89,21 +89,23 @@ returns-4 c y p =
     (b .store-cell .ensures)
 
 returns-5 : tie.Need-returns-5
-unfolding placeAs
+unfolding mapFound placeAs view
 returns-5 c y p =
     let b = c .before .before in
     let e = b .before .before .before in
     let s = e .before .before .before .before .before .before .before .before .before in
     let a = s .args in
-    rw (access-raises p _ (a .i) (a .x) y (a .i .opcode) _ (leads (e .before .before) _ (e .place4 .given .1)) (s .pre .2) (s .pre .3))
+    let o = leads (e .before .before) _ (e .place4 .given .1) in
+    rw (access-raises (view p _) (a .i) (a .x) y (a .i .opcode) _ o (rw o) (s .pre .2) (s .pre .3))
     (b .raise .ensures _)
 
 returns-6 : tie.Need-returns-6
-unfolding placeAs applying
+unfolding mapFound placeAs view applying
 returns-6 c y p =
     let s = c .before .before .before .before .before .before .before .before .before in
     let a = s .args in
-    rw (access-stops p _ (a .i) (a .x) y (a .i .opcode) _ (leads (c .before .before) _ (c .enum-told .given .1)) (s .pre .2) (s .pre .3))
+    let o = leads (c .before .before) _ (c .enum-told .given .1) in
+    rw (access-stops (view p _) (a .i) (a .x) y (a .i .opcode) _ o (rw o) (s .pre .2) (s .pre .3))
 
 pub access-spec : {M : Type 1} → statement M
 access-spec =
