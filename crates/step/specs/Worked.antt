@@ -1,4 +1,5 @@
--- The worked examples of 01 that are marked *, as a table: one step from a start, what is shown of it, and what that must be. Assumes nothing.
+-- The worked examples of 01 that are marked *, and those of 02's wish 3, as a table: one step from a start, what is shown of it, and what that
+-- must be. Assumes nothing.
 use mathlib.Core.Path.{_≡_}
 use mathlib.Core.List.{List, [], _∷_, map}
 use Prim.Native.Nat.{ℕ, _+_, _*_, _^_}
@@ -6,7 +7,7 @@ use lib.ListN.{getD, set, replicate}
 use Rattle.isa.specs.Operation.{Operation, add, sub, subu, muls, mulu, mulus, ld, jmp, Properties, properties}
 use Rattle.machine.specs.Machine.{Machine, memoryOf, State, PSR, positionAt}
 use Rattle.machine.specs.declared.Position.{Position}
-use Rattle.machine.specs.Control.{reset, DMEM-BOUND-LO, DMEM-BOUND-HI, IMEM-BOUND-LO, IMEM-BOUND-HI}
+use Rattle.machine.specs.Control.{controlAt, reset, EXCEPTION-PC, EXCEPTION-PSR, DMEM-BOUND-LO, DMEM-BOUND-HI, IMEM-BOUND-LO, IMEM-BOUND-HI}
 use Rattle.codec.specs.Number.{bytesOf}
 use Rattle.effect.specs.Apply.{Transition}
 use Rattle.step.specs.Step.{step}
@@ -14,6 +15,7 @@ use Rattle.effect.specs.Kind.{Kind, Ordinary, Exception}
 
 pub record Case : Type 0 where
   pub psr : ℕ
+  pub high : ℕ  -- DMEM_BOUND_HI
   pub program : List ℕ
   pub r1 : ℕ
   pub r2 : ℕ
@@ -23,7 +25,7 @@ pub record Case : Type 0 where
   pub kind : Kind
   pub expected : List ℕ
 
--- reset but for these: C0 is 5, data addresses 10h to 13h are protected and no program byte is; 32 cells that hold 77
+-- reset but for these: C0 is 5, data addresses from 10h to DMEM_BOUND_HI are protected and no program byte is; 32 cells that hold 77
 unfoldable pub start : Case → State
 start c =
     record {
@@ -31,7 +33,7 @@ start c =
         set1 = set (set (set (set (replicate 32 0) 1 (c .r1)) 2 (c .r2)) 25 (c .r25)) 26 (c .r26);
         set2 = set (replicate 32 0) PSR (c .psr);
         conditions = set (replicate 8 0) 0 5;
-        control = set (set (set (set (reset .control) DMEM-BOUND-LO 0x10) DMEM-BOUND-HI 0x13) IMEM-BOUND-LO 1) IMEM-BOUND-HI 0;
+        control = set (set (set (set (reset .control) DMEM-BOUND-LO 0x10) DMEM-BOUND-HI (c .high)) IMEM-BOUND-LO 1) IMEM-BOUND-HI 0;
         position = positionAt 0;
         stack = [];
       };
@@ -41,11 +43,11 @@ start c =
 abbrev word : ℕ → List ℕ
 word w = bytesOf (w ∷ [])
 
--- ---- rows: in user mode with 32-bit words, where nothing else is said
+-- ---- rows: in user mode with 32-bit words and DMEM_BOUND_HI 13h, where nothing else is said
 
 abbrev wide : List ℕ → ℕ → ℕ → (State → List ℕ) → Kind → List ℕ → Case
 wide program x y shown kind expected =
-    record { psr = 0x09; program = program; r1 = x; r2 = y; r25 = 0; r26 = 0; shown = shown; kind = kind; expected = expected }
+    record { psr = 0x09; high = 0x13; program = program; r1 = x; r2 = y; r25 = 0; r26 = 0; shown = shown; kind = kind; expected = expected }
 
 -- op R3, R1, R2: R3 and C0 after it
 abbrev sum : Operation → ℕ → ℕ → Kind → List ℕ → Case
@@ -69,6 +71,22 @@ abbrev load : ℕ → Kind → List ℕ → Case
 load a kind expected =
     wide (word (properties ld .number * 2 ^ 26 + 3 * 2 ^ 10 + 1 * 2 ^ 5)) a 0 (λ s. getD (s .machine .set1) 3 0 ∷ []) kind expected
 
+-- a load or store of R3 that is an exception: R3, EXCEPTION_PC, EXCEPTION_PSR and the cells
+abbrev refused : (psr high w x code : ℕ) → Case
+refused psr high w x code =
+    record {
+      psr = psr;
+      high = high;
+      program = word w;
+      r1 = x;
+      r2 = 0;
+      r25 = 0;
+      r26 = 0;
+      shown = λ s. getD (s .machine .set1) 3 0 ∷ controlAt (s .machine) EXCEPTION-PC ∷ controlAt (s .machine) EXCEPTION-PSR ∷ s .memory .cells;
+      kind = Exception code;
+      expected = 0 ∷ 0 ∷ psr ∷ replicate 32 77;
+    }
+
 unfoldable pub cases : List Case
 cases =
     -- "add 7FFFFFFFh + 0 passes; + 1 is 06h, C0 untouched"
@@ -82,7 +100,7 @@ cases =
     product mulus 0xFFFF_FFFF 0xFFFF_FFFF (1 ∷ 0xFFFF_FFFF ∷ []) ∷
     product muls 0xFFFF_FFFF 0xFFFF_FFFF (1 ∷ 0 ∷ []) ∷
     -- "0C11h: R25 becomes R26 − R25", a 16-bit word
-    record { psr = 0x01; program = 0x0C ∷ 0x11 ∷ []; r1 = 0; r2 = 0; r25 = 3; r26 = 10; shown = λ s. getD (s .machine .set1) 25 0 ∷ []; kind = Ordinary; expected = 7 ∷ [] } ∷
+    record { psr = 0x01; high = 0x13; program = 0x0C ∷ 0x11 ∷ []; r1 = 0; r2 = 0; r25 = 3; r26 = 10; shown = λ s. getD (s .machine .set1) 25 0 ∷ []; kind = Ordinary; expected = 7 ∷ [] } ∷
     -- "at 0, jmp 1 is 03h, jmp 2 goes to 8"
     jump 1 (Exception 0x03) (0 ∷ 0 ∷ []) ∷
     jump 2 Ordinary (1 ∷ 8 ∷ []) ∷
@@ -93,6 +111,16 @@ cases =
     load 0x14 Ordinary (77 ∷ []) ∷
     load 0x10 (Exception 0x07) (0 ∷ []) ∷
     load 0x13 (Exception 0x07) (0 ∷ []) ∷
+    -- 02, wish 3: FFFFFFFFh + 16, 17, 20 and 21 are 0Fh, 10h, 13h and 14h when wrapped
+    refused 0x09 0x13 0x6C00_0C30 0xFFFF_FFFF 0x08 ∷  -- ld R3, R1, 16
+    refused 0x09 0x13 0x6C00_0C31 0xFFFF_FFFF 0x07 ∷  -- ld R3, R1, 17
+    refused 0x09 0x13 0x7000_0C34 0xFFFF_FFFF 0x07 ∷  -- st R3, R1, 20
+    refused 0x09 0x13 0x7000_0C35 0xFFFF_FFFF 0x08 ∷  -- st R3, R1, 21
+    -- in super user mode
+    refused 0x08 0x13 0x6C00_0C31 0xFFFF_FFFF 0x08 ∷  -- ld R3, R1, 17
+    -- 0 − 1 is FFFFFFFFh when wrapped
+    refused 0x09 0x13 0x6C07_8C3F 0 0x08 ∷  -- ld R3, R1, −1
+    refused 0x09 0xFFFF_FFFF 0x6C07_8C3F 0 0x07 ∷
     []
 
 -- ---- what the definitions give at a case, and what they must
