@@ -499,14 +499,15 @@ static inline uint32_t instruction(struct machine *m, const struct memories *len
     case LD:
     case ST: {
         int64_t sum = (int64_t)a + (int32_t)signed_immediate(word);
-        if (sum < 0 || sum > 0xFFFFFFFF) {
-            code = DATA_OVERFLOW;
-            goto exception;
-        }
+        // 07h goes by the address modulo 2^32, and comes before 08h.
         uint32_t address = (uint32_t)sum;
         if ((psr & UM) && m->control[DMEM_BOUND_LO] <= address
             && address <= m->control[DMEM_BOUND_HI]) {
             code = PROTECTED_DATA;
+            goto exception;
+        }
+        if (sum < 0 || sum > 0xFFFFFFFF) {
+            code = DATA_OVERFLOW;
             goto exception;
         }
         // The block does not wrap: CCB_BASE has a low byte of 0.

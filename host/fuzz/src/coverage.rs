@@ -59,6 +59,11 @@ pub struct Coverage {
     exceptions_user: u64,
     exceptions_in_slot: u64,
     exceptions_with_product: u64,
+    /// Loads and stores outside 32 bits, below 0 and above: 07h where the wrapped address
+    /// is protected; 08h in user mode where it is not; 08h in super user mode where it is.
+    wrapped_violations: [u64; 2],
+    user_overflows: [u64; 2],
+    super_user_overflows: [u64; 2],
     /// Loads and stores: of the control block by offset, all beyond 2Ch together; of
     /// the control block where it lies over cells; of cells.
     control: [[u64; CONTROL_REGISTERS + 1]; 2],
@@ -99,6 +104,9 @@ impl Coverage {
             exceptions_user: 0,
             exceptions_in_slot: 0,
             exceptions_with_product: 0,
+            wrapped_violations: [0; 2],
+            user_overflows: [0; 2],
+            super_user_overflows: [0; 2],
             control: [[0; CONTROL_REGISTERS + 1]; 2],
             over_cells: [0; 2],
             cells: [0; 2],
@@ -144,7 +152,7 @@ impl Coverage {
             self.count_acceptance(before, after, waiting);
             return;
         }
-        let word = fetch(program, before);
+        let word = word_at(program, before.pc(), before.wide());
         let operation = word.map(|word| words::operation(word, before.wide()));
         if waiting != 0 && before.position[SLOT] == 1 {
             self.waited_for_slot += 1;
@@ -161,10 +169,30 @@ impl Coverage {
                 self.done[usize::from(before.wide())][TRAP as usize] += 1;
                 self.effect[usize::from(before.wide())][TRAP as usize] += 1;
             }
+            if let (Some(word), Some(LD | ST)) = (word, operation) {
+                self.count_outside(word, code, before);
+            }
             return;
         }
         if let (Some(word), Some(operation)) = (word, operation) {
             self.count_instruction(word, operation, before, after, cells);
+        }
+    }
+
+    /// Counts 07h and 08h of a load or store whose address is outside 32 bits.
+    fn count_outside(&mut self, word: u32, code: u32, before: &Image) {
+        let (base, immediate) = memory_operand(word, before.wide());
+        let sum = i64::from(before.source(base)) + immediate;
+        let wrapped = sum as u32;
+        if sum == i64::from(wrapped) {
+            return;
+        }
+        let above = usize::from(sum > 0);
+        match (code, before.user(), before.data_protected(wrapped)) {
+            (7, true, true) => self.wrapped_violations[above] += 1,
+            (8, true, false) => self.user_overflows[above] += 1,
+            (8, false, true) => self.super_user_overflows[above] += 1,
+            _ => {}
         }
     }
 
@@ -296,6 +324,20 @@ impl Coverage {
             self.exceptions_with_product,
             "exception with a product held".into(),
         );
+        for (above, side) in ["below 0", "above 32 bits"].into_iter().enumerate() {
+            need(
+                self.wrapped_violations[above],
+                format!("07h by a wrapped address, {side}"),
+            );
+            need(
+                self.user_overflows[above],
+                format!("08h in user mode, {side}"),
+            );
+            need(
+                self.super_user_overflows[above],
+                format!("08h in super user mode where the wrapped address is protected, {side}"),
+            );
+        }
         for (width, name) in ["16-bit", "32-bit"].into_iter().enumerate() {
             for (operation, mnemonic) in NAMES.iter().enumerate() {
                 if width == 0 && only_wide(operation as u32) {
@@ -439,6 +481,16 @@ impl Coverage {
                 self.exceptions_with_product
             ),
         );
+        let sides = |counts: [u64; 2]| format!("below {}, above {}", counts[0], counts[1]);
+        put(
+            out,
+            format!(
+                "addresses outside 32 bits: 07h by the wrapped address {}; 08h beside it {}; 08h in super user mode where it is protected {}",
+                sides(self.wrapped_violations),
+                sides(self.user_overflows),
+                sides(self.super_user_overflows)
+            ),
+        );
         line(
             out,
             "interrupts by source",
@@ -541,17 +593,6 @@ fn line<'a, N: std::fmt::Display>(
         mark = ',';
     }
     text.push('\n');
-}
-
-/// The word at PC, where all of it is there.
-fn fetch(program: &[u8], image: &Image) -> Option<u32> {
-    let start = image.pc() as usize;
-    let bytes = program.get(start..start + words::bytes(image.wide()) as usize)?;
-    Some(
-        bytes
-            .iter()
-            .fold(0, |word, &byte| word << 8 | u32::from(byte)),
-    )
 }
 
 /// The sources that are pending, masked in and above all in service, while IE is 1.

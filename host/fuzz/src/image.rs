@@ -141,6 +141,11 @@ impl Image {
         }
     }
 
+    /// Whether a data address is protected.
+    pub fn data_protected(&self, address: u32) -> bool {
+        self.control[DMEM_BOUND_LO] <= address && address <= self.control[DMEM_BOUND_HI]
+    }
+
     /// The priority number of a source.
     pub fn priority(&self, source: usize) -> u32 {
         if source < 4 {

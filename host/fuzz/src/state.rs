@@ -267,6 +267,9 @@ impl Builder<'_> {
         }
         self.image.set2[PSR] = self.status(wide);
         self.image.position[PC] = pc;
+        if self.random.percent(10) {
+            self.address_outside(region);
+        }
         if self.random.percent(12) {
             self.image.position[SLOT] = 1;
             self.image.position[TARGET] = if self.random.percent(85) {
@@ -291,6 +294,56 @@ impl Builder<'_> {
                 }
             }
         }
+    }
+
+    /// Starts at a load or store of a region with an address outside 32 bits, mostly with
+    /// bounds that end at the wrapped address or next to it.
+    fn address_outside(&mut self, region: Region) {
+        let Some((at, base, immediate)) = self.memory_in(region) else {
+            return;
+        };
+        // From the end of the range, less far than the immediate goes.
+        let distance = self.random.below(immediate.unsigned_abs() as u32);
+        let start = if immediate < 0 {
+            distance
+        } else {
+            u32::MAX - distance
+        };
+        self.image.position[PC] = at;
+        self.image.set1[base] = start;
+        if base != PSR {
+            self.image.set2[base] = start;
+        }
+        let wrapped = start.wrapping_add(immediate as u32);
+        let point = wrapped.wrapping_add(self.random.below(3)).wrapping_sub(1);
+        let (low, high) = match self.random.below(6) {
+            0 => (point, point),
+            1 => (0, point),
+            2 => (point, u32::MAX),
+            3 => (point, point.saturating_add(self.random.below(20))),
+            // "LO above HI protects nothing."
+            4 => (point, point.saturating_sub(1)),
+            _ => return,
+        };
+        self.image.control[DMEM_BOUND_LO] = low;
+        self.image.control[DMEM_BOUND_HI] = high;
+    }
+
+    /// The address, base register and immediate of a load or store in a region, whose
+    /// immediate is not 0.
+    fn memory_in(&mut self, region: Region) -> Option<(u32, usize, i64)> {
+        let mut at = program::word_of(self.random, region, region.wide);
+        while at < region.end {
+            let word = words::word_at(self.program, at, region.wide)?;
+            if matches!(words::operation(word, region.wide), words::LD | words::ST) {
+                let (base, immediate) = words::memory_operand(word, region.wide);
+                if immediate != 0 {
+                    return Some((at, base, immediate));
+                }
+            }
+            at += words::bytes(region.wide);
+        }
+        None
     }
 
     /// A valid PSR with the given word length.

@@ -88,6 +88,17 @@ pub fn bytes(wide: bool) -> u32 {
     }
 }
 
+/// The word at an address, where all of it is there.
+pub fn word_at(program: &[u8], address: u32, wide: bool) -> Option<u32> {
+    let start = address as usize;
+    let bytes = program.get(start..start + bytes(wide) as usize)?;
+    Some(
+        bytes
+            .iter()
+            .fold(0, |word, &byte| word << 8 | u32::from(byte)),
+    )
+}
+
 /// A 32-bit word of three registers.
 pub fn wide_registers(operation: u32, target: u32, first: u32, second: u32) -> u32 {
     operation << 26 | target << 10 | first << 5 | second

@@ -508,13 +508,18 @@ impl Machine {
         Ok(())
     }
 
-    /// Where a load or store goes. "Data tests: address outside 32 bits (08h); user
-    /// and protected (07h); neither block nor cell (stop 12)."
+    /// Where a load or store goes. 01: "Data tests: address outside 32 bits (08h); user
+    /// and protected (07h); neither block nor cell (stop 12)." 02, wish 3, puts the second
+    /// first: "In user mode, if the address taken modulo 2^32 is protected, it is now 07h."
     fn data_place(&self, base: u32, immediate: i64, cells: usize) -> Result<Place, Fault> {
-        let address = u32::try_from(i64::from(base) + immediate)
-            .map_err(|_| Fault::Exception(exception::DATA_ADDRESS_OVERFLOW))?;
+        let sum = i64::from(base) + immediate;
+        // The address modulo 2^32.
+        let address = sum as u32;
         if self.user_mode() && self.data_protected(address) {
             return Err(Fault::Exception(exception::DATA_ADDRESS_VIOLATION));
+        }
+        if sum != i64::from(address) {
+            return Err(Fault::Exception(exception::DATA_ADDRESS_OVERFLOW));
         }
         // "the control block's 256 addresses from CCB_BASE first, then cells"
         let first = self.control[offset::CCB_BASE];

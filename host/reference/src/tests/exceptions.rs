@@ -191,7 +191,8 @@ fn code_06_in_a_slot() {
     assert_eq!(bench.machine.control[offset::EXCEPTION_PC], 4);
 }
 
-/// 07h: user and protected, for loads and stores, cells and control block; before stop 12.
+/// 07h: user and protected, for loads and stores, cells and control block; before 08h and
+/// stop 12.
 #[test]
 fn code_07() {
     for operation in [27, 28] {
@@ -235,19 +236,17 @@ fn code_07() {
     bench.raises(0x07);
 }
 
-/// 08h: an address outside 32 bits; before 07h.
+/// 08h: an address outside 32 bits; after 07h (02, wish 3).
 #[test]
 fn code_08() {
     for operation in [27, 28] {
         for (base, immediate) in [(0, -1), (255, -256), (0xFFFF_FFFF, 1), (0xFFFF_FF01, 255)] {
-            Bench::new(&[rri(operation, 2, 1, immediate)])
-                .pr(1, base)
-                .raises(0x08);
-            let mut bench = Bench::new(&[rri(operation, 2, 1, immediate)])
-                .user()
-                .r(1, base);
+            let word = rri(operation, 2, 1, immediate);
+            Bench::new(&[word]).pr(1, base).raises(0x08);
+            Bench::new(&[word]).user().r(1, base).raises(0x08);
+            let mut bench = Bench::new(&[word]).user().r(1, base);
             bench.protect_data(0, 0xFFFF_FFFF);
-            bench.raises(0x08);
+            bench.raises(0x07);
         }
         Bench::new_16(&[h_memory(operation as u16, 1, 2, -8)])
             .pr(25, 7)
@@ -256,6 +255,190 @@ fn code_08() {
         Bench::new(&[rri(operation, 2, 1, 1)])
             .pr(1, 0xFFFF_FFFE)
             .stops(12);
+    }
+}
+
+/// User mode, R1 as given, 32 cells of 77 and the bounds 10h to 13h.
+fn bounded(words: &[u32], base: u32) -> Bench {
+    let mut bench = Bench::new(words).user().r(1, base).r(3, 9);
+    bench.cells = vec![77; 32];
+    bench.protect_data(0x10, 0x13);
+    bench
+}
+
+/// 02, wish 3: "In user mode, if the address taken modulo 2^32 is protected, it is now
+/// 07h."
+#[test]
+fn wrapped_address() {
+    for (word, base, code) in [
+        (0x6C00_0C30, 0xFFFF_FFFF, 0x08), // ld R3, R1, 16: 0Fh
+        (0x6C00_0C31, 0xFFFF_FFFF, 0x07), // ld R3, R1, 17: 10h
+        (0x7000_0C34, 0xFFFF_FFFF, 0x07), // st R3, R1, 20: 13h
+        (0x7000_0C35, 0xFFFF_FFFF, 0x08), // st R3, R1, 21: 14h
+        (0x6C07_8C3F, 0, 0x08),           // ld R3, R1, -1: FFFFFFFFh
+    ] {
+        let mut bench = bounded(&[NOP, word], base).at(4);
+        bench.raises(code);
+        assert_eq!(bench.machine.control[offset::EXCEPTION_PC], 4);
+        assert_eq!(bench.machine.control[offset::EXCEPTION_PSR], 0x09);
+        assert_eq!(bench.machine.set1[3], 9);
+        assert_eq!(bench.cells, [77; 32]);
+    }
+    let mut bench = bounded(&[0x6C07_8C3F], 0);
+    bench.protect_data(0x10, 0xFFFF_FFFF);
+    bench.raises(0x07);
+    // Super user, with either set.
+    for psr in [0x08, 0x0A, 0x0C, 0x0E] {
+        for word in [0x6C00_0C31, 0x7000_0C34] {
+            let mut bench = bounded(&[word], 0xFFFF_FFFF).pr(1, 0xFFFF_FFFF);
+            bench.machine.set_psr(psr);
+            bench.raises(0x08);
+        }
+    }
+}
+
+/// The order of the data tests at all addresses that can be outside 32 bits, and those
+/// beside them: user and protected modulo 2^32 (07h); outside 32 bits (08h); the rest as
+/// 01 says.
+#[test]
+fn data_tests_at_the_ends_of_the_range() {
+    let bounds = [
+        (0, 0),
+        (1, 0xFE),
+        (0xFE, 0xFE),
+        (0xFF, 0xFFFF_FEFF),
+        (0xFFFF_FF00, 0xFFFF_FF00),
+        (0xFFFF_FF01, 0xFFFF_FFFE),
+        (0xFFFF_FFFF, 0xFFFF_FFFF),
+        (0, 0xFFFF_FFFF),
+        // Nothing is protected.
+        (1, 0),
+        (0xFFFF_FFFF, 0),
+    ];
+    for base in [0, 1, 255, 256, 0xFFFF_FF00, 0xFFFF_FF01, 0xFFFF_FFFF] {
+        for immediate in -256..=255 {
+            let sum = i64::from(base) + i64::from(immediate);
+            let wrapped = sum.rem_euclid(1 << 32);
+            for (low, high) in bounds {
+                for operation in [27, 28] {
+                    let word = rri(operation, 3, 1, immediate);
+                    let mut bench = bounded(&[word], base);
+                    bench.protect_data(low, high);
+                    if i64::from(low) <= wrapped && wrapped <= i64::from(high) {
+                        bench.raises(0x07);
+                    } else if sum != wrapped {
+                        bench.raises(0x08);
+                    } else if sum >= 32 {
+                        bench.stops(12);
+                    } else {
+                        bench.steps(1);
+                        assert_eq!((bench.pc(), bench.psr()), (4, 0x09));
+                    }
+                }
+            }
+        }
+    }
+}
+
+/// Protection goes by the address modulo 2^32, present or not, block or cell.
+#[test]
+fn wrapped_address_of_any_kind() {
+    for operation in [27, 28] {
+        // No cells, and the control block elsewhere.
+        let mut bench = bounded(&[rri(operation, 3, 1, 17)], 0xFFFF_FFFF);
+        bench.cells.clear();
+        bench.raises(0x07);
+        // In the control block, at either end of the range. INT_MASK is at 12h.
+        for (block, base, immediate) in [
+            (0, 0xFFFF_FFFF, 0x13),
+            (0, 0xFFFF_FFFF, 1),
+            (0, 0xFFFF_FF01, 255),
+            (0xFFFF_FF00, 0, -1),
+            (0xFFFF_FF00, 0, -0xEE),
+            (0xFFFF_FF00, 0, -256),
+        ] {
+            for cells in [0, 32] {
+                let mut bench = bounded(&[rri(operation, 3, 1, immediate)], base)
+                    .control(offset::CCB_BASE, block);
+                bench.cells.truncate(cells);
+                bench.protect_data(block, block + 255);
+                bench.raises(0x07);
+
+                let mut bench = bounded(&[rri(operation, 3, 1, immediate)], base)
+                    .control(offset::CCB_BASE, block);
+                bench.cells.truncate(cells);
+                bench.protect_data(0x100, 0xFFFF_FEFF);
+                bench.raises(0x08);
+            }
+        }
+        // "LO above HI protects nothing."
+        for immediate in 16..=21 {
+            let mut bench = bounded(&[rri(operation, 3, 1, immediate)], 0xFFFF_FFFF);
+            bench.protect_data(0x13, 0x10);
+            bench.raises(0x08);
+        }
+    }
+}
+
+/// In a branch slot, on a condition, with a product held and with requests.
+#[test]
+fn wrapped_address_in_a_program() {
+    for (immediate, code) in [(16, 0x08), (17, 0x07), (20, 0x07), (21, 0x08)] {
+        for operation in [27, 28] {
+            let word = rri(operation, 3, 1, immediate);
+            let mut bench = bounded(&[jump(36, 8), word], 0xFFFF_FFFF);
+            bench.steps(1);
+            assert_eq!(bench.machine.position.slot, Some(20));
+            bench.raises(code);
+            assert_eq!(bench.machine.control[offset::EXCEPTION_PC], 4);
+
+            // Condition 0 is C of the condition register.
+            bounded(&[when(0, 5, word)], 0xFFFF_FFFF).moves_only_pc(4);
+            bounded(&[when(0, 5, word)], 0xFFFF_FFFF)
+                .c(5, 1)
+                .raises(code);
+            let mut bench = bounded(&[jump(36, 8), when(0, 5, word)], 0xFFFF_FFFF);
+            bench.steps(2);
+            assert_eq!((bench.pc(), bench.machine.position.slot), (20, None));
+            assert_eq!((bench.psr(), bench.machine.set1[3]), (0x09, 9));
+
+            let mut bench = bounded(&[word], 0xFFFF_FFFF);
+            bench.machine.position.product = Some(1);
+            bench.requests = vec![0x801];
+            bench.raises(code);
+            assert_eq!(bench.machine.control[offset::INT_PEND], 0x801);
+        }
+    }
+}
+
+/// In 16-bit words, whose immediate is -8 to 7.
+#[test]
+fn wrapped_address_in_16_bit_words() {
+    for operation in [27, 28] {
+        for (base, immediate, code) in [
+            (0xFFFF_FFFF, 3, 0x08),
+            (0xFFFF_FFFF, 4, 0x07),
+            (0xFFFF_FFFF, 7, 0x07),
+            (0xFFFF_FFFC, 7, 0x07),
+            (0xFFFF_FFFB, 7, 0x08),
+            (7, -8, 0x08),
+        ] {
+            let word = h_memory(operation, 1, 2, immediate);
+            let mut bench = Bench::new_16(&[0, word]).user().at(2).r(25, base).r(26, 9);
+            bench.protect_data(3, 6);
+            bench.raises(code);
+            assert_eq!(bench.machine.control[offset::EXCEPTION_PC], 2);
+            assert_eq!(bench.machine.control[offset::EXCEPTION_PSR], 0x01);
+
+            let mut bench = Bench::new_16(&[word]).pr(25, base);
+            bench.protect_data(3, 6);
+            bench.raises(0x08);
+        }
+        let mut bench = Bench::new_16(&[h_memory(operation, 1, 2, -8)])
+            .user()
+            .r(25, 7);
+        bench.protect_data(0xFFFF_FFFF, 0xFFFF_FFFF);
+        bench.raises(0x07);
     }
 }
 
