@@ -2,7 +2,8 @@
 //! with the reference emulator on seeded random calls.
 //!
 //! Prints what the calls met, and at the end `fuzz: N calls, no difference`; or the
-//! first difference, with everything that is needed to repeat it, and ends with 1.
+//! first difference, with everything that is needed to repeat it, and ends with 1. It
+//! ends with 1 too where 2,000,000 calls or more did not meet all that they should.
 
 use coffee_fuzz::compare::Sides;
 use coffee_fuzz::image::LONGEST;
@@ -173,12 +174,17 @@ fn main() -> ExitCode {
         print!("{}", session::explain(found, sides));
         return ExitCode::FAILURE;
     }
-    if options.case.is_none() {
-        for warning in coverage.warnings() {
-            println!("{warning}");
-        }
+    let unmet = match options.case {
+        Some(_) => Vec::new(),
+        None => coverage.warnings(),
+    };
+    for warning in &unmet {
+        println!("{warning}");
     }
     println!("fuzz: {} calls, no difference", coverage.calls);
+    if coverage.calls >= CALLS && !unmet.is_empty() {
+        return ExitCode::FAILURE;
+    }
     ExitCode::SUCCESS
 }
 
