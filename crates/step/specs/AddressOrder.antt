@@ -1,7 +1,7 @@
 -- An address both out of range and protected (02, wish 3): which steps differ from those that ask 08h before 07h, as 01 does. No other
 -- definition rests on these. Assumes nothing.
 use mathlib.Core.Path.{_≡_}
-use mathlib.Core.Bool.{Bool, true, false, not, _&&_}
+use mathlib.Core.Bool.{true, false, not, _&&_}
 use mathlib.Core.List.{List}
 use mathlib.Core.Option.{Option, none, some}
 use Prim.Native.Nat.{ℕ}
@@ -55,7 +55,9 @@ stepBefore program = stepSeeing (viewBefore program)
 unfoldable pub accessOf : View → Attempt ℕ → Option ℤ
 accessOf v (Found w) =
     let i = decode (widthOf (v .status)) w in
-    if between 27 28 (i .opcode) && not (conditionFalse v i) then some (pos (v .source (i .sreg1)) +ℤ i .immediate) else none
+    if conditionFalse v i then none
+    else if between 27 28 (i .opcode) then some (pos (v .source (i .sreg1)) +ℤ i .immediate)
+    else none
 accessOf v (Raises c) = none
 accessOf v (Stops n) = none
 
