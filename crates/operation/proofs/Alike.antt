@@ -8,9 +8,9 @@ use Rattle.isa.specs.Condition.{conditionOf}
 use Rattle.isa.specs.Computed.{instructions}
 use Rattle.isa.specs.declared.Instruction.{Instruction}
 use Rattle.isa.proofs.Table.{values, agree}
-use Rattle.view.specs.View.{Raises, Stops, View}
-use Rattle.effect.specs.Effect.{Stopped, Raised}
-use Rattle.operation.specs.Execute.{onFound, branch, execute}
+use Rattle.view.specs.View.{View}
+use Rattle.effect.specs.Effect.{Effect, Result}
+use Rattle.operation.specs.Execute.{onFound, stored, branch, execute}
 
 -- ---- what loads and stores do
 
@@ -19,15 +19,11 @@ module _ (v : View) (i : Instruction) (x y op : ℕ) where
   abbrev at : ℤ
   at = pos x +ℤ i .immediate
 
-  -- ld and st are alike where nothing is found: an exception
-  pub access-raises : (code : ℕ) → v .place at ≡ Raises code → v .load at ≡ Raises code → 27 ≤ op → op ≤ 28 → execute (operationOf op) v i x y ≡ Raised code
-  unfolding instructions values onFound execute
-  access-raises code e f l h = agree (λ n. execute (operationOf n) v i x y) (λ n. Raised code) 27 2 (rw (e, f)) op l (omega arith)
-
-  -- or a stop
-  pub access-stops : (number : ℕ) → v .place at ≡ Stops number → v .load at ≡ Stops number → 27 ≤ op → op ≤ 28 → execute (operationOf op) v i x y ≡ Stopped number
-  unfolding instructions values onFound execute
-  access-stops number e f l h = agree (λ n. execute (operationOf n) v i x y) (λ n. Stopped number) 27 2 (rw (e, f)) op l (omega arith)
+  -- ld and st are alike where nothing is found: an exception or a stop
+  pub access-alike : (e : Effect) → onFound (stored (v .source (i .dreg))) (v .place at) ≡ e → onFound (Result (i .dreg)) (v .load at) ≡ e
+      → 27 ≤ op → op ≤ 28 → execute (operationOf op) v i x y ≡ e
+  unfolding instructions values execute
+  access-alike e p q l h = agree (λ n. execute (operationOf n) v i x y) (λ n. e) 27 2 (rw (p, q)) op l (omega arith)
 
 -- ---- what branches do
 

@@ -1,4 +1,4 @@
--- The order of the data tests decides loads and stores at an address with overflow that is protected when wrapped, and no other step. Assumes nothing.
+-- The order of the data tests decides user loads and stores at an address with overflow that is protected when wrapped, and no other step. Assumes nothing.
 use mathlib.Core.Path.{_≡_, refl, sym, ap, _∙_}
 use mathlib.Core.Bool.{Bool, true, false, true≢false, _&&_}
 use mathlib.Core.List.{List}
@@ -24,11 +24,11 @@ use Rattle.machine.specs.Control.{protectedCell}
 use Rattle.machine.specs.declared.Position.{Position}
 use Rattle.view.specs.View.{Attempt, Found, Raises, Stops, mapFound, placeAt, View, view, conditionFalse}
 use Rattle.operation.specs.Execute.{onFound, afterThis, targetBy, jumped, branch, execute}
-use Rattle.operation.proofs.Alike.{access-raises}
+use Rattle.operation.proofs.Alike.{access-alike}
 use Rattle.execute.specs.Decide.{perform, ifAvailable, instruction, fetchedThen, decide}
 use Rattle.execute.proofs.Order.{codeFor, transferInSlot, skipped, performed}
 use Rattle.effect.specs.Effect.{Effect, Stopped, Raised, Next}
-use Rattle.effect.specs.Apply.{Transition, machineOnly, apply}
+use Rattle.effect.specs.Apply.{machineOnly, apply}
 use Rattle.step.specs.Interrupt.{withRequests, acceptedSource, mayAccept}
 use Rattle.step.specs.Step.{isStop, interruptOr, step}
 use Rattle.step.specs.AddressOrder.{placeBefore, viewBefore, accessOf, Wrapped, WrappedAccess, Compared, changed, unchanged, AddressOrder}
@@ -101,8 +101,9 @@ module _ (i : Instruction) (a : between 27 28 (i .opcode) ≡ true) where
 
     access-raised : conditionFalse v i ≡ false → (code : ℕ) → let z = pos (v .source (i .sreg1)) +ℤ i .immediate in
         v .place z ≡ Raises code → v .load z ≡ Raises code → instruction v i ≡ Raised code
-    unfolding perform
-    access-raised c code e f = access-performed c ∙ access-raises v i (v .source (i .sreg1)) (v .source (i .sreg2)) (i .opcode) code e f least most
+    unfolding perform onFound
+    access-raised c code e f =
+        access-performed c ∙ access-alike v i (v .source (i .sreg1)) (v .source (i .sreg2)) (i .opcode) (Raised code) (rw e) (rw f) least most
 
 module _ (program : List ℕ) (s : State) where
   abbrev v : View
@@ -151,9 +152,9 @@ module _ (program : List ℕ) (s : State) where
   unfolding accessOf fetchedThen onFound view viewBefore mapFound conditionFalse
   word-raised (Found w) z now before e p q =
       let i = decode (widthOf (v .status)) w in
-      let Both = (fetchedThen v (Found w) ≡ Raised now) × (fetchedThen u (Found w) ≡ Raised before) in
-      if-holds (λ (o : Option ℤ). o ≡ some z → Both) (conditionFalse v i) (λ _ n. absurd (none-some n)) (λ c.
-      if-holds (λ (o : Option ℤ). o ≡ some z → Both) (between 27 28 (i .opcode)) (λ a n.
+      let Both : Option ℤ → Type 0 = λ o. o ≡ some z → (fetchedThen v (Found w) ≡ Raised now) × (fetchedThen u (Found w) ≡ Raised before) in
+      if-holds Both (conditionFalse v i) (λ _ n. absurd (none-some n)) (λ c.
+      if-holds Both (between 27 28 (i .opcode)) (λ a n.
       let at : pos (v .source (i .sreg1)) +ℤ i .immediate ≡ z = cc in
       (access-raised i a v c now (rw (at, p)) (rw (at, p)), access-raised i a u c before (rw (at, q)) (rw (at, q))))
       (λ _ n. absurd (none-some n))) e

@@ -46,6 +46,7 @@ viewBefore program s =
       closed = v .closed;
     }
 
+-- one step by the order before
 abbrev pub stepBefore : (program : List ℕ) → State → (requests : ℕ) → Transition
 stepBefore program = stepSeeing (viewBefore program)
 
@@ -67,14 +68,14 @@ pub record Wrapped (s : State) (address : ℤ) : Type 0 where
   pub outside : isAddress address ≡ false
   pub protected : protectedCell (s .machine) (wordOf 32 address) ≡ true
 
--- a load or store at such an address that is carried out, no interrupt being accepted
+-- the step comes to a load or store at such an address, no interrupt being accepted
 pub record WrappedAccess (program : List ℕ) (s : State) : Type 0 where
   pub address : ℤ
   pub uninterrupted : acceptedSource (view program s) (s .machine) ≡ none
   pub access : accessOf (view program s) (view program s .fetched) ≡ some address
   pub wrapped : Wrapped s address
 
--- r is the state with the requests added
+-- how the step compares with the step before; r is the state with the requests added
 pub data Compared (program : List ℕ) (s : State) (requests : ℕ) (r : State) : Type 0 where
   -- "08h before, 07h now"
   changed : WrappedAccess program r

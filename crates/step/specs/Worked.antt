@@ -1,16 +1,17 @@
 -- The worked examples of 01 that are marked *, and those of 02's wish 3, as a table: one step from a start, what is shown of it, and what that
 -- must be. Assumes nothing.
 use mathlib.Core.Path.{_≡_}
-use mathlib.Core.List.{List, [], _∷_, map}
+use mathlib.Core.List.{List, [], _∷_, _++_, map}
 use Prim.Native.Nat.{ℕ, _+_, _*_, _^_}
 use lib.ListN.{getD, set, replicate}
 use Rattle.isa.specs.Operation.{Operation, add, sub, subu, muls, mulu, mulus, ld, jmp, Properties, properties}
 use Rattle.machine.specs.Machine.{Machine, memoryOf, State, PSR, positionAt}
 use Rattle.machine.specs.declared.Position.{Position}
-use Rattle.machine.specs.Control.{controlAt, reset, EXCEPTION-PC, EXCEPTION-PSR, DMEM-BOUND-LO, DMEM-BOUND-HI, IMEM-BOUND-LO, IMEM-BOUND-HI}
+use Rattle.machine.specs.Control.{controlAt, reset, EXCEPTION-CS, EXCEPTION-PC, EXCEPTION-PSR, DMEM-BOUND-LO, DMEM-BOUND-HI, IMEM-BOUND-LO, IMEM-BOUND-HI}
 use Rattle.codec.specs.Number.{bytesOf}
 use Rattle.effect.specs.Apply.{Transition}
 use Rattle.step.specs.Step.{step}
+use Rattle.step.specs.AddressOrder.{stepBefore}
 use Rattle.effect.specs.Kind.{Kind, Ordinary, Exception}
 
 pub record Case : Type 0 where
@@ -25,7 +26,7 @@ pub record Case : Type 0 where
   pub kind : Kind
   pub expected : List ℕ
 
--- reset but for these: C0 is 5, data addresses from 10h to DMEM_BOUND_HI are protected and no program byte is; 32 cells that hold 77
+-- reset but for these: C0 is 5, EXCEPTION_CS and _PC are 99, data addresses from 10h to DMEM_BOUND_HI are protected and no program byte is; 32 cells that hold 77
 unfoldable pub start : Case → State
 start c =
     record {
@@ -33,7 +34,7 @@ start c =
         set1 = set (set (set (set (replicate 32 0) 1 (c .r1)) 2 (c .r2)) 25 (c .r25)) 26 (c .r26);
         set2 = set (replicate 32 0) PSR (c .psr);
         conditions = set (replicate 8 0) 0 5;
-        control = set (set (set (set (reset .control) DMEM-BOUND-LO 0x10) DMEM-BOUND-HI (c .high)) IMEM-BOUND-LO 1) IMEM-BOUND-HI 0;
+        control = set (set (set (set (set (set (reset .control) EXCEPTION-CS 99) EXCEPTION-PC 99) DMEM-BOUND-LO 0x10) DMEM-BOUND-HI (c .high)) IMEM-BOUND-LO 1) IMEM-BOUND-HI 0;
         position = positionAt 0;
         stack = [];
       };
@@ -71,7 +72,7 @@ abbrev load : ℕ → Kind → List ℕ → Case
 load a kind expected =
     wide (word (properties ld .number * 2 ^ 26 + 3 * 2 ^ 10 + 1 * 2 ^ 5)) a 0 (λ s. getD (s .machine .set1) 3 0 ∷ []) kind expected
 
--- a load or store of R3 that is an exception: R3, EXCEPTION_PC, EXCEPTION_PSR and the cells
+-- a load or store of R3 that is an exception: EXCEPTION_CS, _PC and _PSR, R3 and the cells
 abbrev refused : (psr high w x code : ℕ) → Case
 refused psr high w x code =
     record {
@@ -82,10 +83,22 @@ refused psr high w x code =
       r2 = 0;
       r25 = 0;
       r26 = 0;
-      shown = λ s. getD (s .machine .set1) 3 0 ∷ controlAt (s .machine) EXCEPTION-PC ∷ controlAt (s .machine) EXCEPTION-PSR ∷ s .memory .cells;
+      shown = λ s. map (controlAt (s .machine)) (EXCEPTION-CS ∷ EXCEPTION-PC ∷ EXCEPTION-PSR ∷ []) ++ getD (s .machine .set1) 3 0 ∷ s .memory .cells;
       kind = Exception code;
-      expected = 0 ∷ 0 ∷ psr ∷ replicate 32 77;
+      expected = code ∷ 0 ∷ psr ∷ 0 ∷ replicate 32 77;
     }
+
+-- 02, wish 3: FFFFFFFFh + 16, 17, 20 and 21 are 0Fh, 10h, 13h and 14h when wrapped, 0 − 1 is FFFFFFFFh
+unfoldable pub wrappedCases : List Case
+wrappedCases =
+    refused 0x09 0x13 0x6C00_0C30 0xFFFF_FFFF 0x08 ∷  -- ld R3, R1, 16
+    refused 0x09 0x13 0x6C00_0C31 0xFFFF_FFFF 0x07 ∷  -- ld R3, R1, 17
+    refused 0x09 0x13 0x7000_0C34 0xFFFF_FFFF 0x07 ∷  -- st R3, R1, 20
+    refused 0x09 0x13 0x7000_0C35 0xFFFF_FFFF 0x08 ∷  -- st R3, R1, 21
+    refused 0x08 0x13 0x6C00_0C31 0xFFFF_FFFF 0x08 ∷  -- ld R3, R1, 17 in super user mode
+    refused 0x09 0x13 0x6C07_8C3F 0 0x08 ∷  -- ld R3, R1, −1
+    refused 0x09 0xFFFF_FFFF 0x6C07_8C3F 0 0x07 ∷  -- ld R3, R1, −1
+    []
 
 unfoldable pub cases : List Case
 cases =
@@ -111,17 +124,7 @@ cases =
     load 0x14 Ordinary (77 ∷ []) ∷
     load 0x10 (Exception 0x07) (0 ∷ []) ∷
     load 0x13 (Exception 0x07) (0 ∷ []) ∷
-    -- 02, wish 3: FFFFFFFFh + 16, 17, 20 and 21 are 0Fh, 10h, 13h and 14h when wrapped
-    refused 0x09 0x13 0x6C00_0C30 0xFFFF_FFFF 0x08 ∷  -- ld R3, R1, 16
-    refused 0x09 0x13 0x6C00_0C31 0xFFFF_FFFF 0x07 ∷  -- ld R3, R1, 17
-    refused 0x09 0x13 0x7000_0C34 0xFFFF_FFFF 0x07 ∷  -- st R3, R1, 20
-    refused 0x09 0x13 0x7000_0C35 0xFFFF_FFFF 0x08 ∷  -- st R3, R1, 21
-    -- in super user mode
-    refused 0x08 0x13 0x6C00_0C31 0xFFFF_FFFF 0x08 ∷  -- ld R3, R1, 17
-    -- 0 − 1 is FFFFFFFFh when wrapped
-    refused 0x09 0x13 0x6C07_8C3F 0 0x08 ∷  -- ld R3, R1, −1
-    refused 0x09 0xFFFF_FFFF 0x6C07_8C3F 0 0x07 ∷
-    []
+    wrappedCases
 
 -- ---- what the definitions give at a case, and what they must
 
@@ -140,3 +143,7 @@ wanted c = record { kind = c .kind; shown = c .expected }
 -- the definitions give what they must, at each case
 abbrev pub Worked : Type 0
 Worked = map given cases ≡ map wanted cases
+
+-- before the wish each of its cases was 08h
+abbrev pub WorkedBefore : Type 0
+WorkedBefore = map (λ c. stepBefore (c .program) (start c) 0 .kind) wrappedCases ≡ replicate 7 (Exception 0x08)

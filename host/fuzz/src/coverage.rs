@@ -296,11 +296,11 @@ impl Coverage {
     }
 
     /// A line for each thing that a session should meet and did not.
-    pub fn warnings(&self) -> Vec<String> {
-        let mut warnings = Vec::new();
+    pub fn unmet(&self) -> Vec<String> {
+        let mut unmet = Vec::new();
         let mut need = |count: u64, what: String| {
             if count == 0 {
-                warnings.push(format!("warning: not met: {what}"));
+                unmet.push(what);
             }
         };
         for refusal in 1..=8 {
@@ -331,7 +331,7 @@ impl Coverage {
             );
             need(
                 self.user_overflows[above],
-                format!("08h in user mode, {side}"),
+                format!("08h in user mode where the wrapped address is not protected, {side}"),
             );
             need(
                 self.super_user_overflows[above],
@@ -425,7 +425,7 @@ impl Coverage {
         );
         need(self.waited_for_slot, "interrupt held back by a slot".into());
         need(self.waited_for_mulhi, "interrupt held back by mulhi".into());
-        warnings
+        unmet
     }
 
     /// The counts as text.
@@ -485,7 +485,7 @@ impl Coverage {
         put(
             out,
             format!(
-                "addresses outside 32 bits: 07h by the wrapped address {}; 08h beside it {}; 08h in super user mode where it is protected {}",
+                "addresses outside 32 bits: 07h by the wrapped address {}; 08h in user mode where it is not protected {}; 08h in super user mode where it is {}",
                 sides(self.wrapped_violations),
                 sides(self.user_overflows),
                 sides(self.super_user_overflows)

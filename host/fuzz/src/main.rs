@@ -176,13 +176,14 @@ fn main() -> ExitCode {
     }
     let unmet = match options.case {
         Some(_) => Vec::new(),
-        None => coverage.warnings(),
+        None => coverage.unmet(),
     };
-    for warning in &unmet {
-        println!("{warning}");
+    for what in &unmet {
+        println!("not met: {what}");
     }
     println!("fuzz: {} calls, no difference", coverage.calls);
     if coverage.calls >= CALLS && !unmet.is_empty() {
+        println!("fuzz: failed, for these calls should have met all");
         return ExitCode::FAILURE;
     }
     ExitCode::SUCCESS

@@ -322,7 +322,7 @@ impl Builder<'_> {
             2 => (point, u32::MAX),
             3 => (point, point.saturating_add(self.random.below(20))),
             // "LO above HI protects nothing."
-            4 => (point, point.saturating_sub(1)),
+            4 => (point.max(1), point.max(1) - 1),
             _ => return,
         };
         self.image.control[DMEM_BOUND_LO] = low;

@@ -78,8 +78,8 @@ fn main() -> ExitCode {
                 good &= fault == "none";
                 if fault == "none" && name.is_some() {
                     print!("{}", outcome.coverage.report());
-                    for warning in outcome.coverage.warnings() {
-                        println!("{warning}");
+                    for what in outcome.coverage.unmet() {
+                        println!("not met: {what}");
                     }
                 }
             }

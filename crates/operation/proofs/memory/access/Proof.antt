@@ -1,5 +1,6 @@
 -- `operation::memory::access` meets its contract: by the place that base and immediate name. Assumes nothing.
-use mathlib.Core.Path.{_≡_, sym}
+use mathlib.Core.Path.{_≡_, refl, sym}
+use mathlib.Core.List.{List}
 use Prim.Native.Nat.{ℕ, _≤_}
 use native.Mathlib.Omega.{arith}
 use lib.IntN.{pos, _+ℤ_}
@@ -9,13 +10,14 @@ use denote.Ref.{now}
 use borrow.Author.Needs.{needs}
 use Rattle.word.proofs.Integers.{back}
 use Rattle.isa.specs.Operation.{operations, operationOf}
-use Rattle.machine.specs.Machine.{memoryOf}
+use Rattle.machine.specs.Machine.{memoryOf, State}
 use Rattle.machine.specs.Words.{stateOf}
 use Rattle.operation.specs.Execute.{onFound, stored, execute}
-use Rattle.view.specs.View.{mapFound, placeAt, placeAs, heldAt, view}
+use Rattle.view.specs.View.{mapFound, placeAt, placeAs, heldAt, view, viewOf}
 use Rattle.view.specs.declared.Place.{Place}
+use Rattle.effect.specs.Effect.{Effect, Stopped, Raised, Result}
 use Rattle.effect.specs.Apply.{applying}
-use Rattle.operation.proofs.Alike.{access-raises, access-stops}
+use Rattle.operation.proofs.Alike.{access-alike}
 use Rattle.operation.proofs.memory.access.Statement.{statement}
 use Rattle.operation.proofs.memory.access.Tie as tie
 
@@ -88,24 +90,28 @@ returns-4 c y p =
     )
     (b .store-cell .ensures)
 
+-- where nothing is found: an exception or a stop
+missed : (c : tie.After-place) (p : Place) (e : Effect) → c .place .result ≡ p
+    → ((x : ℕ) → onFound (stored x) (placeAs p) ≡ e) → ((d : ℕ) (s : State) → onFound (Result d) (mapFound (heldAt s) (placeAs p)) ≡ e)
+    → let a = c .before .before .before .before .before .before .before .args in
+    (program : List ℕ) (y : ℕ) → execute (operationOf (a .i .opcode)) (viewOf program (now (a .w)) (memoryOf (now (a .cells)))) (a .i) (a .x) y ≡ e
+unfolding view
+missed c p e h f g program y =
+    let s = c .before .before .before .before .before .before .before in
+    let a = s .args in
+    let l = leads c p h in
+    access-alike (viewOf program (now (a .w)) (memoryOf (now (a .cells)))) (a .i) (a .x) y (a .i .opcode) e (rw l (f _)) (rw l (g _ _)) (s .pre .2) (s .pre .3)
+
 returns-5 : tie.Need-returns-5
-unfolding mapFound placeAs view
+unfolding placeAs mapFound onFound
 returns-5 c y p =
     let b = c .before .before in
     let e = b .before .before .before in
-    let s = e .before .before .before .before .before .before .before .before .before in
-    let a = s .args in
-    let o = leads (e .before .before) _ (e .place4 .given .1) in
-    rw (access-raises (view p _) (a .i) (a .x) y (a .i .opcode) _ o (rw o) (s .pre .2) (s .pre .3))
-    (b .raise .ensures _)
+    rw (missed (e .before .before) _ (Raised _) (e .place4 .given .1) (λ x. refl) (λ d s. refl) p y) (b .raise .ensures _)
 
 returns-6 : tie.Need-returns-6
-unfolding mapFound placeAs view applying
-returns-6 c y p =
-    let s = c .before .before .before .before .before .before .before .before .before in
-    let a = s .args in
-    let o = leads (c .before .before) _ (c .enum-told .given .1) in
-    rw (access-stops (view p _) (a .i) (a .x) y (a .i .opcode) _ o (rw o) (s .pre .2) (s .pre .3))
+unfolding placeAs mapFound onFound applying
+returns-6 c y p = rw (missed (c .before .before) _ (Stopped 12) (c .enum-told .given .1) (λ x. refl) (λ d s. refl) p y)
 
 pub access-spec : {M : Type 1} → statement M
 access-spec =
