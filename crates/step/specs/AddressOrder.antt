@@ -1,5 +1,5 @@
--- An address both out of range and protected (02, wish 3): which steps differ from those that ask 08h before 07h, as 01 does. No other
--- definition rests on these. Assumes nothing.
+-- An address both out of range and protected (02, wish 3): which steps differ from those that ask 08h before 07h, as 01 does. No definition of
+-- the step rests on these. Assumes nothing.
 use mathlib.Core.Path.{_≡_}
 use mathlib.Core.Bool.{true, false, not, _&&_}
 use mathlib.Core.List.{List}
