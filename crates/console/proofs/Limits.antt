@@ -11,7 +11,7 @@ use lib.Seq.{drop-cons, length-take-le, take-all}
 use lib.Dec.{leb, eqb}
 use borrow.Author.Tests.{leb-true, leb-false, le-leb, lt-leb, eq-eqb, ne-eqb}
 use Rattle.word.specs.Choice.{if_then_else_}
-use Rattle.word.proofs.Tests.{either, and-parts, if-true, if-false}
+use Rattle.word.proofs.Tests.{either, both-bounds, if-true, if-false}
 use Rattle.console.specs.Digits.{newline}
 use Rattle.console.specs.Limit.{badLimit, isDigit, decimalFrom, decimalOf, lineLength, limitOf}
 
@@ -20,9 +20,7 @@ use Rattle.console.specs.Limit.{badLimit, isDigit, decimalFrom, decimalO
 -- a digit is from 48 to 57
 pub digit-bounds : (b : ℕ) → isDigit b ≡ true → (48 ≤ b) × (b ≤ 57)
 unfolding isDigit
-digit-bounds b e =
-    let p = and-parts (leb 48 b) (leb b 57) e in
-    (leb-true 48 b (p .0), leb-true b 57 (p .1))
+digit-bounds b = both-bounds 48 b 57
 
 -- digits say a number below that power of ten
 pub value-lt : (v d i : ℕ) → v < 10 ^ i → d < 10 → v * 10 + d < 10 ^ (i + 1)

@@ -1,5 +1,5 @@
 -- The order of an instruction's tests, by what each gives. Assumes nothing.
-use mathlib.Core.Path.{_≡_, _∙_}
+use mathlib.Core.Path.{_≡_, refl, _∙_}
 use mathlib.Core.Option.{none}
 use mathlib.Core.Bool.{Bool, true, false, _&&_}
 use Prim.Native.Nat.{ℕ}
@@ -7,12 +7,30 @@ use lib.Dec.{eqb}
 use Rattle.word.specs.Choice.{if_then_else_}
 use Rattle.isa.specs.Operation.{operationOf, unavailable, codeOf, Properties, properties}
 use Rattle.isa.proofs.Rules.{available, refused}
+use Rattle.isa.specs.Decode.{decode}
 use Rattle.isa.specs.declared.Instruction.{Instruction}
 use Rattle.machine.specs.Machine.{userMode, widthOf}
 use Rattle.machine.specs.declared.Position.{Position}
-use Rattle.view.specs.View.{View, conditionFalse}
+use Rattle.view.specs.View.{Attempt, Found, Raises, Stops, View, conditionFalse}
+use Rattle.operation.specs.Execute.{onFound}
 use Rattle.effect.specs.Effect.{Stopped, Raised, Next}
-use Rattle.execute.specs.Decide.{perform, ifAvailable, instruction}
+use Rattle.execute.specs.Decide.{perform, ifAvailable, instruction, fetchedThen}
+
+-- ---- what was fetched
+
+-- a word is its instruction
+pub fetched-word : (v : View) (w : ℕ) → fetchedThen v (Found w) ≡ instruction v (decode (widthOf (v .status)) w)
+unfolding fetchedThen onFound
+fetched-word v w = refl
+
+-- two views that do the same with a word do the same with what was fetched
+pub fetched-same : (v u : View) (f : Attempt ℕ) → ((w : ℕ) → f ≡ Found w → fetchedThen v (Found w) ≡ fetchedThen u (Found w)) → fetchedThen v f ≡ fetchedThen u f
+unfolding fetchedThen onFound
+fetched-same v u (Found w) h = h w refl
+fetched-same v u (Raises c) h = refl
+fetched-same v u (Stops n) h = refl
+
+-- ---- an instruction
 
 module _ (v : View) (i : Instruction) where
   -- the code of the exception where it may not be used, or 0

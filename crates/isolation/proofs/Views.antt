@@ -7,10 +7,10 @@ use native.Mathlib.Omega.{arith}
 use lib.ListN.{getD, getElem?}
 use lib.Dec.{leb, ltb}
 use lib.IntN.{ℤ}
-use borrow.Author.Tests.{le-leb, leb-true}
+use borrow.Author.Tests.{le-leb}
 use Rattle.word.specs.Choice.{if_then_else_}
 use Rattle.word.specs.Word.{wordOf}
-use Rattle.word.proofs.Tests.{and-parts, and-both, or-parts, false-unless, if-false, if-else}
+use Rattle.word.proofs.Tests.{both-bounds, and-both, or-parts, false-unless, if-false, if-else}
 use Rattle.isa.specs.Decode.{wordBytes}
 use Rattle.machine.specs.Machine.{Machine, State, psr, userMode, widthOf, setBy}
 use Rattle.machine.specs.Control.{controlAt, within, protectedCell, CCB-BASE, DMEM-BOUND-LO, DMEM-BOUND-HI, IMEM-BOUND-LO, IMEM-BOUND-HI}
@@ -46,9 +46,9 @@ outside-block : (low high base a : ℕ) → low ≤ base → base + 255 ≤ high
 unfolding within inBlock
 outside-block low high base a l h e =
     false-unless (leb base a && leb a (base + 255)) (λ t.
-    let b = and-parts (leb base a) (leb a (base + 255)) t in
-    let above : base ≤ a = leb-true base a (b .0) in
-    let below : a ≤ base + 255 = leb-true a (base + 255) (b .1) in
+    let b = both-bounds base a (base + 255) t in
+    let above : base ≤ a = b .0 in
+    let below : a ≤ base + 255 = b .1 in
     true≢false (sym (and-both (leb low a) (leb a high) (le-leb low a (omega arith)) (le-leb a high (omega arith))) ∙ e))
 
 -- outside of the bounds both find the same: a cell, or nothing

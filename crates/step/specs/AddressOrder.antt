@@ -13,7 +13,7 @@ use Rattle.isa.specs.Theorems.{between}
 use Rattle.isa.specs.declared.Instruction.{Instruction}
 use Rattle.machine.specs.Machine.{State, psr, userMode, widthOf}
 use Rattle.machine.specs.Control.{protectedCell}
-use Rattle.view.specs.View.{Attempt, Found, Raises, Stops, mapFound, Location, foundAt, heldAt, View, view, conditionFalse}
+use Rattle.view.specs.View.{Attempt, Found, Raises, Stops, Location, foundAt, heldAt, View, view, withPlaces, conditionFalse}
 use Rattle.effect.specs.Effect.{Raised}
 use Rattle.effect.specs.Apply.{Transition, apply}
 use Rattle.step.specs.Interrupt.{withRequests, acceptedSource}
@@ -30,21 +30,8 @@ placeBefore s address =
     else foundAt s a
 
 -- what an instruction saw of a state: all that it sees now, but for where data addresses lead
-unfoldable pub viewBefore : (program : List ℕ) → State → View
-viewBefore program s =
-    let v = view program s in
-    record {
-      status = v .status;
-      position = v .position;
-      conditions = v .conditions;
-      nested = v .nested;
-      fetched = v .fetched;
-      source = v .source;
-      target = v .target;
-      place = placeBefore s;
-      load = λ a. mapFound (heldAt s) (placeBefore s a);
-      closed = v .closed;
-    }
+abbrev pub viewBefore : (program : List ℕ) → State → View
+viewBefore program s = withPlaces (placeBefore s) (heldAt s) (view program s)
 
 -- one step by the order before
 abbrev pub stepBefore : (program : List ℕ) → State → (requests : ℕ) → Transition

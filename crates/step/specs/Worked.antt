@@ -26,7 +26,8 @@ pub record Case : Type 0 where
   pub kind : Kind
   pub expected : List ℕ
 
--- reset but for these: C0 is 5, EXCEPTION_CS and _PC are 99, data addresses from 10h to DMEM_BOUND_HI are protected and no program byte is; 32 cells that hold 77
+-- reset but for these: C0 is 5, EXCEPTION_CS and _PC are 99, data addresses from 10h to DMEM_BOUND_HI are protected and no program byte is; 32
+-- cells that hold 77
 unfoldable pub start : Case → State
 start c =
     record {

@@ -4,12 +4,12 @@ use mathlib.Core.Bool.{Bool, true, false, true≢false, not, _&&_}
 use mathlib.Core.List.{List}
 use Prim.Native.Nat.{ℕ, _+_, _-_, _^_, _≤_, _<_}
 use native.Mathlib.Omega.{arith}
-use lib.Dec.{leb, ltb}
+use lib.Dec.{ltb}
 use lib.IntN.{ℤ}
 use lib.ListN.{length}
-use borrow.Author.Tests.{leb-true, ltb-true}
+use borrow.Author.Tests.{ltb-true}
 use Rattle.word.specs.Word.{wordOf, isAddress}
-use Rattle.word.proofs.Tests.{and-parts, if-holds}
+use Rattle.word.proofs.Tests.{both-bounds, if-holds}
 use Rattle.word.proofs.Bounds.{word-below}
 use Rattle.machine.specs.Machine.{State, psr, userMode}
 use Rattle.machine.specs.Control.{controlAt, protectedCell, CCB-BASE}
@@ -53,9 +53,9 @@ module _ (s : State) where
   unfolding inBlock
   block-meant a w u b =
       let base = controlAt (s .machine) CCB-BASE in
-      let t = and-parts (leb base a) (leb a (base + 255)) b in
-      let low-end : base ≤ a = leb-true base a (t .0) in
-      let high-end : a ≤ base + 255 = leb-true a (base + 255) (t .1) in
+      let t = both-bounds base a (base + 255) b in
+      let low-end : base ≤ a = t .0 in
+      let high-end : a ≤ base + 255 = t .1 in
       let again : a ≡ base + (a - base) = omega arith in
       record { offset = omega arith; address = omega arith; unprotected = λ e. ap (protectedCell (s .machine)) (sym again) ∙ u e }
 

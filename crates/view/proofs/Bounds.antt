@@ -5,7 +5,7 @@ use Prim.Native.Nat.{ℕ, _+_, _-_, _≤_}
 use native.Mathlib.Omega.{arith}
 use lib.Dec.{leb}
 use borrow.Author.Tests.{leb-true, leb-false, le-leb, lt-leb}
-use Rattle.word.proofs.Tests.{either, and-parts}
+use Rattle.word.proofs.Tests.{either, both-bounds}
 use Rattle.view.specs.View.{inBlock}
 
 -- an offset from a base, and the sum with it
@@ -18,4 +18,4 @@ offset-test base a n h =
 -- an address of the control block is not below its base
 pub in-block-from : (base a : ℕ) → inBlock base a ≡ true → base ≤ a
 unfolding inBlock
-in-block-from base a e = leb-true base a (and-parts (leb base a) (leb a (base + 255)) e .0)
+in-block-from base a e = both-bounds base a (base + 255) e .0

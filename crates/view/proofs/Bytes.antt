@@ -11,7 +11,7 @@ use lib.Dec.{leb, ltb, eqb}
 use lib.ListN.{length, getD, getElem?}
 use borrow.Author.Tests.{leb-true, leb-false, le-leb, lt-leb, ltb-true, ltb-false, eqb-true, eqb-false, eq-eqb, ne-eqb}
 use Rattle.word.specs.Choice.{if_then_else_}
-use Rattle.word.proofs.Tests.{either, and-parts, false-unless}
+use Rattle.word.proofs.Tests.{either, and-parts, both-bounds, false-unless}
 use Rattle.codec.specs.Number.{numberAt}
 use Rattle.isa.specs.Operation.{Width, w16, w32, widthBy}
 use Rattle.isa.specs.Decode.{wordBytes}
@@ -40,9 +40,9 @@ none-within low high a (suc n) f =
 one-within : (low high a n x : ℕ) → a ≤ x → x < a + n → within low high x ≡ true → (leb low high && leb low (a + (n - 1))) && leb a high ≡ true
 unfolding within
 one-within low high a n x l k w =
-    let t = and-parts (leb low x) (leb x high) w in
-    let from = leb-true low x (t .0) in
-    let to = leb-true x high (t .1) in
+    let t = both-bounds low x high w in
+    let from : low ≤ x = t .0 in
+    let to : x ≤ high = t .1 in
     rw (le-leb low high (omega arith), le-leb low (a + (n - 1)) (omega arith), le-leb a high (omega arith))
 
 -- one of n addresses is within bounds exactly where the two ranges overlap

@@ -145,6 +145,22 @@ view program s =
       closed = λ a. userMode q && anyWithin (controlAt m IMEM-BOUND-LO) (controlAt m IMEM-BOUND-HI) a n;
     }
 
+-- a view in which data addresses lead where `place` says, and hold what `held` says; all else is the same. For comparisons: no rule uses it
+unfoldable pub withPlaces : (place : ℤ → Attempt Location) (held : Location → ℕ) → View → View
+withPlaces place held v =
+    record {
+      status = v .status;
+      position = v .position;
+      conditions = v .conditions;
+      nested = v .nested;
+      fetched = v .fetched;
+      source = v .source;
+      target = v .target;
+      place = place;
+      load = λ a. mapFound held (place a);
+      closed = v .closed;
+    }
+
 -- the view of the state that words and a memory hold
 abbrev pub viewOf : (program words : List ℕ) → Memory → View
 viewOf program words memory = view program (stateOf words memory)
@@ -159,5 +175,5 @@ conditionFalse v i = i .conditional && not (holds (conditionOf (i .condition)) (
 
 -- to unfold all of these
 unfoldable pub seeing : Unit {0}
-unfolding mapFound anyWithin byteThen bytesAt fetchAt fetchedAs inBlock foundAt placeAt placeAs heldAt nestedBy view conditionFalse
+unfolding mapFound anyWithin byteThen bytesAt fetchAt fetchedAs inBlock foundAt placeAt placeAs heldAt nestedBy view withPlaces conditionFalse
 seeing = tt

@@ -1,8 +1,10 @@
 -- Cases of a test, tests joined, and choices by a test. Assumes nothing.
 use mathlib.Core.Path.{_≡_, refl, sym}
 use mathlib.Core.Bool.{Bool, true, false, true≢false, _&&_, _||_}
-use Prim.Native.Nat.{_≤_}
+use Prim.Native.Nat.{ℕ, _≤_}
 use native.Mathlib.Omega.{arith}
+use lib.Dec.{leb}
+use borrow.Author.Tests.{leb-true}
 use mir.Val.{boolByte}
 use Rattle.word.specs.Choice.{if_then_else_}
 
@@ -14,6 +16,10 @@ either false f g = g refl
 pub and-parts : (a b : Bool) → a && b ≡ true → (a ≡ true) × (b ≡ true)
 and-parts true b e = (refl, e)
 and-parts false b e = absurd (true≢false (sym e))
+
+-- a number between two bounds
+pub both-bounds : (low n high : ℕ) → leb low n && leb n high ≡ true → (low ≤ n) × (n ≤ high)
+both-bounds low n high e = let t = and-parts (leb low n) (leb n high) e in (leb-true low n (t .0), leb-true n high (t .1))
 
 pub and-both : (a b : Bool) → a ≡ true → b ≡ true → a && b ≡ true
 and-both a b p q = rw (p, q)

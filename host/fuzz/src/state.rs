@@ -283,7 +283,8 @@ impl Builder<'_> {
             self.image.position[HIGH] = self.random.number();
             self.image.position[LOW] = self.random.number();
             if self.random.percent(60) {
-                if let Some(address) = self.mulhi_in(region) {
+                let mulhi = |word| words::operation(word, region.wide) == words::MULHI;
+                if let Some((address, _)) = self.first_in(region, region.start, mulhi) {
                     self.image.position[PC] = address;
                     // A mulhi that may be protected holds no interrupt back.
                     if self.random.percent(20) {
@@ -299,9 +300,15 @@ impl Builder<'_> {
     /// Starts at a load or store of a region with an address outside 32 bits, mostly with
     /// bounds that end at the wrapped address or next to it.
     fn address_outside(&mut self, region: Region) {
-        let Some((at, base, immediate)) = self.memory_in(region) else {
+        let from = program::word_of(self.random, region, region.wide);
+        let access = |word| {
+            matches!(words::operation(word, region.wide), words::LD | words::ST)
+                && words::memory_operand(word, region.wide).1 != 0
+        };
+        let Some((at, word)) = self.first_in(region, from, access) else {
             return;
         };
+        let (base, immediate) = words::memory_operand(word, region.wide);
         // From the end of the range, less far than the immediate goes.
         let distance = self.random.below(immediate.unsigned_abs() as u32);
         let start = if immediate < 0 {
@@ -329,21 +336,17 @@ impl Builder<'_> {
         self.image.control[DMEM_BOUND_HI] = high;
     }
 
-    /// The address, base register and immediate of a load or store in a region, whose
-    /// immediate is not 0.
-    fn memory_in(&mut self, region: Region) -> Option<(u32, usize, i64)> {
-        let mut at = program::word_of(self.random, region, region.wide);
-        while at < region.end {
-            let word = words::word_at(self.program, at, region.wide)?;
-            if matches!(words::operation(word, region.wide), words::LD | words::ST) {
-                let (base, immediate) = words::memory_operand(word, region.wide);
-                if immediate != 0 {
-                    return Some((at, base, immediate));
-                }
-            }
-            at += words::bytes(region.wide);
-        }
-        None
+    /// The first word of a region from an address on that is wanted, with its address.
+    fn first_in(
+        &self,
+        region: Region,
+        from: u32,
+        wanted: impl Fn(u32) -> bool,
+    ) -> Option<(u32, u32)> {
+        (from..region.end)
+            .step_by(words::bytes(region.wide) as usize)
+            .map_while(|at| Some((at, words::word_at(self.program, at, region.wide)?)))
+            .find(|&(_, word)| wanted(word))
     }
 
     /// A valid PSR with the given word length.
@@ -358,20 +361,6 @@ impl Builder<'_> {
             psr |= self.random.pick(&[0, RSRD, RSWR, RSRD | RSWR]);
         }
         psr
-    }
-
-    /// The address of a mulhi in a region.
-    fn mulhi_in(&mut self, region: Region) -> Option<u32> {
-        let width = words::bytes(region.wide);
-        let mut at = region.start;
-        while at < region.end {
-            let high = u32::from(*self.program.get(at as usize)?);
-            if high >> 2 == words::MULHI {
-                return Some(at);
-            }
-            at += width;
-        }
-        None
     }
 
     fn stack(&mut self) {

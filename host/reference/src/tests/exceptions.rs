@@ -277,12 +277,7 @@ fn wrapped_address() {
         (0x7000_0C35, 0xFFFF_FFFF, 0x08), // st R3, R1, 21: 14h
         (0x6C07_8C3F, 0, 0x08),           // ld R3, R1, -1: FFFFFFFFh
     ] {
-        let mut bench = bounded(&[NOP, word], base).at(4);
-        bench.raises(code);
-        assert_eq!(bench.machine.control[offset::EXCEPTION_PC], 4);
-        assert_eq!(bench.machine.control[offset::EXCEPTION_PSR], 0x09);
-        assert_eq!(bench.machine.set1[3], 9);
-        assert_eq!(bench.cells, [77; 32]);
+        bounded(&[NOP, word], base).at(4).raises(code);
     }
     let mut bench = bounded(&[0x6C07_8C3F], 0);
     bench.protect_data(0x10, 0xFFFF_FFFF);
@@ -390,7 +385,6 @@ fn wrapped_address_in_a_program() {
             bench.steps(1);
             assert_eq!(bench.machine.position.slot, Some(20));
             bench.raises(code);
-            assert_eq!(bench.machine.control[offset::EXCEPTION_PC], 4);
 
             // Condition 0 is C of the condition register.
             bounded(&[when(0, 5, word)], 0xFFFF_FFFF).moves_only_pc(4);
@@ -406,7 +400,6 @@ fn wrapped_address_in_a_program() {
             bench.machine.position.product = Some(1);
             bench.requests = vec![0x801];
             bench.raises(code);
-            assert_eq!(bench.machine.control[offset::INT_PEND], 0x801);
         }
     }
 }
@@ -427,8 +420,6 @@ fn wrapped_address_in_16_bit_words() {
             let mut bench = Bench::new_16(&[0, word]).user().at(2).r(25, base).r(26, 9);
             bench.protect_data(3, 6);
             bench.raises(code);
-            assert_eq!(bench.machine.control[offset::EXCEPTION_PC], 2);
-            assert_eq!(bench.machine.control[offset::EXCEPTION_PSR], 0x01);
 
             let mut bench = Bench::new_16(&[word]).pr(25, base);
             bench.protect_data(3, 6);
