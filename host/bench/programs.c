@@ -299,6 +299,32 @@ static void write_memory(struct code *c)
     emit(c, rri(ADDIU, 9, 9, 1));
 }
 
+// ---- loads and stores only
+
+// Passes over 1,024 cells, copied sixteen at a time: eight words in nine are ld or st.
+static void write_copy(struct code *c)
+{
+    emit(c, half(LLI, 10, USER_DATA));
+    emit(c, half(LLI, 11, USER_DATA + 1023));
+    emit(c, half(LLI, 12, USER_DATA + 2048));
+    uint32_t pass = c->at;
+
+    emit(c, rrr(MOV, 1, 10, 0));
+    emit(c, rrr(MOV, 2, 12, 0));
+    uint32_t copy = c->at;
+    for (uint32_t i = 0; i < 16; i++)
+        emit(c, rri(LD, 13 + i, 1, (int32_t)i));
+    for (uint32_t i = 0; i < 16; i++)
+        emit(c, rri(ST, 13 + i, 2, (int32_t)i));
+    emit(c, rri(ADDIU, 1, 1, 16));
+    emit(c, to(1, rrr(CMP, 0, 1, 11)));
+    branch(c, BLT, 1, copy);
+    emit(c, rri(ADDIU, 2, 2, 16));
+
+    jump(c, JMP, pass);
+    emit(c, rri(ADDIU, 9, 9, 1));
+}
+
 // ---- interrupts and system calls
 
 // Where the system's routines are; those that run in user mode are above USER_PROGRAM.
@@ -474,13 +500,13 @@ static void make_requests(struct scene *s)
 struct scene *make_scene(int n)
 {
     static const char *const names[] = {
-        "ALU and branches", "loads and stores", "interrupts and system calls",
+        "ALU and branches", "loads and stores", "loads and stores only", "interrupts and system calls",
     };
     struct scene *s = calloc(1, sizeof *s);
     if (s == NULL)
         abort();
     bool user = n % 2 == 1;
-    bool interrupts = n / 2 == 2;
+    bool interrupts = n / 2 == 3;
     s->name = names[n / 2];
     s->mode = user ? "user" : "super user";
 
@@ -497,6 +523,9 @@ struct scene *make_scene(int n)
         break;
     case 1:
         write_memory(&c);
+        break;
+    case 2:
+        write_copy(&c);
         break;
     default:
         write_main(&c);

@@ -18,7 +18,7 @@ struct scene {
     size_t requests_len;
 };
 
-enum { SCENES = 6 };
+enum { SCENES = 8 };
 
 // Makes scene n, of 0 to SCENES - 1. Requests, if it has any, stay allocated.
 struct scene *make_scene(int n);
