@@ -117,6 +117,11 @@ module _ (p w : List ℕ) (memory : Memory) {word op : ℕ} {i : Instruction} (d
         → done ≡ reportOn (execute (operationOf (i .opcode)) v i x y) w memory
     low-performed = word-performed (usable-low _ _ op h) stays
 
+    -- its own effect, by the clause of its number
+    pub low-performed-as : (n : ℕ) → op ≡ n → conditionFalse v i ≡ false → (x y : ℕ) → x ≡ v .source (i .sreg1) → y ≡ v .source (i .sreg2)
+        → done ≡ reportOn (execute (operationOf n) v i x y) w memory
+    low-performed-as n e c x y a b = rw (← e, ← (d .number)) (low-performed c x y a b)
+
   -- jumps and branches: the slot is asked, then the condition
   module _ (l : 36 ≤ op) (h : op < 48) where
     pub jump-in-slot : machineOf w .position .slot ≡ 1 → done ≡ reportOn (Stopped 13) w memory

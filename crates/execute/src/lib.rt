@@ -14,13 +14,14 @@ ghost use Rattle.machine.specs.Stack.{StackShown};
 ghost use Rattle.operation.specs.Promises.{PerformsSeen, PerformsStoring};
 use effect::next;
 use machine::wide_words;
-use operation::access;
 use operation::branches;
 use operation::fields;
 use operation::immediates;
 use operation::jumps;
+use operation::load;
 use operation::moves;
 use operation::registers;
+use operation::store;
 use operation::system;
 use view::Fetched;
 use view::condition_false;
@@ -73,7 +74,11 @@ fn access_word(w: &mut [u32], cells: &mut [u32], word: u32, op: u32) -> u32
         next(w)
     } else {
         let x = source(w, i.sreg1);
-        access(w, cells, i, x)
+        if op < 28 {
+            load(w, cells, i, x)
+        } else {
+            store(w, cells, i, x)
+        }
     }
 }
 
@@ -165,16 +170,15 @@ fn field_word(w: &mut [u32], word: u32, op: u32, wide: bool) -> u32
     }
 }
 
-// Words of the lower half of the operations, 0 to 28: nop to st.
-fn lower_half(w: &mut [u32], cells: &mut [u32], word: u32, op: u32) -> u32
-    requires { ⌜ MachineWords (now w) × (op ≡ opcodeOf (widthOf (psr (machineOf (now w)))) word) × (op < 29) ⌝ }
-    ensures { λ r. ⌜ PerformsStoring (λ v. fetchedThen v (Found word)) r (now (w .entry)) (now (cells .entry)) (now (w .exit)) (now (cells .exit)) ⌝ }
+// Words of the lower half of the operations, 0 to 26: nop to sexti.
+fn lower_half(w: &mut [u32], word: u32, op: u32) -> u32
+    requires { ⌜ MachineWords (now w) × (op ≡ opcodeOf (widthOf (psr (machineOf (now w)))) word) × (op < 27) ⌝ }
+    ensures { λ r. ⌜ PerformsSeen (λ v. fetchedThen v (Found word)) r (now (w .entry)) (now (w .exit)) ⌝ }
 {
     match op {
         0 => next(w),
         1..=17 => register_word(w, word, op),
-        18..=26 => immediate_word(w, word, op),
-        _ => access_word(w, cells, word, op),
+        _ => immediate_word(w, word, op),
     }
 }
 
@@ -199,16 +203,21 @@ fn upper_half(w: &mut [u32], word: u32, op: u32) -> u32
     }
 }
 
-// An instruction word, by the number of its operation, in two halves: in one chain of tests the compiler takes the last groups for rare.
+// An instruction word, by the number of its operation: ld and st are chosen first (02, wish 4), then the halves below and above them are
+// told apart. In one chain of tests the compiler takes the last groups for rare.
 fn instruction(w: &mut [u32], cells: &mut [u32], word: u32) -> u32
     requires { ⌜ MachineWords (now w) × (machineOf (now w) .position .pc < MOST-MEMORY) × StackShown (machineOf (now w)) ⌝ }
     ensures { λ r. ⌜ PerformsStoring (λ v. fetchedThen v (Found word)) r (now (w .entry)) (now (cells .entry)) (now (w .exit)) (now (cells .exit)) ⌝ }
 {
     let op = isa::opcode(word, wide_words(w));
-    if op < 29 {
-        lower_half(w, cells, word, op)
+    if op > 26 {
+        if op > 28 {
+            upper_half(w, word, op)
+        } else {
+            access_word(w, cells, word, op)
+        }
     } else {
-        upper_half(w, word, op)
+        lower_half(w, word, op)
     }
 }
 

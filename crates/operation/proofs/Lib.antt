@@ -1,3 +1,4 @@
--- Laws of operations: values, and clauses that are alike but for a number.
+-- Laws of operations: values, clauses that are alike but for a number, and loads and stores by where their address leads.
 pub mod Values
 pub mod Alike
+mod Accesses

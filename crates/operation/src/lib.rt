@@ -15,7 +15,8 @@ pub use field::fields;
 use isa::Instruction;
 pub use jump::branches;
 pub use jump::jumps;
-pub use memory::access;
+pub use memory::load;
+pub use memory::store;
 pub use mov::moves;
 pub use status::system;
 

@@ -1,10 +1,17 @@
--- `execute::access_word` meets its contract: by the condition. Assumes nothing.
-use mathlib.Core.Path.{refl, sym, _∙_}
+-- `execute::access_word` meets its contract: by the condition, then ld or st. Assumes nothing.
+use mathlib.Core.Path.{_≡_, refl, sym, _∙_}
+use mathlib.Core.List.{List}
+use Prim.Native.Nat.{ℕ}
 use native.Mathlib.Omega.{arith}
 use denote.Ref.{now}
 use borrow.Author.Needs.{needs}
+use Rattle.isa.specs.Operation.{operations, operationOf}
 use Rattle.machine.specs.Machine.{widthOf, memoryOf}
-use Rattle.execute.proofs.Tests.{Decoded, decoded, low-skipped, low-performed}
+use Rattle.view.specs.View.{Found, viewOf}
+use Rattle.effect.specs.Apply.{reportOn}
+use Rattle.operation.specs.Execute.{execute}
+use Rattle.execute.specs.Decide.{fetchedThen}
+use Rattle.execute.proofs.Tests.{Decoded, decoded, low-skipped, low-performed-as}
 use Rattle.execute.proofs.access_word.Statement.{statement}
 use Rattle.execute.proofs.access_word.Tie as tie
 
@@ -24,8 +31,11 @@ condition-false-requires c κs = (search needs, given (c .before) .range .creg)
 source-requires : tie.Need-source-requires
 source-requires c κs = (search needs, given (c .before .before .before .before) .range .sreg1)
 
-access-requires : tie.Need-access-requires
-access-requires c κs = let d = given (c .before .before .before .before .before .before .before) in let e = d .number in (search needs, d .range .dreg, omega arith, omega arith)
+load-requires : tie.Need-load-requires
+load-requires c κs = (search needs, given (c .before .before .before .before .before .before .before .before) .range .dreg)
+
+store-requires : tie.Need-store-requires
+store-requires c κs = (search needs, given (c .before .before .before .before .before .before .before .before) .range .dreg)
 
 returns : tie.Need-returns
 returns c p =
@@ -35,15 +45,27 @@ returns c p =
     c .before .before .next .ensures memory
     ∙ sym (low-skipped p _ memory (given d) (omega arith) (sym (tested .condition-false .ensures p memory) ∙ c .before .before .before .before .if1 .taken))
 
+-- the decoding before a source is read
+abbrev decoding : tie.After-source → tie.After-decode-access
+decoding c = c .before .before .before .before .before
+
+-- the word does what the clause of its operation says
+performed : (c : tie.After-source) (n : ℕ) → entry (decoding c) .args .op ≡ n
+    → let a = entry (decoding c) .args in let i = decoding c .decode-access .result in let memory = memoryOf (now (a .cells)) in
+    (p : List ℕ) → let v = viewOf p (now (a .w)) memory in
+    reportOn (fetchedThen v (Found (a .word))) (now (a .w)) memory ≡ reportOn (execute (operationOf n) v i (c .source .result) (v .source (i .sreg2))) (now (a .w)) memory
+performed c n e p =
+    let left = c .before .before in
+    let memory = memoryOf (now (entry (decoding c) .args .cells)) in
+    low-performed-as p _ memory (given (decoding c)) (omega arith) n e (sym (left .before .condition-false .ensures p memory) ∙ left .if1 .left) _ _ (c .source .ensures p memory) refl
+
 returns-2 : tie.Need-returns-2
-returns-2 c p =
-    let read = c .before .before .before .before .before .before .before in
-    let left = read .before .before in
-    let d = left .before .before .before in
-    let memory = memoryOf (now (entry d .args .cells)) in
-    c .before .before .before .before .access .ensures _ p
-    ∙ sym (low-performed p _ memory (given d) (omega arith) (sym (left .before .condition-false .ensures p memory) ∙ left .if1 .left)
-    _ _ (read .source .ensures p memory) refl)
+unfolding operations operationOf
+returns-2 c p = c .before .before .load .ensures _ p ∙ sym (performed (c .before .before .before .before .before .before) 27 (omega arith) p)
+
+returns-3 : tie.Need-returns-3
+unfolding operations operationOf
+returns-3 c p = c .before .before .before .before .store .ensures _ p ∙ sym (performed (c .before .before .before .before .before .before .before .before) 28 (omega arith) p)
 
 pub access-word-spec : {M : Type 1} → statement M
 access-word-spec =
@@ -54,8 +76,11 @@ access-word-spec =
     condition-false-requires
     (λ c κs. search needs)
     source-requires
-    access-requires
+    load-requires
+    store-requires
     (λ c. search needs)
     returns
     (λ c. search needs) (λ c. search needs)
-    returns-2)
+    returns-2
+    (λ c. search needs) (λ c. search needs)
+    returns-3)

@@ -1,4 +1,4 @@
--- `execute::instruction` meets its contract: by the half that the number is in. Assumes nothing.
+-- `execute::instruction` meets its contract: ld and st, or the half that the number is in. Assumes nothing.
 use mathlib.Core.Path.{_≡_, ap, _∙_}
 use mathlib.Core.Bool.{Bool}
 use denote.Ref.{now}
@@ -17,14 +17,30 @@ number : (c : tie.After-opcode) → c .opcode .result ≡ opcodeOf (widthOf (psr
 unfolding widthOf
 number c = c .opcode .ensures ∙ ap (λ (wide : Bool). opcodeOf (widthBy wide) (entry c .args .word)) (c .before .wide-words .ensures)
 
-lower-half-requires : tie.Need-lower-half-requires
-lower-half-requires c κs = (search needs, number (c .before .before .before), search needs)
-
 upper-half-requires : tie.Need-upper-half-requires
-upper-half-requires c κs = let o = c .before .before in (search needs, entry o .pre .1, entry o .pre .2, number o, search needs)
+upper-half-requires c κs = let o = c .before .before .before in (search needs, entry o .pre .1, entry o .pre .2, number o, search needs)
 
-returns-2 : tie.Need-returns-2
-returns-2 c p = let o = c .before .before .before .before .before in c .before .before .upper-half .ensures p (memoryOf (now (entry o .args .cells)))
+access-word-requires : tie.Need-access-word-requires
+access-word-requires c κs = (search needs, number (c .before .before .before .before), search needs, search needs)
+
+lower-half-requires : tie.Need-lower-half-requires
+lower-half-requires c κs = (search needs, number (c .before .before), search needs)
+
+returns : tie.Need-returns
+returns c p = c .before .before .upper-half .ensures p (memoryOf (now (entry (c .before .before .before .before .before .before) .args .cells)))
+
+returns-3 : tie.Need-returns-3
+returns-3 c p = c .before .before .lower-half .ensures p (memoryOf (now (entry (c .before .before .before .before .before) .args .cells)))
 
 pub instruction-spec : {M : Type 1} → statement M
-instruction-spec = tie.close (tie.spec (λ c κs. search needs) (λ c κs. search needs) lower-half-requires upper-half-requires (λ c. search needs) (λ c. search needs) (λ c. search needs) (λ c. search needs) returns-2)
+instruction-spec =
+    tie.close
+    (tie.spec
+    (λ c κs. search needs) (λ c κs. search needs)
+    upper-half-requires
+    access-word-requires
+    lower-half-requires
+    (λ c. search needs)
+    returns
+    (λ c. search needs) (λ c. search needs) (λ c. search needs) (λ c. search needs)
+    returns-3)
