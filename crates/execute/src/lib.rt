@@ -64,7 +64,7 @@ fn immediate_word(w: &mut [u32], word: u32, op: u32) -> u32
     }
 }
 
-// Words of operations 27 and 28: ld and st.
+// Words of operations 27 and 28: ld, which changes no cell, and st.
 fn access_word(w: &mut [u32], cells: &mut [u32], word: u32, op: u32) -> u32
     requires { ⌜ MachineWords (now w) × (op ≡ opcodeOf (widthOf (psr (machineOf (now w)))) word) × (27 ≤ op) × (op ≤ 28) ⌝ }
     ensures { λ r. ⌜ PerformsStoring (λ v. fetchedThen v (Found word)) r (now (w .entry)) (now (cells .entry)) (now (w .exit)) (now (cells .exit)) ⌝ }
@@ -203,8 +203,9 @@ fn upper_half(w: &mut [u32], word: u32, op: u32) -> u32
     }
 }
 
-// An instruction word, by the number of its operation: ld and st are chosen first (02, wish 4), then the halves below and above them are
-// told apart. In one chain of tests the compiler takes the last groups for rare.
+// An instruction word, by the number of its operation. The tests that single out ld and st come first (02, wish 4: "Choose between those two
+// before testing the other operations"); the halves below and above them are told apart further on, each in a chain of its own: in one chain
+// the compiler takes the last groups for rare.
 fn instruction(w: &mut [u32], cells: &mut [u32], word: u32) -> u32
     requires { ⌜ MachineWords (now w) × (machineOf (now w) .position .pc < MOST-MEMORY) × StackShown (machineOf (now w)) ⌝ }
     ensures { λ r. ⌜ PerformsStoring (λ v. fetchedThen v (Found word)) r (now (w .entry)) (now (cells .entry)) (now (w .exit)) (now (cells .exit)) ⌝ }
