@@ -256,13 +256,35 @@ static void write_arithmetic(struct code *c)
 
 // ---- loads and stores
 
-// Passes over 1,024 cells: neighbours are put in order, then the cells are copied four at a time and
-// summed.
-static void write_memory(struct code *c)
+// Points R10 and R11 to the first and the last of 1,024 cells, and R12 to where they are copied.
+static void write_areas(struct code *c)
 {
     emit(c, half(LLI, 10, USER_DATA));
     emit(c, half(LLI, 11, USER_DATA + 1023));
     emit(c, half(LLI, 12, USER_DATA + 2048));
+}
+
+// Copies the cells, n at a time, by n registers from the first on.
+static void write_copy(struct code *c, uint32_t n, uint32_t first)
+{
+    emit(c, rrr(MOV, 1, 10, 0));
+    emit(c, rrr(MOV, 2, 12, 0));
+    uint32_t copy = c->at;
+    for (uint32_t i = 0; i < n; i++)
+        emit(c, rri(LD, first + i, 1, (int32_t)i));
+    for (uint32_t i = 0; i < n; i++)
+        emit(c, rri(ST, first + i, 2, (int32_t)i));
+    emit(c, rri(ADDIU, 1, 1, (int32_t)n));
+    emit(c, to(1, rrr(CMP, 0, 1, 11)));
+    branch(c, BLT, 1, copy);
+    emit(c, rri(ADDIU, 2, 2, (int32_t)n));
+}
+
+// Passes over 1,024 cells: neighbours are put in order, then the cells are copied four at a time and
+// summed.
+static void write_memory(struct code *c)
+{
+    write_areas(c);
     uint32_t pass = c->at;
 
     emit(c, rrr(MOV, 1, 10, 0));
@@ -279,17 +301,7 @@ static void write_memory(struct code *c)
     branch(c, BLT, 1, order);
     emit(c, rrr(ADDU, 5, 5, 3));
 
-    emit(c, rrr(MOV, 1, 10, 0));
-    emit(c, rrr(MOV, 2, 12, 0));
-    uint32_t copy = c->at;
-    for (uint32_t i = 0; i < 4; i++)
-        emit(c, rri(LD, 3 + i, 1, (int32_t)i));
-    for (uint32_t i = 0; i < 4; i++)
-        emit(c, rri(ST, 3 + i, 2, (int32_t)i));
-    emit(c, rri(ADDIU, 1, 1, 4));
-    emit(c, to(1, rrr(CMP, 0, 1, 11)));
-    branch(c, BLT, 1, copy);
-    emit(c, rri(ADDIU, 2, 2, 4));
+    write_copy(c, 4, 3);
 
     // A cell gets a new number, so that there is something left to order.
     emit(c, rri(MULI, 7, 7, 61));
@@ -299,28 +311,12 @@ static void write_memory(struct code *c)
     emit(c, rri(ADDIU, 9, 9, 1));
 }
 
-// ---- loads and stores only
-
 // Passes over 1,024 cells, copied sixteen at a time: eight words in nine are ld or st.
-static void write_copy(struct code *c)
+static void write_memory_only(struct code *c)
 {
-    emit(c, half(LLI, 10, USER_DATA));
-    emit(c, half(LLI, 11, USER_DATA + 1023));
-    emit(c, half(LLI, 12, USER_DATA + 2048));
+    write_areas(c);
     uint32_t pass = c->at;
-
-    emit(c, rrr(MOV, 1, 10, 0));
-    emit(c, rrr(MOV, 2, 12, 0));
-    uint32_t copy = c->at;
-    for (uint32_t i = 0; i < 16; i++)
-        emit(c, rri(LD, 13 + i, 1, (int32_t)i));
-    for (uint32_t i = 0; i < 16; i++)
-        emit(c, rri(ST, 13 + i, 2, (int32_t)i));
-    emit(c, rri(ADDIU, 1, 1, 16));
-    emit(c, to(1, rrr(CMP, 0, 1, 11)));
-    branch(c, BLT, 1, copy);
-    emit(c, rri(ADDIU, 2, 2, 16));
-
+    write_copy(c, 16, 13);
     jump(c, JMP, pass);
     emit(c, rri(ADDIU, 9, 9, 1));
 }
@@ -500,7 +496,8 @@ static void make_requests(struct scene *s)
 struct scene *make_scene(int n)
 {
     static const char *const names[] = {
-        "ALU and branches", "loads and stores", "loads and stores only", "interrupts and system calls",
+        "ALU and branches", "loads and stores", "loads and stores only",
+        "interrupts and system calls",
     };
     struct scene *s = calloc(1, sizeof *s);
     if (s == NULL)
@@ -525,7 +522,7 @@ struct scene *make_scene(int n)
         write_memory(&c);
         break;
     case 2:
-        write_copy(&c);
+        write_memory_only(&c);
         break;
     default:
         write_main(&c);
