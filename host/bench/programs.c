@@ -264,7 +264,7 @@ static void write_areas(struct code *c)
     emit(c, half(LLI, 12, USER_DATA + 2048));
 }
 
-// Copies the cells, n at a time, by n registers from the first on.
+// Copies the cells, n at a time, through n registers, the first of them given.
 static void write_copy(struct code *c, uint32_t n, uint32_t first)
 {
     emit(c, rrr(MOV, 1, 10, 0));
@@ -311,7 +311,7 @@ static void write_memory(struct code *c)
     emit(c, rri(ADDIU, 9, 9, 1));
 }
 
-// Passes over 1,024 cells, copied sixteen at a time: eight words in nine are ld or st.
+// Passes over 1,024 cells, copied sixteen at a time: eight steps in nine are ld or st.
 static void write_memory_only(struct code *c)
 {
     write_areas(c);

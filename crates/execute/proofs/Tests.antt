@@ -152,6 +152,4 @@ module _ (p w : List ℕ) (memory : Memory) {word op : ℕ} {i : Instruction} (d
   -- nop: conditional or not, nothing but PC moves
   pub word-nothing : op ≡ 0 → done ≡ reportOn Next w memory
   unfolding instructions execute
-  word-nothing z =
-      let e : i .opcode ≡ 0 = d .number ∙ z in
-      either (conditionFalse v i) (low-skipped (omega arith)) (λ c. low-performed (omega arith) c _ _ refl refl ∙ rw e)
+  word-nothing z = either (conditionFalse v i) (low-skipped (omega arith)) (λ c. low-performed-as (omega arith) 0 z c _ _ refl refl)

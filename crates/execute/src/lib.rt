@@ -64,17 +64,18 @@ fn immediate_word(w: &mut [u32], word: u32, op: u32) -> u32
     }
 }
 
-// Words of operations 27 and 28: ld, which changes no cell, and st.
+// Words of operations 27 and 28: ld and st.
 fn access_word(w: &mut [u32], cells: &mut [u32], word: u32, op: u32) -> u32
     requires { ⌜ MachineWords (now w) × (op ≡ opcodeOf (widthOf (psr (machineOf (now w)))) word) × (27 ≤ op) × (op ≤ 28) ⌝ }
     ensures { λ r. ⌜ PerformsStoring (λ v. fetchedThen v (Found word)) r (now (w .entry)) (now (cells .entry)) (now (w .exit)) (now (cells .exit)) ⌝ }
 {
+    let is_load = op < 28;
     let i = isa::decode_access(word, wide_words(w), op);
     if condition_false(w, i) {
         next(w)
     } else {
         let x = source(w, i.sreg1);
-        if op < 28 {
+        if is_load {
             load(w, cells, i, x)
         } else {
             store(w, cells, i, x)
@@ -170,7 +171,7 @@ fn field_word(w: &mut [u32], word: u32, op: u32, wide: bool) -> u32
     }
 }
 
-// Words of the lower half of the operations, 0 to 26: nop to sexti.
+// Words of the operations below ld, 0 to 26: nop to sexti.
 fn lower_half(w: &mut [u32], word: u32, op: u32) -> u32
     requires { ⌜ MachineWords (now w) × (op ≡ opcodeOf (widthOf (psr (machineOf (now w)))) word) × (op < 27) ⌝ }
     ensures { λ r. ⌜ PerformsSeen (λ v. fetchedThen v (Found word)) r (now (w .entry)) (now (w .exit)) ⌝ }
@@ -182,8 +183,8 @@ fn lower_half(w: &mut [u32], word: u32, op: u32) -> u32
     }
 }
 
-// Words of the upper half, 29 to 63: mov to exbfi. The last group is called in two places: a function with one caller would be made a part of
-// the loop over steps, and the words of the other groups would take 5 to 8 % more instructions.
+// Words of the operations above st, 29 to 63: mov to exbfi. The last group is called in two places: a function with one caller would be made a
+// part of the loop over steps, and the words of the other groups would take 5 to 8 % more instructions.
 fn upper_half(w: &mut [u32], word: u32, op: u32) -> u32
     requires { ⌜ MachineWords (now w) × (machineOf (now w) .position .pc < MOST-MEMORY) × StackShown (machineOf (now w)) × (op ≡ opcodeOf (widthOf (psr (machineOf (now w)))) word) × (29 ≤ op) ⌝ }
     ensures { λ r. ⌜ PerformsSeen (λ v. fetchedThen v (Found word)) r (now (w .entry)) (now (w .exit)) ⌝ }
@@ -203,9 +204,9 @@ fn upper_half(w: &mut [u32], word: u32, op: u32) -> u32
     }
 }
 
-// An instruction word, by the number of its operation. The tests that single out ld and st come first (02, wish 4: "Choose between those two
-// before testing the other operations"); the halves below and above them are told apart further on, each in a chain of its own: in one chain
-// the compiler takes the last groups for rare.
+// An instruction word, by the number of its operation. ld and st are chosen first (02, wish 4: "Choose between those two before testing the
+// other operations"); the operations below and above them are told apart after that, each half in a chain of its own: in one chain the
+// compiler takes the last groups for rare.
 fn instruction(w: &mut [u32], cells: &mut [u32], word: u32) -> u32
     requires { ⌜ MachineWords (now w) × (machineOf (now w) .position .pc < MOST-MEMORY) × StackShown (machineOf (now w)) ⌝ }
     ensures { λ r. ⌜ PerformsStoring (λ v. fetchedThen v (Found word)) r (now (w .entry)) (now (cells .entry)) (now (w .exit)) (now (cells .exit)) ⌝ }

@@ -20,27 +20,23 @@ module _ (w cells : List ℕ) (i : Instruction) (x : ℕ) (p : Place) where
   abbrev s : State
   s = stateOf w (memoryOf cells)
 
-  -- base and immediate lead to p
-  abbrev pub Leads : Type 0
-  Leads = placeAt s (pos x +ℤ i .immediate) ≡ placeAs p
-
-  -- as the code finds it, by their sum
-  pub leads : (address : ℤ) (q : Place) → mag (i .immediate) < 2 ^ hbits w32 → mag address < 2 ^ hbits w64 → address ≡ pos x +ℤ toZ w32 (ofZ w32 (i .immediate))
-      → placeAs q ≡ placeAt s (toZ w64 (ofZ w64 address)) → q ≡ p → Leads
-  leads address q f g e h t = rw (← (back w32 (i .immediate) f), ← e, ← (back w64 address g), ← t) (sym h)
-
-  -- ld does what p gives
+  -- what ld does where its address leads to p
   abbrev pub Loads : Type 0
   Loads = (program : List ℕ) (y : ℕ) → execute ld (view program s) i x y ≡ onFound (Result (i .dreg)) (mapFound (heldAt s) (placeAs p))
 
-  pub loads : Leads → Loads
-  unfolding view execute
-  loads l program y = rw l
-
-  -- st does what p gives
+  -- what st does there
   abbrev pub Stores : Type 0
   Stores = (program : List ℕ) (y : ℕ) → execute st (view program s) i x y ≡ onFound (stored (view program s .source (i .dreg))) (placeAs p)
 
-  pub stores : Leads → Stores
-  unfolding view execute
-  stores l program y = rw l
+  -- it leads to p where the code finds p, at the sum of base and immediate
+  module _ (q : Place) (t : q ≡ p) (address : ℤ) (fits : mag (i .immediate) < 2 ^ hbits w32) (wide : mag address < 2 ^ hbits w64) (sum : address ≡ pos x +ℤ toZ w32 (ofZ w32 (i .immediate))) (found : placeAs q ≡ placeAt s (toZ w64 (ofZ w64 address))) where
+    leads : placeAt s (pos x +ℤ i .immediate) ≡ placeAs p
+    leads = rw (← (back w32 (i .immediate) fits), ← sum, ← (back w64 address wide), ← t) (sym found)
+
+    pub loads : Loads
+    unfolding view execute
+    loads program y = rw leads
+
+    pub stores : Stores
+    unfolding view execute
+    stores program y = rw leads

@@ -1,10 +1,11 @@
 -- `execute::access_word` meets its contract: by the condition, then ld or st. Assumes nothing.
 use mathlib.Core.Path.{_≡_, refl, sym, _∙_}
 use mathlib.Core.List.{List}
-use Prim.Native.Nat.{ℕ}
+use Prim.Native.Nat.{ℕ, _<_}
 use native.Mathlib.Omega.{arith}
 use denote.Ref.{now}
 use borrow.Author.Needs.{needs}
+use borrow.Author.Tests.{ltb-true, ltb-false}
 use Rattle.isa.specs.Operation.{operations, operationOf}
 use Rattle.machine.specs.Machine.{widthOf, memoryOf}
 use Rattle.view.specs.View.{Found, viewOf}
@@ -31,11 +32,19 @@ condition-false-requires c κs = (search needs, given (c .before) .range .creg)
 source-requires : tie.Need-source-requires
 source-requires c κs = (search needs, given (c .before .before .before .before) .range .sreg1)
 
+-- the decoding before a source is read
+abbrev decoding : tie.After-source → tie.After-decode-access
+decoding c = c .before .before .before .before .before
+
+-- what ld and st ask
+target : (c : tie.After-source) → decoding c .decode-access .result .dreg < 32
+target c = given (decoding c) .range .dreg
+
 load-requires : tie.Need-load-requires
-load-requires c κs = (search needs, given (c .before .before .before .before .before .before .before .before) .range .dreg)
+load-requires c κs = (search needs, target (c .before .before .before))
 
 store-requires : tie.Need-store-requires
-store-requires c κs = (search needs, given (c .before .before .before .before .before .before .before .before) .range .dreg)
+store-requires c κs = (search needs, target (c .before .before .before))
 
 returns : tie.Need-returns
 returns c p =
@@ -45,12 +54,11 @@ returns c p =
     c .before .before .next .ensures memory
     ∙ sym (low-skipped p _ memory (given d) (omega arith) (sym (tested .condition-false .ensures p memory) ∙ c .before .before .before .before .if1 .taken))
 
--- the decoding before a source is read
-abbrev decoding : tie.After-source → tie.After-decode-access
-decoding c = c .before .before .before .before .before
+abbrev number : tie.After-source → ℕ
+number c = entry (decoding c) .args .op
 
 -- the word does what the clause of its operation says
-performed : (c : tie.After-source) (n : ℕ) → entry (decoding c) .args .op ≡ n
+performed : (c : tie.After-source) (n : ℕ) → number c ≡ n
     → let a = entry (decoding c) .args in let i = decoding c .decode-access .result in let memory = memoryOf (now (a .cells)) in
     (p : List ℕ) → let v = viewOf p (now (a .w)) memory in
     reportOn (fetchedThen v (Found (a .word))) (now (a .w)) memory ≡ reportOn (execute (operationOf n) v i (c .source .result) (v .source (i .sreg2))) (now (a .w)) memory
@@ -61,11 +69,15 @@ performed c n e p =
 
 returns-2 : tie.Need-returns-2
 unfolding operations operationOf
-returns-2 c p = c .before .before .load .ensures _ p ∙ sym (performed (c .before .before .before .before .before .before) 27 (omega arith) p)
+returns-2 c p =
+    let chosen = c .before .before .before .before .before in
+    c .before .before .load .ensures _ p ∙ sym (performed (chosen .before) 27 (omega (arith, ltb-true (number (chosen .before)) 28 (chosen .if2 .taken))) p)
 
 returns-3 : tie.Need-returns-3
 unfolding operations operationOf
-returns-3 c p = c .before .before .before .before .store .ensures _ p ∙ sym (performed (c .before .before .before .before .before .before .before .before) 28 (omega arith) p)
+returns-3 c p =
+    let chosen = c .before .before .before .before .before .before .before in
+    c .before .before .before .before .store .ensures _ p ∙ sym (performed (chosen .before) 28 (omega (arith, ltb-false (number (chosen .before)) 28 (chosen .if2 .left))) p)
 
 pub access-word-spec : {M : Type 1} → statement M
 access-word-spec =

@@ -7,7 +7,7 @@ use Rattle.operation.specs.Execute.{onFound}
 use Rattle.view.specs.View.{mapFound, placeAs, heldAt}
 use Rattle.view.specs.declared.Place.{Place}
 use Rattle.effect.specs.Apply.{applying}
-use Rattle.operation.proofs.Accesses.{leads, Loads, loads}
+use Rattle.operation.proofs.Accesses.{Loads, loads}
 use Rattle.operation.proofs.memory.load.Statement.{statement}
 use Rattle.operation.proofs.memory.load.Tie as tie
 
@@ -17,7 +17,7 @@ entry c = c .before .before .before .before .before .before
 found : (c : tie.After-place) (p : Place) → c .place .result ≡ p → let a = entry c .args in Loads (now (a .w)) (now (a .cells)) (a .i) (a .x) p
 found c p e =
     let sum = c .before .before .offset-by in
-    loads _ _ _ _ p (leads _ _ (entry c .args .i) _ p (sum .result) (c .place .result) (omega arith) (sum .ok) (sum .ensures) (c .place .ensures) e)
+    loads _ _ (entry c .args .i) _ p (c .place .result) e (sum .result) (omega arith) (sum .ok) (sum .ensures) (c .place .ensures)
 
 returns : tie.Need-returns
 unfolding mapFound placeAs heldAt onFound

@@ -8,7 +8,7 @@ use Rattle.view.specs.View.{placeAs}
 use Rattle.view.specs.declared.Place.{Place}
 use Rattle.effect.specs.Apply.{applying}
 use Rattle.operation.specs.Execute.{onFound, stored}
-use Rattle.operation.proofs.Accesses.{leads, Stores, stores}
+use Rattle.operation.proofs.Accesses.{Stores, stores}
 use Rattle.operation.proofs.memory.store.Statement.{statement}
 use Rattle.operation.proofs.memory.store.Tie as tie
 
@@ -18,7 +18,7 @@ entry c = c .before .before .before .before .before .before .before
 found : (c : tie.After-place) (p : Place) → c .place .result ≡ p → let a = entry c .args in Stores (now (a .w)) (now (a .cells)) (a .i) (a .x) p
 found c p e =
     let sum = c .before .before .before .offset-by in
-    stores _ _ _ _ p (leads _ _ (entry c .args .i) _ p (sum .result) (c .place .result) (omega arith) (sum .ok) (sum .ensures) (c .place .ensures) e)
+    stores _ _ (entry c .args .i) _ p (c .place .result) e (sum .result) (omega arith) (sum .ok) (sum .ensures) (c .place .ensures)
 
 returns : tie.Need-returns
 unfolding placeAs onFound stored
