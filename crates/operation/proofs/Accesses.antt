@@ -29,7 +29,8 @@ module _ (w cells : List ℕ) (i : Instruction) (x : ℕ) (p : Place) where
   Stores = (program : List ℕ) (y : ℕ) → execute st (view program s) i x y ≡ onFound (stored (view program s .source (i .dreg))) (placeAs p)
 
   -- it leads to p where the code finds p, at the sum of base and immediate
-  module _ (q : Place) (t : q ≡ p) (address : ℤ) (fits : mag (i .immediate) < 2 ^ hbits w32) (wide : mag address < 2 ^ hbits w64) (sum : address ≡ pos x +ℤ toZ w32 (ofZ w32 (i .immediate))) (found : placeAs q ≡ placeAt s (toZ w64 (ofZ w64 address))) where
+  module _ (q : Place) (t : q ≡ p) (address : ℤ) (fits : mag (i .immediate) < 2 ^ hbits w32) (wide : mag address < 2 ^ hbits w64)
+      (sum : address ≡ pos x +ℤ toZ w32 (ofZ w32 (i .immediate))) (found : placeAs q ≡ placeAt s (toZ w64 (ofZ w64 address))) where
     leads : placeAt s (pos x +ℤ i .immediate) ≡ placeAs p
     leads = rw (← (back w32 (i .immediate) fits), ← sum, ← (back w64 address wide), ← t) (sym found)
 

@@ -36,15 +36,15 @@ source-requires c κs = (search needs, given (c .before .before .before .before)
 abbrev decoding : tie.After-source → tie.After-decode-access
 decoding c = c .before .before .before .before .before
 
--- what ld and st ask
-target : (c : tie.After-source) → decoding c .decode-access .result .dreg < 32
-target c = given (decoding c) .range .dreg
+-- what ld and st ask of dreg
+dreg : (c : tie.After-source) → decoding c .decode-access .result .dreg < 32
+dreg c = given (decoding c) .range .dreg
 
 load-requires : tie.Need-load-requires
-load-requires c κs = (search needs, target (c .before .before .before))
+load-requires c κs = (search needs, dreg (c .before .before .before))
 
 store-requires : tie.Need-store-requires
-store-requires c κs = (search needs, target (c .before .before .before))
+store-requires c κs = (search needs, dreg (c .before .before .before))
 
 returns : tie.Need-returns
 returns c p =
@@ -54,6 +54,7 @@ returns c p =
     c .before .before .next .ensures memory
     ∙ sym (low-skipped p _ memory (given d) (omega arith) (sym (tested .condition-false .ensures p memory) ∙ c .before .before .before .before .if1 .taken))
 
+-- the number of the word's operation
 abbrev number : tie.After-source → ℕ
 number c = entry (decoding c) .args .op
 
