@@ -1,6 +1,7 @@
 // Times the proved library against the same interpreter in plain C.
 //
 //     bench                     checks that both agree, then prints nanoseconds per step of each
+//     bench scenes              prints the names of the scenes, in their order from 0
 //     bench SIDE N              one call of scene N on one side, library or baseline, for a profiler;
 //                               SCENES is a call with limit 0
 //
@@ -169,15 +170,30 @@ static void show(const char *name, const char *mode, const double best[SIDES])
 
 // ---- the program
 
+// Says what the program is called with.
+static int usage(void)
+{
+    fprintf(stderr, "bench [scenes | library|baseline 0..%d]\n", SCENES);
+    return 2;
+}
+
+// Prints the names of the scenes.
+static int list(void)
+{
+    for (int n = 0; n < SCENES; n++) {
+        const struct scene *s = make_scene(n);
+        printf("%s, %s\n", s->name, s->mode);
+    }
+    return 0;
+}
+
 // One call on one side.
 static int once(const char *side, const char *number)
 {
     static struct lent l;
     int n = atoi(number);
-    if (n < 0 || n > SCENES || (strcmp(side, "library") != 0 && strcmp(side, "baseline") != 0)) {
-        fprintf(stderr, "bench [library|baseline 0..%d]\n", SCENES);
-        return 2;
-    }
+    if (n < 0 || n > SCENES || (strcmp(side, "library") != 0 && strcmp(side, "baseline") != 0))
+        return usage();
     const struct scene *s = make_scene(n % SCENES);
     lend(s, &l);
     struct coffee_answer answer =
@@ -189,10 +205,10 @@ int main(int argc, char **argv)
 {
     if (argc == 3)
         return once(argv[1], argv[2]);
-    if (argc != 1) {
-        fprintf(stderr, "bench [library|baseline 0..%d]\n", SCENES);
-        return 2;
-    }
+    if (argc == 2 && strcmp(argv[1], "scenes") == 0)
+        return list();
+    if (argc != 1)
+        return usage();
 
     static const uint32_t limits[] = { 0, 1, 2, 3, 1000, STEPS - 1, STEPS };
     const struct scene *scenes[SCENES];

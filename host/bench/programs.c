@@ -495,33 +495,35 @@ static void make_requests(struct scene *s)
 
 struct scene *make_scene(int n)
 {
-    static const char *const names[] = {
-        "ALU and branches", "loads and stores", "loads and stores only",
-        "interrupts and system calls",
+    static const char *const names[KINDS] = {
+        [ARITHMETIC] = "ALU and branches",
+        [MEMORY] = "loads and stores",
+        [MEMORY_ONLY] = "loads and stores only",
+        [INTERRUPTS] = "interrupts and system calls",
     };
     struct scene *s = calloc(1, sizeof *s);
     if (s == NULL)
         abort();
     bool user = n % 2 == 1;
-    bool interrupts = n / 2 == 3;
-    s->name = names[n / 2];
+    int kind = n / 2;
+    s->name = names[kind];
     s->mode = user ? "user" : "super user";
 
     uint32_t psr = user ? 0x09 : 0x0E;
-    make_image(s->image, interrupts ? psr | 0x10 : psr);
+    make_image(s->image, kind == INTERRUPTS ? psr | 0x10 : psr);
     uint32_t state = 0x12345678;
     for (size_t i = 0; i < CELLS; i++)
         s->cells[i] = noise(&state);
 
     struct code c = { s->program, USER_PROGRAM };
-    switch (n / 2) {
-    case 0:
+    switch (kind) {
+    case ARITHMETIC:
         write_arithmetic(&c);
         break;
-    case 1:
+    case MEMORY:
         write_memory(&c);
         break;
-    case 2:
+    case MEMORY_ONLY:
         write_memory_only(&c);
         break;
     default:

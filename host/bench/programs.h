@@ -18,7 +18,8 @@ struct scene {
     size_t requests_len;
 };
 
-enum { SCENES = 8 };
+// Kinds of programs. Scene 2 * kind runs in super user mode, the next one in user mode.
+enum { ARITHMETIC, MEMORY, MEMORY_ONLY, INTERRUPTS, KINDS, SCENES = 2 * KINDS };
 
 // Makes scene n, of 0 to SCENES - 1. Requests, if it has any, stay allocated.
 struct scene *make_scene(int n);

@@ -19,7 +19,6 @@ use Rattle.machine.specs.declared.Position.{Position}
 use Rattle.view.specs.View.{Attempt, Raises, mapFound, Location, View, withPlaces, conditionFalse}
 use Rattle.effect.specs.Effect.{Effect, Stopped, Raised, Next}
 use Rattle.operation.specs.Execute.{onFound, afterThis, targetBy, jumped, branch, execute}
-use Rattle.operation.proofs.Alike.{access-alike}
 use Rattle.execute.specs.Decide.{perform, ifAvailable, instruction}
 use Rattle.execute.proofs.Order.{codeFor, transferInSlot, skipped, performed}
 
@@ -53,10 +52,11 @@ module _ (i : Instruction) (a : between 27 28 (i .opcode) ≡ true) where
     -- an exception where the address leads to one
     pub access-raised : (held : Location → ℕ) → LoadsPlaces held v → conditionFalse v i ≡ false → (code : ℕ) → v .place (addressOf v i) ≡ Raises code
         → instruction v i ≡ Raised code
-    unfolding perform onFound mapFound
+    unfolding instructions values execute perform onFound mapFound
     access-raised held loads c code e =
+        let h = range .1 in
         access-performed c
-        ∙ access-alike v i (v .source (i .sreg1)) (v .source (i .sreg2)) (i .opcode) (Raised code) (rw e) (rw (loads (addressOf v i), e)) (range .0) (range .1)
+        ∙ agree (λ n. perform v i (operationOf n)) (λ n. Raised code) 27 2 (rw (loads (addressOf v i), e)) (i .opcode) (range .0) (omega arith)
 
 -- ---- two views that differ in where data addresses lead
 

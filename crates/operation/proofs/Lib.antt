@@ -1,4 +1,4 @@
 -- Laws of operations: values, clauses that are alike but for a number, and loads and stores by where their address leads.
-pub mod Values
-pub mod Alike
+mod Values
+mod Alike
 mod Accesses
