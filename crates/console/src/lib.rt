@@ -82,7 +82,7 @@ fn digit(d: u32) -> u8
 }
 
 // How many decimal digits a number has.
-fn places(n: u32) -> usize
+pub fn places(n: u32) -> usize
     ensures { λ r. ⌜ r ≡ placesOf n ⌝ }
 {
     let mut count: usize = 1;
@@ -94,12 +94,11 @@ fn places(n: u32) -> usize
     count
 }
 
-// Writes the lowest digits of a number in a base, from a place on, and a character after them.
-pub fn put_digits(line: &mut [u8], at: usize, base: u32, count: usize, n: u32, end: u8)
-    requires { ⌜ ((1 ≤ base) × (base ≤ 16)) × (at + count + 1 ≤ length (now line)) ⌝ }
-    ensures { λ _. ⌜ now (line .exit) ≡ putAt (now (line .entry)) at (digitsOf base count n ++ end ∷ []) ⌝ }
+// Writes the lowest digits of a number in a base, from a place on.
+pub fn put_digits(line: &mut [u8], at: usize, base: u32, count: usize, n: u32)
+    requires { ⌜ ((1 ≤ base) × (base ≤ 16)) × (at + count ≤ length (now line)) ⌝ }
+    ensures { λ _. ⌜ now (line .exit) ≡ putAt (now (line .entry)) at (digitsOf base count n) ⌝ }
 {
-    line[at + count] = end;
     let mut i = count;
     let mut rest = n;
     while 0 < i {
@@ -109,6 +108,15 @@ pub fn put_digits(line: &mut [u8], at: usize, base: u32, count: usize, n: u32, e
     }
 }
 
+// The same, and a character after them.
+pub fn put_ended(line: &mut [u8], at: usize, base: u32, count: usize, n: u32, end: u8)
+    requires { ⌜ ((1 ≤ base) × (base ≤ 16)) × (at + count + 1 ≤ length (now line)) ⌝ }
+    ensures { λ _. ⌜ now (line .exit) ≡ putAt (now (line .entry)) at (digitsOf base count n ++ end ∷ []) ⌝ }
+{
+    line[at + count] = end;
+    put_digits(line, at, base, count, n);
+}
+
 // The line for a call that ran: steps, ending, and PC in hexadecimal.
 pub fn ran_line(steps: u32, ending: u32, pc: u32) -> Line
     ensures { λ r. ⌜ r ≡ lineOf (ranText steps ending pc) ⌝ }
@@ -116,9 +124,9 @@ pub fn ran_line(steps: u32, ending: u32, pc: u32) -> Line
     let mut bytes = [0u8; 31];
     let k = places(steps);
     let m = places(ending);
-    put_digits(&mut bytes, 0, 10, k, steps, b' ');
-    put_digits(&mut bytes, k + 1, 10, m, ending, b' ');
-    put_digits(&mut bytes, k + m + 2, 16, 8, pc, b'\n');
+    put_ended(&mut bytes, 0, 10, k, steps, b' ');
+    put_ended(&mut bytes, k + 1, 10, m, ending, b' ');
+    put_ended(&mut bytes, k + m + 2, 16, 8, pc, b'\n');
     Line {
         bytes: bytes,
         count: k + m + 11,
@@ -131,7 +139,7 @@ pub fn refusal_line(n: u32) -> Line
 {
     let mut bytes = [0u8; 31];
     let k = places(n);
-    put_digits(&mut bytes, 0, 10, k, n, b'\n');
+    put_ended(&mut bytes, 0, 10, k, n, b'\n');
     Line {
         bytes: bytes,
         count: k + 1,

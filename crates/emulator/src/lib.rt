@@ -24,9 +24,6 @@ pub struct RunEnd {
     pub ending: u32,
 }
 
-// Bytes of the longest program, and cells of the largest data memory.
-pub const MOST_MEMORY: usize = 65_536;
-
 // The largest step limit.
 pub const MOST_STEPS: u32 = 1_000_000;
 
@@ -45,10 +42,10 @@ fn refusal(
     requires { ⌜ MachineWords (now w) ⌝ }
     ensures { λ r. ⌜ askedBy r (machineOf (now (w .exit))) ≡ ask (now (program .entry)) (now (image .entry)) (memoryOf (now (cells .entry))) (now (requests .entry)) limit room ⌝ }
 {
-    if MOST_MEMORY < program.len() {
+    if machine::MOST_MEMORY < program.len() {
         return 1;
     }
-    if MOST_MEMORY < cells.len() {
+    if machine::MOST_MEMORY < cells.len() {
         return 1;
     }
     if !image::sections_fit(image) {

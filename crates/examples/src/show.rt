@@ -25,7 +25,7 @@ fn place(names: &[u8], name: &[u8]) -> usize {
 // Prints a number in 8 hex digits and a blank.
 fn print_value(x: u32) {
     let mut text = [0u8; 9];
-    console::put_digits(&mut text, 0, 16, 8, x, b' ');
+    console::put_ended(&mut text, 0, 16, 8, x, b' ');
     io::write_all(STDOUT_FILENO, &text);
 }
 

@@ -64,12 +64,17 @@ unfolding operationField cregField conditionField fieldsWidth
 heads w16 = (omega arith, omega arith, omega arith)
 heads w32 = (omega arith, omega arith, omega arith)
 
+-- 64 operations
+pub opcode-below : (width : Width) (word : ℕ) → opcodeOf width word < 64
+unfolding opcodeOf
+opcode-below width word = fields-short 6 (operationField width) word (heads width .0)
+
 pub in-range : (width : Width) (word : ℕ) → InRange (decode width word)
-unfolding decode assembled operandsOf opcodeOf
+unfolding decode assembled operandsOf
 in-range width word =
     let row = rows-sound width (opcodeOf width word) in
     record {
-      opcode = fields-short 6 (operationField width) word (heads width .0);
+      opcode = opcode-below width word;
       creg = fields-short 3 (cregField width) word (heads width .1);
       condition = fields-short 3 (conditionField width) word (heads width .2);
       dreg = register-below width _ word (row .dreg);

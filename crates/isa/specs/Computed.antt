@@ -5,7 +5,8 @@ use Rattle.isa.specs.Operation.{table}
 use Rattle.isa.specs.Condition.{conditioning}
 use Rattle.isa.specs.Format.{formats}
 use Rattle.isa.specs.Decode.{decoding}
+use Rattle.isa.specs.Shown.{showing}
 
 unfoldable pub instructions : Unit {0}
-unfolding words spelling table conditioning formats decoding
+unfolding words spelling table conditioning formats decoding showing
 instructions = tt

@@ -4,6 +4,7 @@ use mathlib.Core.List.{List, [], _∷_}
 use Prim.Native.Nat.{ℕ}
 use lib.ListN.{getD}
 use Rattle.word.specs.Word.{bitAt}
+use Rattle.isa.specs.Text.{bytes}
 
 pub data Condition : Type 0 where
   c egt elt eq gt lt ne nc : Condition
@@ -15,6 +16,17 @@ conditions = c ∷ egt ∷ elt ∷ eq ∷ gt ∷ lt ∷ ne ∷ nc ∷ []
 -- the condition of a number
 unfoldable pub conditionOf : ℕ → Condition
 conditionOf n = getD conditions n nc
+
+-- its name, as bytes
+unfoldable pub nameOf : Condition → List ℕ
+nameOf c = bytes "c"
+nameOf egt = bytes "egt"
+nameOf elt = bytes "elt"
+nameOf eq = bytes "eq"
+nameOf gt = bytes "gt"
+nameOf lt = bytes "lt"
+nameOf ne = bytes "ne"
+nameOf nc = bytes "nc"
 
 -- the flags of a condition register: Z × 4 + N × 2 + C
 abbrev pub carry : ℕ → Bool
@@ -39,5 +51,5 @@ holds nc flags = not (carry flags)
 
 -- to unfold all of these
 unfoldable pub conditioning : Unit {0}
-unfolding conditions conditionOf holds
+unfolding conditions conditionOf nameOf holds
 conditioning = tt

@@ -1,11 +1,13 @@
 -- An instruction word taken apart. Assumes nothing.
 use mathlib.Core.Bool.{Bool, _&&_}
 use mathlib.Core.List.{List, [], _∷_}
-use Prim.Native.Nat.{ℕ, _+_}
+use Prim.Native.Nat.{ℕ, _+_, _*_}
 use lib.Dec.{eqb}
 use lib.IntN.{ℤ, pos}
+use lib.ListN.{getD}
 use Rattle.word.specs.Choice.{if_then_else_}
 use Rattle.word.specs.Word.{Field, signedOf}
+use Rattle.codec.specs.Number.{numberAt}
 use Rattle.isa.specs.Operation.{operationOf, properties, Width, w16, w32, Form}
 use Rattle.isa.specs.Format.{fieldsWidth, fieldsOf, operationField, conditionalField, cregField, conditionField, Immediate, layoutOf}
 use Rattle.isa.specs.declared.Operands.{Operands}
@@ -15,6 +17,11 @@ use Rattle.isa.specs.declared.Instruction.{Instruction}
 unfoldable pub wordBytes : Width → ℕ
 wordBytes w16 = 2
 wordBytes w32 = 4
+
+-- the word at an address of a program that has its bytes ("Program memory is bytes, high byte first")
+unfoldable pub wordAt : Width → (program : List ℕ) (address : ℕ) → ℕ
+wordAt w16 program a = getD program a 0 * 256 + getD program (a + 1) 0
+wordAt w32 program a = numberAt program a
 
 -- a register's number: registers n of 16-bit words mean n + 24; one that is absent reads 0
 unfoldable pub registerOf : Width → List Field → (word : ℕ) → ℕ
@@ -67,5 +74,5 @@ decode width word =
 
 -- to unfold all of these
 unfoldable pub decoding : Unit {0}
-unfolding wordBytes registerOf immediateOf operandsOf opcodeOf assembled decode
+unfolding wordBytes wordAt registerOf immediateOf operandsOf opcodeOf assembled decode
 decoding = tt

@@ -4,5 +4,6 @@ pub mod Operation
 pub mod Condition
 pub mod Format
 pub mod Decode
+pub mod Shown
 pub mod Theorems
 pub mod Computed

@@ -1,11 +1,12 @@
 // Instruction words taken apart, by the table of operations.
 ghost use mathlib.Core.Path.{_≡_};
-ghost use Prim.Native.Nat.{_<_, _≤_, _^_};
+ghost use Prim.Native.Nat.{_+_, _<_, _≤_, _^_};
 ghost use lib.IntN.{pos};
+ghost use lib.ListN.{length};
 ghost use Rattle.word.specs.Word.{signedOf};
 ghost use Rattle.isa.specs.Operation.{operationOf, properties, Properties, widthBy, unavailable, codeOf};
 ghost use Rattle.isa.specs.Condition.{conditionOf, holds};
-ghost use Rattle.isa.specs.Decode.{opcodeOf, operandsOf, decode};
+ghost use Rattle.isa.specs.Decode.{wordBytes, wordAt, opcodeOf, operandsOf, decode};
 
 // The operands of an instruction; one that it does not have is 0.
 pub struct Operands {
@@ -26,6 +27,25 @@ pub struct Instruction {
     pub sreg1: u32,
     pub sreg2: u32,
     pub immediate: i32,
+}
+
+// The length in bytes of an instruction word.
+pub fn word_bytes(wide: bool) -> u32
+    ensures { λ r. ⌜ r ≡ wordBytes (widthBy wide) ⌝ }
+{
+    if wide { 4 } else { 2 }
+}
+
+// The instruction word at an address of a program that has its bytes.
+pub fn word_at(program: &[u8], wide: bool, at: usize) -> u32
+    requires { ⌜ at + wordBytes (widthBy wide) ≤ length (now program) ⌝ }
+    ensures { λ r. ⌜ r ≡ wordAt (widthBy wide) (now (program .entry)) at ⌝ }
+{
+    if wide {
+        codec::number_at(program, at)
+    } else {
+        program[at] as u32 * 256 + program[at + 1] as u32
+    }
 }
 
 // The number of a word's operation.
@@ -374,6 +394,23 @@ pub fn decode_field(word: u32, wide: bool, op: u32) -> Instruction
     ensures { λ r. ⌜ r ≡ decode (widthBy wide) word ⌝ }
 {
     assembled(word, wide, op, field_operands(word, wide, op))
+}
+
+// The instruction of a word, for callers that do not know the group of its operation.
+pub fn decode(word: u32, wide: bool) -> Instruction
+    ensures { λ r. ⌜ r ≡ decode (widthBy wide) word ⌝ }
+{
+    let op = opcode(word, wide);
+    match op {
+        0 => assembled(word, wide, op, registers(0, 0, 0)),
+        1..=17 => decode_registers(word, wide, op),
+        18..=26 => decode_immediate(word, wide, op),
+        27..=28 => decode_access(word, wide, op),
+        29..=35 => decode_move(word, wide, op),
+        36..=47 => decode_jump(word, wide, op),
+        48..=57 => decode_system(word, wide, op),
+        _ => decode_field(word, wide, op),
+    }
 }
 
 // Whether condition n holds of a condition register.

@@ -36,6 +36,9 @@ pub struct Entry {
     pub c0: u32,
 }
 
+// Bytes of the longest program, and cells of the largest data memory.
+pub const MOST_MEMORY: usize = 65_536;
+
 // How many numbers each section has: a register set, the conditions, the control block, the position.
 pub const REGISTERS: usize = 32;
 

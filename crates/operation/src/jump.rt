@@ -17,7 +17,7 @@ fn target_code(w: &[u32], target: i64) -> u32
     ensures { λ r. ⌜ RefusesJump target r (now (w .entry)) ⌝ }
 {
     let wide = machine::wide_words(w);
-    let n = view::word_bytes(wide);
+    let n = isa::word_bytes(wide);
     let t = word::low_word(target);
     if !word::is_address(target) {
         0x04
@@ -51,7 +51,7 @@ fn target(w: &[u32], n: i32) -> i64
     requires { ⌜ MachineWords (now w) × (machineOf (now w) .position .pc < MOST-MEMORY) ⌝ }
     ensures { λ r. ⌜ Shows (λ v. targetBy v n) r (now (w .entry)) ⌝ }
 {
-    let bytes = view::word_bytes(machine::wide_words(w));
+    let bytes = isa::word_bytes(machine::wide_words(w));
     word::jump_target(machine::pc(w) + bytes, n)
 }
 

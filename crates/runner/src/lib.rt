@@ -91,7 +91,7 @@ pub fn print(line: Line) -> bool
 // Reads two files, and prints the report of their bytes: a program, and the steps that it is run for. Of a longer file the bytes that are read say the
 // same (proofs/Reports: report-fronts). It lends nothing and has no result: a program has no exit status to tell it on.
 pub fn run_paths(code_path: &[u8], limit_path: &[u8]) {
-    let mut code = [0u8; emulator::MOST_MEMORY + 1];
+    let mut code = [0u8; machine::MOST_MEMORY + 1];
     let n = load(code_path, &mut code);
     let mut text = [0u8; 16];
     let m = load(limit_path, &mut text);

@@ -12,9 +12,8 @@ use lib.ListN.{length, getD, getElem?}
 use borrow.Author.Tests.{leb-true, leb-false, le-leb, lt-leb, ltb-true, ltb-false, eqb-true, eqb-false, eq-eqb, ne-eqb}
 use Rattle.word.specs.Choice.{if_then_else_}
 use Rattle.word.proofs.Tests.{either, and-parts, both-bounds, false-unless}
-use Rattle.codec.specs.Number.{numberAt}
 use Rattle.isa.specs.Operation.{Width, w16, w32, widthBy}
-use Rattle.isa.specs.Decode.{wordBytes}
+use Rattle.isa.specs.Decode.{wordBytes, wordAt}
 use Rattle.machine.specs.Control.{within}
 use Rattle.view.specs.View.{Attempt, Found, Raises, Stops, anyWithin, byteThen, bytesAt, fetchAt}
 
@@ -131,14 +130,11 @@ fetched-inside program low high user n pc w p e =
     either (leb (pc + n) (length program)) (leb-true (pc + n) (length program))
     (λ t. absurd (not-fetched _ _ _ w (bytes-absent program n pc 0 p (leb-false (pc + n) (length program) t)) e))
 
--- words of 32 and of 16 bits
-pub four-bytes : (program : List ℕ) (a : ℕ) → a + 4 ≤ length program → bytesAt program 4 a 0 ≡ Found (numberAt program a)
-unfolding bytesFrom
-four-bytes program a h = rw (bytes-there program 4 a 0 h) (simp (zero-mul, zero-add, towards-suc))
-
-pub two-bytes : (program : List ℕ) (a : ℕ) → a + 2 ≤ length program → bytesAt program 2 a 0 ≡ Found (getD program a 0 * 256 + getD program (a + 1) 0)
-unfolding bytesFrom
-two-bytes program a h = rw (bytes-there program 2 a 0 h) (simp (zero-mul, zero-add, towards-suc))
+-- the word whose bytes are there is the one that a listing shows
+pub fetched-word : (width : Width) (program : List ℕ) (a : ℕ) → a + wordBytes width ≤ length program → bytesAt program (wordBytes width) a 0 ≡ Found (wordAt width program a)
+unfolding wordBytes wordAt bytesFrom
+fetched-word w16 program a h = rw (bytes-there program 2 a 0 h) (simp (zero-mul, zero-add, towards-suc))
+fetched-word w32 program a h = rw (bytes-there program 4 a 0 h) (simp (zero-mul, zero-add, towards-suc))
 
 -- ---- lengths
 

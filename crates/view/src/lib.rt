@@ -12,7 +12,6 @@ pub use memory::place as place_at;
 pub use program::closed;
 pub use program::fetch;
 pub use program::misaligned;
-pub use program::word_bytes;
 
 // What a fetch gives.
 pub enum Fetched {

@@ -11,13 +11,6 @@ ghost use Rattle.view.specs.View.{View, anyWithin, bytesAt, fetchedAs, v
 ghost use Rattle.machine.specs.Machine.{Memory};
 use crate::Fetched;
 
-// The length in bytes of an instruction word.
-pub fn word_bytes(wide: bool) -> u32
-    ensures { λ r. ⌜ r ≡ wordBytes (widthBy wide) ⌝ }
-{
-    if wide { 4 } else { 2 }
-}
-
 // Whether one of the n program bytes from a on is protected from the mode: the two ranges overlap.
 pub fn closed(w: &[u32], user: bool, a: u32, n: u32) -> bool
     requires { ⌜ MachineWords (now w) × (0 < n) × (a + n ≤ 2 ^ 32) ⌝ }
@@ -46,12 +39,12 @@ fn word_at(program: &[u8], wide: bool, a: u32) -> Fetched
     let at = a as usize;
     if wide {
         if at + 4 <= program.len() {
-            Fetched::Word(codec::number_at(program, at))
+            Fetched::Word(isa::word_at(program, wide, at))
         } else {
             Fetched::Absent
         }
     } else if at + 2 <= program.len() {
-        Fetched::Word(program[at] as u32 * 256 + program[at + 1] as u32)
+        Fetched::Word(isa::word_at(program, wide, at))
     } else {
         Fetched::Absent
     }
@@ -64,7 +57,7 @@ pub fn fetch(program: &[u8], w: &[u32]) -> Fetched
 {
     let pc = machine::pc(w);
     let wide = machine::wide_words(w);
-    let n = word_bytes(wide);
+    let n = isa::word_bytes(wide);
     if misaligned(wide, pc) {
         Fetched::Fault(0x05)
     } else if closed(w, machine::user_mode(w), pc, n) {

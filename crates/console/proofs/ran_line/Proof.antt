@@ -15,23 +15,23 @@ few c =
       omega (arith, c .places2 .ensures, places-few (start .args .ending) (start .fits .ending .fits)),
     )
 
-put-digits-requires : tie.Need-put-digits-requires
-put-digits-requires c κs = omega (arith, few (c .before))
+put-ended-requires : tie.Need-put-ended-requires
+put-ended-requires c κs = omega (arith, few (c .before))
 
-add-put-digits : tie.Need-add-put-digits
-add-put-digits c = omega (arith, few (c .before .before .before .before))
+add-put-ended : tie.Need-add-put-ended
+add-put-ended c = omega (arith, few (c .before .before .before .before))
 
-put-digits-requires-2 : tie.Need-put-digits-requires-2
-put-digits-requires-2 c κs = omega (arith, few (c .before .before .before .before))
+put-ended-requires-2 : tie.Need-put-ended-requires-2
+put-ended-requires-2 c κs = omega (arith, few (c .before .before .before .before))
 
-add-put-digits-2 : tie.Need-add-put-digits-2
-add-put-digits-2 c = omega (arith, few (c .before .before .before .before .before .before .before))
+add-put-ended-2 : tie.Need-add-put-ended-2
+add-put-ended-2 c = omega (arith, few (c .before .before .before .before .before .before .before))
 
-add-put-digits-3 : tie.Need-add-put-digits-3
-add-put-digits-3 c = omega (arith, few (c .before .before .before .before .before .before .before))
+add-put-ended-3 : tie.Need-add-put-ended-3
+add-put-ended-3 c = omega (arith, few (c .before .before .before .before .before .before .before))
 
-put-digits-requires-3 : tie.Need-put-digits-requires-3
-put-digits-requires-3 c κs = omega (arith, few (c .before .before .before .before .before .before .before))
+put-ended-requires-3 : tie.Need-put-ended-requires-3
+put-ended-requires-3 c κs = omega (arith, few (c .before .before .before .before .before .before .before))
 
 add-t12 : tie.Need-add-t12
 add-t12 c = omega (arith, few (c .before .before .before .before .before .before .before .before .before))
@@ -43,24 +43,24 @@ returns : tie.Need-returns
 returns c =
     let counted = c .before .before .before .before .before .before .before .before .before in
     let args = counted .before .before .args in
-    ran-line (c .before .before .before .before .before .before .before .put-digits .last .0) (c .before .before .before .before .put-digits2 .last .0) (c .before .put-digits3 .last .0)
+    ran-line (c .before .before .before .before .before .before .before .put-ended .last .0) (c .before .before .before .before .put-ended2 .last .0) (c .before .put-ended3 .last .0)
     (counted .before .places .result) (counted .places2 .result) (args .steps) (args .ending) (args .pc)
     (counted .before .places .ensures) (counted .places2 .ensures)
-    (c .before .before .before .before .before .before .before .put-digits .ensures) (c .before .before .before .before .put-digits2 .ensures) (c .before .put-digits3 .ensures)
+    (c .before .before .before .before .before .before .before .put-ended .ensures) (c .before .before .before .before .put-ended2 .ensures) (c .before .put-ended3 .ensures)
 
 pub ran-line-spec : {M : Type 1} → statement M
 ran-line-spec =
     tie.close
     (tie.spec
     (λ c κs. search needs) (λ c κs. search needs) (λ c. search needs)
-    put-digits-requires
+    put-ended-requires
     (λ c. search needs)
-    add-put-digits
-    put-digits-requires-2
+    add-put-ended
+    put-ended-requires-2
     (λ c. search needs)
-    add-put-digits-2
-    add-put-digits-3
-    put-digits-requires-3
+    add-put-ended-2
+    add-put-ended-3
+    put-ended-requires-3
     add-t12
     add-t15
     returns)

@@ -1,0 +1,5 @@
+-- The listing of a program.
+pub mod Line
+pub mod Listing
+pub mod Theorems
+pub mod Computed

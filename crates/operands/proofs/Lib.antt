@@ -1,0 +1,3 @@
+-- Laws of the letters of operands.
+pub mod Table
+pub mod Roles

@@ -1,0 +1,48 @@
+-- What an operand is to the operation, as a letter: 0 dreg, 1 sreg1, 2 sreg2, c creg, i the immediate, l and p its length and position.
+-- Assumes nothing.
+use mathlib.Core.List.{List, [], _∷_, map}
+use Prim.Native.Nat.{ℕ, zero, suc, _/_, _%_}
+use lib.Dec.{eqb}
+use lib.ListN.{getD}
+use Rattle.word.specs.Choice.{if_then_else_}
+use Rattle.isa.specs.Operation.{Operation, operationOf, Width}
+use Rattle.isa.specs.Format.{Role, Dreg, Sreg1, Sreg2, Creg, Imm, Length, Position}
+use Rattle.isa.specs.Shown.{shownRoles}
+
+unfoldable pub letterOf : Role → ℕ
+letterOf Dreg = 48
+letterOf Sreg1 = 49
+letterOf Sreg2 = 50
+letterOf Creg = 99
+letterOf Imm = 105
+letterOf Length = 108
+letterOf Position = 112
+
+-- the role of a letter
+unfoldable pub roleOf : (letter : ℕ) → Role
+roleOf b =
+    if eqb b 48 then Dreg
+    else if eqb b 49 then Sreg1
+    else if eqb b 50 then Sreg2
+    else if eqb b 99 then Creg
+    else if eqb b 105 then Imm
+    else if eqb b 108 then Length
+    else Position
+
+-- the letter of operand k, from 0 on; a blank where there is none
+unfoldable pub letterAt : Width → Operation → (k : ℕ) → ℕ
+letterAt width o k = getD (map letterOf (shownRoles width o)) k 32
+
+-- the table of a width, four letters to an operation: the letters of `count` places from place n on
+unfoldable pub lettersFrom : Width → (n count : ℕ) → List ℕ
+lettersFrom width n zero = []
+lettersFrom width n (suc count) = letterAt width (operationOf (n / 4)) (n % 4) ∷ lettersFrom width (suc n) count
+
+-- all of it
+abbrev pub letters : Width → List ℕ
+letters width = lettersFrom width 0 256
+
+-- to unfold all of these
+unfoldable pub lettering : Unit {0}
+unfolding letterOf roleOf letterAt lettersFrom
+lettering = tt
