@@ -1,11 +1,11 @@
 -- The laws of numbers as bytes. Assumes nothing.
 use mathlib.Core.Path.{_≡_, refl, sym, ap, _∙_}
-use mathlib.Core.List.{List, [], _∷_, _++_}
+use mathlib.Core.List.{List, [], _∷_, _++_, append-assoc}
 use Prim.Native.Nat.{ℕ, zero, suc, _+_, _*_, _/_, _%_, _^_, _-_, _≤_, _<_}
 use native.Mathlib.Omega.{arith}
 use native.Mathlib.Numerals.{add-one, unary-clauses}
 use lib.ListN.{length, take, drop, getD, set, length-append, length-take, length-drop, List·getD-append}
-use lib.Seq.{sets-eq, drop-drop, take-suc, take-append-seam, drop-append-add, length-take-le}
+use lib.Seq.{sets-eq, drop-drop, take-suc, take-append-seam, take-append-add, drop-append-add, length-take-le, paste-zero}
 use lib.Pow.{shr-shr}
 use Rattle.codec.specs.Number.{numberOf, numberAt, lowFirstAt, reversed, bytesOfNumber, numbersOf, bytesOf, putAt, over}
 
@@ -134,7 +134,7 @@ pub length-over : (front s : List ℕ) → length front ≤ length s → length 
 length-over front s h = simp (length-append, length-drop) (omega arith)
 
 -- stores of elements, one and four in a row
-set-putAt : (s : List ℕ) (at a : ℕ) → at < length s → set s at a ≡ putAt s at (a ∷ [])
+pub set-putAt : (s : List ℕ) (at a : ℕ) → at < length s → set s at a ≡ putAt s at (a ∷ [])
 set-putAt s at a h = sets-eq (a ∷ []) s at (omega arith)
 
 pub four-stores : (s : List ℕ) (at a b c d : ℕ) → at + 4 ≤ length s
@@ -152,6 +152,38 @@ putAt-over front s t at e =
     ∙ ap (λ (u : List ℕ). u ++ t ++ drop (length front + length t) (over front s)) (take-over front s)
     ∙ ap (λ (u : List ℕ). front ++ t ++ u) (drop-append-add front (drop (length front) s) (length t) ∙ drop-drop (length t) (length front) s)
     ∙ rw length-append
+
+-- nothing changes nothing
+pub putAt-nothing : (s : List ℕ) (at : ℕ) → putAt s at [] ≡ s
+putAt-nothing s at = sym (paste-zero s at [])
+
+-- the length stays
+pub length-putAt : (s : List ℕ) (at : ℕ) (t : List ℕ) → at + length t ≤ length s → length (putAt s at t) ≡ length s
+length-putAt s at t h = simp (length-append, length-take, length-drop) (omega arith)
+
+-- two lists one after the other are put as one
+pub putAt-append : (s : List ℕ) (at : ℕ) (t u : List ℕ) → at ≤ length s → putAt (putAt s at t) (at + length t) u ≡ putAt s at (t ++ u)
+putAt-append s at t u h =
+    ap (λ (l : List ℕ). putAt l (at + length t) u) (laid t)
+    ∙ putAt-over (take at s ++ t) s u (at + length t) (front t)
+    ∙ ap (λ (l : List ℕ). over l s) (append-assoc (take at s) t u)
+    ∙ sym (laid (t ++ u))
+  where
+    front : (t : List ℕ) → length (take at s ++ t) ≡ at + length t
+    front t = length-append (take at s) t ∙ ap (λ (k : ℕ). k + length t) (length-take-le at s h)
+
+    -- as a front laid over
+    laid : (t : List ℕ) → putAt s at t ≡ over (take at s ++ t) s
+    laid t = ap (λ (k : ℕ). (take at s ++ t) ++ drop k s) (sym (front t))
+
+-- past a front
+pub putAt-skip : (front s t : List ℕ) (at k : ℕ) → length front + at ≡ k → putAt (front ++ s) k t ≡ front ++ putAt s at t
+putAt-skip front s t at k e =
+    let d : length front + at + length t ≡ length front + (at + length t) = omega arith in
+    ap (λ (k : ℕ). putAt (front ++ s) k t) (sym e)
+    ∙ ap (λ (l : List ℕ). l ++ t ++ drop (length front + at + length t) (front ++ s)) (take-append-add front s at)
+    ∙ ap (λ (l : List ℕ). (front ++ take at s) ++ t ++ l) (ap (λ (k : ℕ). drop k (front ++ s)) d ∙ drop-append-add front s (at + length t))
+    ∙ simp append-assoc
 
 -- ---- one turn of a loop
 

@@ -59,7 +59,6 @@ pub extern "C" fn coffee_reset(buffer: &mut [u8]) -> u32
 
 // Writes the listing of a program, one line for each instruction word, to the text's front.
 #[no_mangle]
-pub extern "C" fn coffee_listing(program: &[u8], wide: u32, text: &mut [u8]) -> u32
-{
+pub extern "C" fn coffee_listing(program: &[u8], wide: u32, text: &mut [u8]) -> u32 {
     listing::list(program, wide != 0, text)
 }

@@ -1,1 +1,2 @@
--- listing
+-- Laws of listings.
+pub mod Texts

@@ -2,8 +2,9 @@
 use Rattle.isa.specs.Computed.{instructions}
 use Rattle.console.specs.Digits.{numerals}
 use Rattle.listing.specs.Line.{lines}
+use Rattle.listing.specs.Parts.{parts}
 use Rattle.listing.specs.Listing.{callListing}
 
 unfoldable pub listings : Unit {0}
-unfolding instructions numerals lines callListing
+unfolding instructions numerals lines parts callListing
 listings = tt

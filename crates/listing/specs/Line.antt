@@ -39,8 +39,11 @@ joined [] = []
 joined (t ∷ []) = t
 joined (t ∷ u ∷ ts) = t ++ blank ∷ joined (u ∷ ts)
 
+abbrev pub operandTexts : Width → Instruction → List (List ℕ)
+operandTexts width i = map (operandText i) (shownRoles width (operationOf (i .opcode)))
+
 unfoldable pub operandsText : Width → Instruction → List ℕ
-operandsText width i = joined (map (operandText i) (shownRoles width (operationOf (i .opcode))))
+operandsText width i = joined (operandTexts width i)
 
 -- ---- name and condition
 

@@ -23,14 +23,14 @@ pub record ColumnIs (line : List ℕ) (first count : ℕ) (text : List ℕ) : Ty
   pub shown : take count (drop first line) ≡ padded count text
 
 -- "each instruction a line of exactly 47 characters and a newline", the parts at fixed columns
-pub record Columns (width : Width) (address word : ℕ) : Type 0 where
-  pub length : length (lineOf width address word) ≡ LINE-BYTES
-  pub address : ColumnIs (lineOf width address word) 0 8 (hex8 address)
-  pub word : ColumnIs (lineOf width address word) 9 8 (digitsOf 16 (2 * wordBytes width) word)
-  pub condition : ColumnIs (lineOf width address word) 18 6 (conditionText (decode width word))
-  pub name : ColumnIs (lineOf width address word) 25 8 (nameText width (operationOf (decode width word .opcode)))
-  pub operands : ColumnIs (lineOf width address word) 34 13 (operandsText width (decode width word))
-  pub newline : getD (lineOf width address word) 47 0 ≡ newline
+pub record Columns (width : Width) (a w : ℕ) : Type 0 where
+  pub size : length (lineOf width a w) ≡ LINE-BYTES
+  pub address : ColumnIs (lineOf width a w) 0 8 (hex8 a)
+  pub word : ColumnIs (lineOf width a w) 9 8 (digitsOf 16 (2 * wordBytes width) w)
+  pub condition : ColumnIs (lineOf width a w) 18 6 (conditionText (decode width w))
+  pub name : ColumnIs (lineOf width a w) 25 8 (nameText width (operationOf (decode width w .opcode)))
+  pub operands : ColumnIs (lineOf width a w) 34 13 (operandsText width (decode width w))
+  pub end : getD (lineOf width a w) 47 0 ≡ newline
 
 abbrev pub LineColumns : Type 0
 LineColumns = (width : Width) (address word : ℕ) → Columns width address word

@@ -1,114 +1,229 @@
 // The listing of a program: a line of text for each instruction word.
 ghost use mathlib.Core.Path.{_≡_};
-
+ghost use mathlib.Core.List.{_∷_, _++_};
+ghost use Prim.Native.Nat.{_+_, _*_, _/_, _^_, _≤_, _<_};
+ghost use lib.ListN.{length, take, drop};
+ghost use lib.Signed.{mag};
+ghost use Rattle.codec.specs.Number.{putAt};
+ghost use Rattle.word.specs.Word.{signedOf};
+ghost use Rattle.isa.specs.Operation.{operationOf, widthBy};
+ghost use Rattle.isa.specs.Format.{Role};
+ghost use Rattle.isa.specs.Shown.{shownValue};
+ghost use Rattle.console.specs.Digits.{blank, decimal};
+ghost use Rattle.operands.specs.Letters.{roleOf};
+ghost use Rattle.listing.specs.Line.{integerText, prefixOf, operandTexts, nameText, conditionText, padded, lineOf};
+ghost use Rattle.listing.specs.Parts.{mnemonicOf, conditionName, namesFrom, spaced, placed, put};
+ghost use Rattle.listing.specs.Listing.{LINE-BYTES, listed, listingCall};
 use isa::Instruction;
 
 // Bytes of a line: 47 characters and a newline.
 pub const LINE: usize = 48;
 
+// Columns in which parts of a line begin; a blank stands before the operands.
+const WORD: usize = 9;
+
+const CONDITION: usize = 18;
+
+const NAME: usize = 25;
+
+const OPERANDS: usize = 33;
+
+// ---- parts of a line
+
 // Copies n bytes of a text, from a place of it on, into a line.
-fn put(line: &mut [u8], at: usize, text: &[u8], from: usize, n: usize)
+fn copy(line: &mut [u8], at: usize, text: &[u8], from: usize, n: usize)
+    requires { ⌜ (at + n ≤ length (now line)) × (from + n ≤ length (now text)) ⌝ }
+    ensures { λ _. ⌜ now (line .exit) ≡ putAt (now (line .entry)) at (take n (drop from (now (text .entry)))) ⌝ }
 {
     for i in 0..n {
         line[at + i] = text[from + i];
     }
 }
 
-// Writes the name of operation op.
-fn put_name(line: &mut [u8], op: u32)
+// Copies the name of an operation, which stands in a row of the names of eight.
+fn put_name_of(line: &mut [u8], op: u32, row: &[u8])
+    requires { ⌜ (length (now line) ≡ LINE-BYTES) × (now row ≡ namesFrom 8 mnemonicOf (op / 8 * 8) 8) ⌝ }
+    ensures { λ _. ⌜ now (line .exit) ≡ putAt (now (line .entry)) 25 (padded 8 (mnemonicOf op)) ⌝ }
 {
-    let k = (op % 8 * 8) as usize;
+    copy(line, NAME, row, (op % 8 * 8) as usize, 8);
+}
+
+// The name of an operation, or `?` where it has no form in the width.
+fn put_name(line: &mut [u8], op: u32, wide: bool)
+    requires { ⌜ (length (now line) ≡ LINE-BYTES) × (op < 64) ⌝ }
+    ensures { λ _. ⌜ now (line .exit) ≡ putAt (now (line .entry)) 25 (padded 8 (nameText (widthBy wide) (operationOf op))) ⌝ }
+{
+    if isa::unavailability(op, wide, false) != 0 {
+        copy(line, NAME, b"?       ", 0, 8);
+        return;
+    }
     match op / 8 {
-        0 => put(line, 25, b"nop     add     addu    sub     subu    and     or      xor     ", k, 8),
-        1 => put(line, 25, b"muls    mulu    mulus   muls_16 mulu_16 mulus_16sll     srl     ", k, 8),
-        2 => put(line, 25, b"sra     sext    addi    addiu   andi    ori     muli    slli    ", k, 8),
-        3 => put(line, 25, b"srli    srai    sexti   ld      st      mov     not     mulhi   ", k, 8),
-        4 => put(line, 25, b"cmp     cmpi    lli     lui     jmp     jal     jmpr    jalr    ", k, 8),
-        5 => put(line, 25, b"bc      begt    belt    beq     bgt     blt     bne     bnc     ", k, 8),
-        6 => put(line, 25, b"scall   retu    reti    chrs    di      ei      swm     trap    ", k, 8),
-        _ => put(line, 25, b"scon    rcon    conb    conh    exb     exh     exbf    exbfi   ", k, 8),
+        0 => put_name_of(
+            line,
+            op,
+            b"nop     add     addu    sub     subu    and     or      xor     ",
+        ),
+        1 => put_name_of(
+            line,
+            op,
+            b"muls    mulu    mulus   muls_16 mulu_16 mulus_16sll     srl     ",
+        ),
+        2 => put_name_of(
+            line,
+            op,
+            b"sra     sext    addi    addiu   andi    ori     muli    slli    ",
+        ),
+        3 => put_name_of(
+            line,
+            op,
+            b"srli    srai    sexti   ld      st      mov     not     mulhi   ",
+        ),
+        4 => put_name_of(
+            line,
+            op,
+            b"cmp     cmpi    lli     lui     jmp     jal     jmpr    jalr    ",
+        ),
+        5 => put_name_of(
+            line,
+            op,
+            b"bc      begt    belt    beq     bgt     blt     bne     bnc     ",
+        ),
+        6 => put_name_of(
+            line,
+            op,
+            b"scall   retu    reti    chrs    di      ei      swm     trap    ",
+        ),
+        _ => put_name_of(
+            line,
+            op,
+            b"scon    rcon    conb    conh    exb     exh     exbf    exbfi   ",
+        ),
     }
 }
 
-// Writes the condition of an instruction.
-fn put_condition(line: &mut [u8], condition: u32, creg: u32)
-{
-    let n: usize = match condition {
-        0 => 1,
-        1..=2 => 3,
-        _ => 2,
-    };
-    put(line, 18, b"c  egtelteq gt lt ne nc ", 3 * condition as usize, n);
-    line[19 + n] = b'C';
-    line[20 + n] = (48 + creg) as u8;
-}
-
-// Writes a number in decimal, and answers the place after it.
+// A number in decimal. Answers the place after it.
 fn put_decimal(line: &mut [u8], at: usize, n: u32) -> usize
+    requires { ⌜ at + length (decimal n) ≤ length (now line) ⌝ }
+    ensures { λ r. ⌜ placed r (now (line .exit)) ≡ put (decimal n) at (now (line .entry)) ⌝ }
 {
     let k = console::places(n);
     console::put_digits(line, at, 10, k, n);
     at + k
 }
 
-fn put_integer(line: &mut [u8], at: usize, z: i32) -> usize
+// The integer of a word in decimal, with a minus where it is negative.
+fn put_integer(line: &mut [u8], at: usize, n: u32) -> usize
+    requires { ⌜ at + length (integerText (signedOf 32 n)) ≤ length (now line) ⌝ }
+    ensures { λ r. ⌜ placed r (now (line .exit)) ≡ put (integerText (signedOf 32 n)) at (now (line .entry)) ⌝ }
 {
-    if z < 0 {
-        line[at] = b'-';
-        put_decimal(line, at + 1, (0 - z) as u32)
+    if n < 0x8000_0000 {
+        put_decimal(line, at, n)
     } else {
-        put_decimal(line, at, z as u32)
+        line[at] = b'-';
+        put_decimal(line, at + 1, 0xFFFF_FFFF - n + 1)
     }
 }
 
-fn put_operand(line: &mut [u8], at: usize, role: u8, value: i32) -> usize
+// A character, and an integer after it.
+fn put_prefixed(line: &mut [u8], at: usize, prefix: u8, n: u32) -> usize
+    requires { ⌜ at + length (prefix ∷ integerText (signedOf 32 n)) ≤ length (now line) ⌝ }
+    ensures { λ r. ⌜ placed r (now (line .exit)) ≡ put (prefix ∷ integerText (signedOf 32 n)) at (now (line .entry)) ⌝ }
 {
-    match role {
-        b'd' => { line[at] = b'R'; put_integer(line, at + 1, value) }
-        b'1' => { line[at] = b'R'; put_integer(line, at + 1, value) }
-        b'2' => { line[at] = b'R'; put_integer(line, at + 1, value) }
-        b'c' => { line[at] = b'C'; put_integer(line, at + 1, value) }
-        _ => put_integer(line, at, value),
+    line[at] = prefix;
+    put_integer(line, at + 1, n)
+}
+
+// An operand, from its letter and its value, with a blank before it.
+fn put_operand(line: &mut [u8], at: usize, letter: u8, n: u32) -> usize
+    requires { ⌜ (48 ≤ letter) × (at + length (blank ∷ prefixOf (roleOf letter) ++ integerText (signedOf 32 n)) ≤ length (now line)) ⌝ }
+    ensures { λ r. ⌜ placed r (now (line .exit)) ≡ put (blank ∷ prefixOf (roleOf letter) ++ integerText (signedOf 32 n)) at (now (line .entry)) ⌝ }
+{
+    line[at] = b' ';
+    if letter <= b'2' {
+        put_prefixed(line, at + 1, b'R', n)
+    } else if letter == b'c' {
+        put_prefixed(line, at + 1, b'C', n)
+    } else {
+        put_integer(line, at + 1, n)
     }
 }
 
-fn put_operands(line: &mut [u8], wide: bool, i: Instruction)
+// How many characters the name of a condition has.
+fn name_length(condition: u32) -> usize
+    requires { ⌜ condition < 8 ⌝ }
+    ensures { λ r. ⌜ r ≡ length (conditionName condition) ⌝ }
 {
-    let mut at: usize = 33;
+    match condition {
+        0 => 1,
+        1..=2 => 3,
+        _ => 2,
+    }
+}
+
+// The condition of an instruction, if it is conditional: its name, and the condition register.
+fn put_condition(line: &mut [u8], i: Instruction)
+    requires { ⌜ (length (now line) ≡ LINE-BYTES) × (i .creg < 8) × (i .condition < 8) ⌝ }
+    ensures { λ _. ⌜ now (line .exit) ≡ putAt (now (line .entry)) 18 (conditionText i) ⌝ }
+{
+    let conditional = i.conditional;
+    if conditional {
+        let n = name_length(i.condition);
+        copy(
+            line,
+            CONDITION,
+            b"c  egtelteq gt lt ne nc ",
+            (i.condition * 3) as usize,
+            n,
+        );
+        put_operand(line, CONDITION + n, b'c', i.creg);
+    }
+}
+
+// The operands of an instruction, a blank before each.
+fn put_operands(line: &mut [u8], i: Instruction, wide: bool)
+    requires { ⌜ (length (now line) ≡ LINE-BYTES) × (length (spaced (operandTexts (widthBy wide) i)) ≤ 14) × (i .opcode < 64) × ((r : Role) → mag (shownValue i r) < 2 ^ 31) ⌝ }
+    ensures { λ _. ⌜ now (line .exit) ≡ putAt (now (line .entry)) 33 (spaced (operandTexts (widthBy wide) i)) ⌝ }
+{
+    let mut at = OPERANDS;
     for k in 0..4 {
-        let role = operands::role(i.opcode, wide, k);
-        if role == b' ' {
+        let letter = operands::letter(i.opcode, wide, k);
+        if letter == b' ' {
             return;
         }
-        line[at] = b' ';
-        at = put_operand(line, at + 1, role, operands::value(i, role));
+        at = put_operand(line, at, letter, operands::value(i, letter));
     }
 }
 
+// ---- lines
+
+// The line of a word at an address.
 fn put_line(line: &mut [u8], wide: bool, address: u32, word: u32)
+    requires { ⌜ length (now line) ≡ LINE-BYTES ⌝ }
+    ensures { λ _. ⌜ now (line .exit) ≡ lineOf (widthBy wide) address word ⌝ }
 {
     let i = isa::decode(word, wide);
-    put(line, 0, b"                                               \n", 0, LINE);
+    copy(
+        line,
+        0,
+        b"                                               \n",
+        0,
+        LINE,
+    );
     console::put_digits(line, 0, 16, 8, address);
-    console::put_digits(line, 9, 16, if wide { 8 } else { 4 }, word);
-    if i.conditional {
-        put_condition(line, i.condition, i.creg);
-    }
-    if isa::unavailability(i.opcode, wide, false) == 0 {
-        put_name(line, i.opcode);
-        put_operands(line, wide, i);
-    } else {
-        put(line, 25, b"?", 0, 1);
-    }
+    console::put_digits(line, WORD, 16, 2 * isa::word_bytes(wide) as usize, word);
+    put_condition(line, i);
+    put_name(line, i.opcode, wide);
+    put_operands(line, i, wide);
 }
 
-// Writes the listing of a program in one width to the front of a text.
+// Writes the listing of a program in one width to the front of a text: 0, or the number of the refusal.
 pub fn list(program: &[u8], wide: bool, text: &mut [u8]) -> u32
+    ensures { λ r. ⌜ listed r (now (text .exit)) ≡ listingCall (widthBy wide) (now (program .entry)) (now (text .entry)) ⌝ }
 {
-    let bytes = isa::word_bytes(wide) as usize;
     if machine::MOST_MEMORY < program.len() {
         return 1;
     }
+    let bytes = isa::word_bytes(wide) as usize;
     if program.len() % bytes != 0 {
         return 16;
     }
@@ -118,7 +233,12 @@ pub fn list(program: &[u8], wide: bool, text: &mut [u8]) -> u32
     }
     for n in 0..words {
         let at = bytes * n;
-        put_line(&mut text[LINE * n..LINE * n + LINE], wide, at as u32, isa::word_at(program, wide, at));
+        put_line(
+            &mut text[LINE * n..LINE * n + LINE],
+            wide,
+            at as u32,
+            isa::word_at(program, wide, at),
+        );
     }
     0
 }

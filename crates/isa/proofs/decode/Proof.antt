@@ -23,8 +23,7 @@ assembled-requires : tie.Need-assembled-requires
 unfolding instructions values
 assembled-requires c κs =
     let args = c .before .before .before .args in
-    let op = c .before .before .opcode .result in
-    (
+    let op = c .before .before .opcode .result in (
       c .before .before .opcode .ensures,
       grouped {w = args .wide} NoOperands 0 1 refl op (args .word) refl (omega arith) (omega arith) (c .registers .ensures ∙ sym (none-read (args .wide) (args .word))),
     )
