@@ -7,7 +7,7 @@ use native.Mathlib.Omega.{arith}
 use lib.ListN.{length, take, drop, set, length-append}
 use lib.Seq.{take-set-le, set-split, drop-at, length-take-le, append-snoc, paste-zero}
 use lib.Dec.{ltb}
-use borrow.Author.Tests.{lt-ltb, le-ltb}
+use borrow.Author.Tests.{lt-ltb, le-ltb, ltb-true}
 use Rattle.word.specs.Choice.{if_then_else_}
 use Rattle.word.proofs.Tests.{either, if-true, if-false}
 use Rattle.codec.specs.Number.{putAt}
@@ -83,3 +83,14 @@ places-le (suc more) (suc k) n h =
 -- a 32-bit number has at most ten
 pub places-few : (n : ℕ) → n < 2 ^ 32 → placesOf n ≤ 10
 places-few n h = places-le 9 9 n (omega arith)
+
+-- a larger number has no fewer
+pub places-mono : (more m n : ℕ) → m ≤ n → placesFrom more m ≤ placesFrom more n
+unfolding placesFrom if_then_else_
+places-mono zero m n h = omega arith
+places-mono (suc more) m n h =
+    either (ltb n 10)
+    (λ e. let k : n < 10 = ltb-true n 10 e in rw (e, lt-ltb m 10 (omega arith)) (omega arith))
+    (λ e. either (ltb m 10)
+    (λ f. rw (e, f) (omega arith))
+    (λ f. rw (e, f) (omega (arith, places-mono more (m / 10) (n / 10) (omega arith)))))

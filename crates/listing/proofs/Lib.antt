@@ -1,2 +1,6 @@
 -- Laws of listings.
 pub mod Texts
+pub mod Names
+pub mod Conditions
+pub mod Operands
+pub mod Rooms

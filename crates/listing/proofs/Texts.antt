@@ -17,7 +17,7 @@ use Rattle.isa.specs.Text.{bytes}
 use Rattle.isa.proofs.Table.{values, agree}
 use Rattle.operands.specs.Letters.{roleOf, lettering}
 use Rattle.console.specs.Digits.{digitsOf, placesOf, decimal}
-use Rattle.console.proofs.Digits.{length-digitsOf}
+use Rattle.console.proofs.Digits.{length-digitsOf, places-le}
 use Rattle.listing.specs.Line.{integerText, prefixOf}
 use Rattle.listing.specs.Computed.{listings}
 use Rattle.listing.specs.Parts.{Placed, placed, put}
@@ -66,6 +66,10 @@ text-negative n l h =
     signed-either 32 n (λ z. integerText z ≡ 45 ∷ decimal (0xFFFF_FFFF - n + 1)) h
     (λ t. absurd (omega arith))
     (λ t. let same : suc (2 ^ 32 - suc n) ≡ 0xFFFF_FFFF - n + 1 = omega arith in rw same)
+
+-- a number below ten has one digit
+pub length-digit : (n : ℕ) → n < 10 → length (decimal n) ≤ 1
+length-digit n h = omega (arith, length-digitsOf 10 (placesOf n) n, places-le 9 0 n h)
 
 -- ---- prefixes
 

@@ -53,7 +53,7 @@ nameText width o = if hasForm width o then properties o .mnemonic else bytes "?"
 
 -- "condition (`egt C7` ..)", of an instruction that is conditional
 unfoldable pub conditionText : Instruction → List ℕ
-conditionText i = if i .conditional then nameOf (conditionOf (i .condition)) ++ blank ∷ bytes "C" ++ decimal (i .creg) else []
+conditionText i = if i .conditional then joined (nameOf (conditionOf (i .condition)) ∷ (bytes "C" ++ decimal (i .creg)) ∷ []) else []
 
 -- ---- the line
 

@@ -40,64 +40,72 @@ fn copy(line: &mut [u8], at: usize, text: &[u8], from: usize, n: usize)
     }
 }
 
-// Copies the name of an operation, which stands in a row of the names of eight.
-fn put_name_of(line: &mut [u8], op: u32, row: &[u8])
+// The mnemonic of an operation, from a row of eight.
+fn put_from_row(line: &mut [u8], op: u32, row: &[u8])
     requires { ⌜ (length (now line) ≡ LINE-BYTES) × (now row ≡ namesFrom 8 mnemonicOf (op / 8 * 8) 8) ⌝ }
     ensures { λ _. ⌜ now (line .exit) ≡ putAt (now (line .entry)) 25 (padded 8 (mnemonicOf op)) ⌝ }
 {
     copy(line, NAME, row, (op % 8 * 8) as usize, 8);
 }
 
-// The name of an operation, or `?` where it has no form in the width.
-fn put_name(line: &mut [u8], op: u32, wide: bool)
+// The mnemonic of an operation.
+fn put_mnemonic(line: &mut [u8], op: u32)
     requires { ⌜ (length (now line) ≡ LINE-BYTES) × (op < 64) ⌝ }
-    ensures { λ _. ⌜ now (line .exit) ≡ putAt (now (line .entry)) 25 (padded 8 (nameText (widthBy wide) (operationOf op))) ⌝ }
+    ensures { λ _. ⌜ now (line .exit) ≡ putAt (now (line .entry)) 25 (padded 8 (mnemonicOf op)) ⌝ }
 {
-    if isa::unavailability(op, wide, false) != 0 {
-        copy(line, NAME, b"?       ", 0, 8);
-        return;
-    }
     match op / 8 {
-        0 => put_name_of(
+        0 => put_from_row(
             line,
             op,
             b"nop     add     addu    sub     subu    and     or      xor     ",
         ),
-        1 => put_name_of(
+        1 => put_from_row(
             line,
             op,
             b"muls    mulu    mulus   muls_16 mulu_16 mulus_16sll     srl     ",
         ),
-        2 => put_name_of(
+        2 => put_from_row(
             line,
             op,
             b"sra     sext    addi    addiu   andi    ori     muli    slli    ",
         ),
-        3 => put_name_of(
+        3 => put_from_row(
             line,
             op,
             b"srli    srai    sexti   ld      st      mov     not     mulhi   ",
         ),
-        4 => put_name_of(
+        4 => put_from_row(
             line,
             op,
             b"cmp     cmpi    lli     lui     jmp     jal     jmpr    jalr    ",
         ),
-        5 => put_name_of(
+        5 => put_from_row(
             line,
             op,
             b"bc      begt    belt    beq     bgt     blt     bne     bnc     ",
         ),
-        6 => put_name_of(
+        6 => put_from_row(
             line,
             op,
             b"scall   retu    reti    chrs    di      ei      swm     trap    ",
         ),
-        _ => put_name_of(
+        _ => put_from_row(
             line,
             op,
             b"scon    rcon    conb    conh    exb     exh     exbf    exbfi   ",
         ),
+    }
+}
+
+// The name of an operation: its mnemonic, or `?` where it has no form in the width.
+fn put_name(line: &mut [u8], op: u32, wide: bool)
+    requires { ⌜ (length (now line) ≡ LINE-BYTES) × (op < 64) ⌝ }
+    ensures { λ _. ⌜ now (line .exit) ≡ putAt (now (line .entry)) 25 (padded 8 (nameText (widthBy wide) (operationOf op))) ⌝ }
+{
+    if isa::unavailability(op, wide, false) == 0 {
+        put_mnemonic(line, op);
+    } else {
+        copy(line, NAME, b"?       ", 0, 8);
     }
 }
 

@@ -1,67 +1,53 @@
+-- `listing::put_condition` meets its contract: the name of the condition, and the condition register after it. Assumes nothing.
+use mathlib.Core.Path.{_≡_, _∙_}
+use Prim.Native.Nat.{_≤_}
+use native.Mathlib.Omega.{arith}
 use borrow.Author.Needs.{needs}
+use Rattle.isa.specs.Computed.{instructions}
+use Rattle.listing.specs.Computed.{listings}
+use Rattle.listing.proofs.Names.{condition-short}
+use Rattle.listing.proofs.Conditions.{length-register, condition-put, condition-none}
 use Rattle.listing.proofs.put_condition.Statement.{statement}
 use Rattle.listing.proofs.put_condition.Tie as tie
-use Rattle.listing.proofs.put_condition.Reads as reads
-use Rattle.listing.proofs.put_condition.Lts as lts
-use Rattle.listing.proofs.copy.Reads as copy-reads
-use Rattle.listing.proofs.name_length.Reads as name-length-reads
-use Rattle.listing.proofs.put_operand.Reads as put-operand-reads
 
--- src/lib.rt:159:13
-name-length-requires : tie.Need-name-length-requires
-name-length-requires c κs = search needs
+-- a name has at most three characters
+few : (c : tie.After-name-length) → c .name-length .result ≤ 3
+few c = omega (arith, c .name-length .ensures, condition-short (c .before .before .before .args .i .condition))
 
--- src/lib.rt:163:13
-slice-aggregate-copy : tie.Need-slice-aggregate-copy
-slice-aggregate-copy c = search needs
-
--- src/lib.rt:164:14
-mul-copy : tie.Need-mul-copy
-mul-copy c = search needs
-
--- src/lib.rt:164:13
-cast-copy : tie.Need-cast-copy
-cast-copy c = search needs
-
--- src/lib.rt:160:9
 copy-requires : tie.Need-copy-requires
-copy-requires c κs = ?
+copy-requires c κs = (omega (arith, few (c .before .before .before)), omega (arith, few (c .before .before .before)))
 
--- src/lib.rt:167:27
 add-put-operand : tie.Need-add-put-operand
-add-put-operand c = ?
+add-put-operand c = omega (arith, few (c .before .before .before .before .before .before .before))
 
--- src/lib.rt:167:48
-cast-put-operand : tie.Need-cast-put-operand
-cast-put-operand c = search needs
-
--- src/lib.rt:167:9
 put-operand-requires : tie.Need-put-operand-requires
-put-operand-requires c κs = ?
+put-operand-requires c κs =
+    let counted = c .before .before .before .before .before .before .before in
+    let start = counted .before .before .before in
+    (omega arith, omega (arith, few counted, length-register (start .args .i .creg) (start .pre .1), c .before .before .before .copy .kept .0))
 
--- src/lib.rt:153:1
 same-length : tie.Need-same-length
-same-length c = search needs
+same-length c = c .before .before .put-operand .kept .0 ∙ c .before .before .before .before .before .before .copy .kept .0
 
--- src/lib.rt:153:1
 returns : tie.Need-returns
-returns c = ?
+unfolding listings
+returns c =
+    let copied = c .before .before .before .before .before .before in
+    let counted = copied .before .before .before .before in
+    let start = counted .before .before .before in
+    condition-put (start .args .line .now) (copied .copy .last .0) (c .before .before .put-operand .last .0) (counted .name-length .result) (c .before .before .put-operand .result) (start .args .i)
+    (counted .before .if1 .taken) (start .pre .1) (start .pre .2) (omega arith) (counted .name-length .ensures) (copied .copy .ensures) (c .before .before .put-operand .ensures)
 
--- src/lib.rt:153:1
 returns-2 : tie.Need-returns-2
-returns-2 c = ?
+returns-2 c = condition-none (c .before .before .args .line .now) (c .before .before .args .i) (c .if1 .left)
 
 pub put-condition-spec : {M : Type 1} → statement M
 put-condition-spec =
     tie.close
     (tie.spec
-    name-length-requires
-    slice-aggregate-copy
-    mul-copy
-    cast-copy
+    (λ c κs. search needs) (λ c. search needs) (λ c. search needs) (λ c. search needs)
     copy-requires
     add-put-operand
-    cast-put-operand
     put-operand-requires
     same-length
     returns
