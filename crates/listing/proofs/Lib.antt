@@ -4,3 +4,5 @@ pub mod Names
 pub mod Conditions
 pub mod Operands
 pub mod Rooms
+pub mod Columns
+pub mod Lines

@@ -47,7 +47,7 @@ module _ (columns : ℕ) (name : ℕ → List ℕ) (short : (n : ℕ) → length
 
 -- ---- mnemonics, in rows of eight
 
-short : (n : ℕ) → length (mnemonicOf n) ≤ 8
+pub short : (n : ℕ) → length (mnemonicOf n) ≤ 8
 unfolding mnemonicOf
 short = mnemonic-short
 

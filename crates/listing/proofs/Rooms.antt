@@ -3,6 +3,7 @@ use mathlib.Core.Path.{_≡_, refl, sym, ap, _∙_}
 use mathlib.Core.Bool.{Bool, true, false}
 use mathlib.Core.List.{List, [], _∷_, _++_, map}
 use Prim.Native.Nat.{ℕ, zero, suc, _+_, _-_, _*_, _^_, _≤_, _<_}
+use native.Mathlib.Nat.{le-trans}
 use native.Mathlib.Omega.{arith}
 use lib.Dec.{leb, ltb}
 use lib.IntN.{ℤ, pos, negsuc}
@@ -10,21 +11,22 @@ use lib.ListN.{length, length-append}
 use lib.Signed.{mag}
 use borrow.Author.Tests.{leb-true, ltb-true, lt-ltb}
 use Rattle.word.specs.Choice.{if_then_else_}
-use Rattle.word.specs.Word.{signedOf}
+use Rattle.word.specs.Word.{bits_to_, signedOf, wordOf}
 use Rattle.word.proofs.Tests.{either, and-parts}
 use Rattle.word.proofs.Integers.{signed-range}
+use Rattle.word.proofs.Bounds.{field-below}
 use Rattle.isa.specs.Operation.{Operation, operationOf, Width, w16, w32, properties}
 use Rattle.isa.specs.Format.{Role, Dreg, Sreg1, Sreg2, Creg, Imm, Length, Position, Immediate, Layout, layoutOf, fieldsWidth, fieldsOf}
 use Rattle.isa.specs.Text.{bytes}
-use Rattle.isa.specs.Decode.{immediateOf, opcodeOf, decode}
+use Rattle.isa.specs.Decode.{immediateOf, operandsOf, opcodeOf, assembled, decode}
 use Rattle.isa.specs.Shown.{shownRoles, shownValue}
 use Rattle.isa.proofs.Table.{values, by-number}
 use Rattle.isa.proofs.Fields.{fields-below}
 use Rattle.isa.proofs.Rows.{immediateFits, rows-sound}
 use Rattle.isa.proofs.Decoded.{in-range}
-use Rattle.console.specs.Digits.{decimal, placesOf}
+use Rattle.console.specs.Digits.{blank, decimal, placesOf}
 use Rattle.console.proofs.Digits.{length-digitsOf, places-le, places-mono}
-use Rattle.listing.specs.Line.{integerText, prefixOf, operandText}
+use Rattle.listing.specs.Line.{integerText, prefixOf, operandText, operandTexts}
 use Rattle.listing.specs.Parts.{spaced}
 use Rattle.listing.specs.Computed.{listings}
 
@@ -90,7 +92,45 @@ immediate-room m word e =
     rw s (signed-room k (signedOf k n) (signed-range k l n (fields-below (m .fields) word))))
     (λ s. rw s (digits-mono n (2 ^ k - 1) (omega (arith, fields-below (m .fields) word))))
 
+-- of the immediate that a word shows
+immediate-shown : (width : Width) (word : ℕ)
+    → length (integerText (decode width word .immediate)) ≤ immediateRoom (layoutOf width (properties (operationOf (opcodeOf width word)) .form) .immediate)
+unfolding decode assembled operandsOf
+immediate-shown width word = immediate-room _ word (rows-sound width (opcodeOf width word) .immediate)
+
 -- the text of each operand of a word
 operand-room : (width : Width) (word : ℕ) (r : Role)
     → length (operandText (decode width word) r) ≤ roleRoom (layoutOf width (properties (operationOf (opcodeOf width word)) .form)) r
-operand-room width word r = ?
+unfolding operandText prefixOf bytes integerText shownValue roleRoom
+operand-room width word Dreg = omega (arith, digits-few 1 (decode width word .dreg) (omega (arith, in-range width word .dreg)))
+operand-room width word Sreg1 = omega (arith, digits-few 1 (decode width word .sreg1) (omega (arith, in-range width word .sreg1)))
+operand-room width word Sreg2 = omega (arith, digits-few 1 (decode width word .sreg2) (omega (arith, in-range width word .sreg2)))
+operand-room width word Creg = omega (arith, digits-few 0 (decode width word .creg) (omega (arith, in-range width word .creg)))
+operand-room width word Imm = immediate-shown width word
+operand-room width word Length = digits-few 1 _ (omega (arith, field-below (bits 10 to 5) (wordOf 32 (decode width word .immediate))))
+operand-room width word Position = digits-few 1 _ (omega (arith, field-below (bits 4 to 0) (wordOf 32 (decode width word .immediate))))
+
+-- all of them, a blank before each
+spaced-room : (f : Role → List ℕ) (room : Role → ℕ) → ((r : Role) → length (f r) ≤ room r) → (rs : List Role) → length (spaced (map f rs)) ≤ rolesRoom room rs
+unfolding spaced rolesRoom
+spaced-room f room h [] = omega arith
+spaced-room f room h (r ∷ rs) = omega (arith, h r, spaced-room f room h rs, length-append (blank ∷ f r) (spaced (map f rs)))
+
+pub operands-fit : (width : Width) (word : ℕ) → length (spaced (operandTexts width (decode width word))) ≤ 14
+unfolding decode assembled
+operands-fit width word =
+    let o = operationOf (opcodeOf width word) in
+    le-trans (spaced-room (operandText (decode width word)) (roleRoom (layoutOf width (properties o .form))) (operand-room width word) (shownRoles width o)) (leb-true _ 14 (rows-fit width (opcodeOf width word)))
+
+-- ---- values
+
+-- every value that is shown is one of 32 bits
+pub value-fits : (width : Width) (word : ℕ) (r : Role) → mag (shownValue (decode width word) r) < 2 ^ 31
+unfolding shownValue
+value-fits width word Dreg = omega (arith, in-range width word .dreg)
+value-fits width word Sreg1 = omega (arith, in-range width word .sreg1)
+value-fits width word Sreg2 = omega (arith, in-range width word .sreg2)
+value-fits width word Creg = omega (arith, in-range width word .creg)
+value-fits width word Imm = omega (arith, in-range width word .immediate)
+value-fits width word Length = omega (arith, field-below (bits 10 to 5) (wordOf 32 (decode width word .immediate)))
+value-fits width word Position = omega (arith, field-below (bits 4 to 0) (wordOf 32 (decode width word .immediate)))

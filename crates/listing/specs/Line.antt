@@ -64,7 +64,7 @@ padded n text = text ++ replicate (n - length text) blank
 -- "a line of exactly 47 characters and a newline: address (8 hex digits), blank, word (8 ..), blank, condition (.. 6), blank, name (8), blank,
 -- operands (13 ..)"
 unfoldable pub columns : (address word condition name operands : List ℕ) → List ℕ
-columns a w c n o = padded 8 a ++ blank ∷ padded 8 w ++ blank ∷ padded 6 c ++ blank ∷ padded 8 n ++ blank ∷ padded 13 o ++ newline ∷ []
+columns a w c n o = joined (padded 8 a ∷ padded 8 w ∷ padded 6 c ∷ padded 8 n ∷ padded 13 o ∷ []) ++ newline ∷ []
 
 -- the line of a word at an address; "word (8, or 4 and 4 blanks)": two hexadecimal digits to a byte
 unfoldable pub lineOf : Width → (address word : ℕ) → List ℕ

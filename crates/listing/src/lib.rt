@@ -1,6 +1,6 @@
 // The listing of a program: a line of text for each instruction word.
 ghost use mathlib.Core.Path.{_≡_};
-ghost use mathlib.Core.List.{_∷_, _++_};
+ghost use mathlib.Core.List.{[], _∷_, _++_};
 ghost use Prim.Native.Nat.{_+_, _*_, _/_, _^_, _≤_, _<_};
 ghost use lib.ListN.{length, take, drop};
 ghost use lib.Signed.{mag};
@@ -9,9 +9,10 @@ ghost use Rattle.word.specs.Word.{signedOf};
 ghost use Rattle.isa.specs.Operation.{operationOf, widthBy};
 ghost use Rattle.isa.specs.Format.{Role};
 ghost use Rattle.isa.specs.Shown.{shownValue};
-ghost use Rattle.console.specs.Digits.{blank, decimal};
+ghost use Rattle.isa.specs.Decode.{wordBytes};
+ghost use Rattle.console.specs.Digits.{blank, digitsOf, decimal, hex8};
 ghost use Rattle.operands.specs.Letters.{roleOf};
-ghost use Rattle.listing.specs.Line.{integerText, prefixOf, operandTexts, nameText, conditionText, padded, lineOf};
+ghost use Rattle.listing.specs.Line.{integerText, prefixOf, operandTexts, nameText, conditionText, padded, columns, lineOf};
 ghost use Rattle.listing.specs.Parts.{mnemonicOf, conditionName, namesFrom, spaced, placed, put};
 ghost use Rattle.listing.specs.Listing.{LINE-BYTES, listed, listingCall};
 use isa::Instruction;
@@ -204,21 +205,23 @@ fn put_operands(line: &mut [u8], i: Instruction, wide: bool)
 
 // ---- lines
 
+// The front of a line, address and word, and blanks for the rest.
+fn put_front(line: &mut [u8], wide: bool, address: u32, word: u32)
+    requires { ⌜ length (now line) ≡ LINE-BYTES ⌝ }
+    ensures { λ _. ⌜ now (line .exit) ≡ columns (hex8 address) (digitsOf 16 (2 * wordBytes (widthBy wide)) word) [] [] [] ⌝ }
+{
+    copy(line, 0, b"                                               \n", 0, LINE);
+    console::put_digits(line, 0, 16, 8, address);
+    console::put_digits(line, WORD, 16, 2 * isa::word_bytes(wide) as usize, word);
+}
+
 // The line of a word at an address.
 fn put_line(line: &mut [u8], wide: bool, address: u32, word: u32)
     requires { ⌜ length (now line) ≡ LINE-BYTES ⌝ }
     ensures { λ _. ⌜ now (line .exit) ≡ lineOf (widthBy wide) address word ⌝ }
 {
     let i = isa::decode(word, wide);
-    copy(
-        line,
-        0,
-        b"                                               \n",
-        0,
-        LINE,
-    );
-    console::put_digits(line, 0, 16, 8, address);
-    console::put_digits(line, WORD, 16, 2 * isa::word_bytes(wide) as usize, word);
+    put_front(line, wide, address, word);
     put_condition(line, i);
     put_name(line, i.opcode, wide);
     put_operands(line, i, wide);

@@ -1,0 +1,93 @@
+-- A line, from its parts. Assumes nothing.
+use mathlib.Core.Path.{_≡_, refl, sym, ap, _∙_}
+use mathlib.Core.Bool.{Bool, true, false}
+use mathlib.Core.List.{List, [], _∷_, _++_, append-nil}
+use Prim.Native.Nat.{ℕ, _+_, _*_, _≤_, _<_}
+use native.Mathlib.Omega.{arith}
+use lib.ListN.{length, drop, length-append, drop-of-length-le}
+use Rattle.word.specs.Choice.{if_then_else_}
+use Rattle.word.proofs.Tests.{either}
+use Rattle.codec.specs.Number.{putAt}
+use Rattle.isa.specs.Text.{bytes}
+use Rattle.isa.specs.Operation.{Operation, operationOf, Width, w16, w32}
+use Rattle.isa.specs.Decode.{wordBytes, decode}
+use Rattle.isa.specs.Shown.{hasForm}
+use Rattle.isa.specs.declared.Instruction.{Instruction}
+use Rattle.isa.proofs.Decoded.{in-range}
+use Rattle.console.specs.Digits.{blank, digitsOf, decimal, hex8}
+use Rattle.console.proofs.Digits.{length-digitsOf}
+use Rattle.listing.specs.Line.{joined, operandTexts, operandsText, nameText, conditionText, padded, columns, lineOf}
+use Rattle.listing.specs.Parts.{mnemonicOf, conditionName, spaced}
+use Rattle.listing.proofs.Texts.{length-digit}
+use Rattle.listing.proofs.Names.{length-padded, short, condition-short}
+use Rattle.listing.proofs.Rooms.{operands-fit}
+use Rattle.listing.proofs.Columns.{padded-again, fifth, first, from-right, put-address, put-word, put-condition, put-name, put-operands}
+
+-- ---- the parts fit their columns
+
+-- the word in hexadecimal
+abbrev pub wordText : Width → (word : ℕ) → List ℕ
+wordText width word = digitsOf 16 (2 * wordBytes width) word
+
+pub address-fits : (address : ℕ) → length (hex8 address) ≤ 8
+address-fits address = omega (arith, length-digitsOf 16 8 address)
+
+pub word-fits : (width : Width) (word : ℕ) → length (wordText width word) ≤ 8
+unfolding wordBytes
+word-fits w16 word = omega (arith, length-digitsOf 16 4 word)
+word-fits w32 word = omega (arith, length-digitsOf 16 8 word)
+
+pub condition-fits : (i : Instruction) → i .creg < 8 → length (conditionText i) ≤ 6
+unfolding conditionText joined bytes if_then_else_ conditionName
+condition-fits i h =
+    either (i .conditional)
+    (λ e. rw e (omega (arith, length-append (conditionName (i .condition)) (blank ∷ 67 ∷ decimal (i .creg)), condition-short (i .condition), length-digit (i .creg) (omega arith))))
+    (λ e. rw e (omega arith))
+
+pub name-fits : (width : Width) (n : ℕ) → length (nameText width (operationOf n)) ≤ 8
+unfolding nameText mnemonicOf bytes if_then_else_
+name-fits width n = either (hasForm width (operationOf n)) (λ e. rw e (short n)) (λ e. rw e (omega arith))
+
+-- ---- the line
+
+-- an empty line, all of which was written
+cleared : (line s : List ℕ) → length line ≤ length s → putAt line 0 s ≡ s
+cleared line s h = let e : length line ≤ 0 + length s = omega arith in ap (λ (t : List ℕ). s ++ t) (drop-of-length-le line e) ∙ append-nil s
+
+length-empty : length (columns [] [] [] [] []) ≡ 48
+unfolding columns joined padded
+length-empty = refl
+
+-- its front
+pub front-put : (width : Width) (address word : ℕ) (line l₀ l₁ l₂ : List ℕ) → length line ≡ 48
+    → l₀ ≡ putAt line 0 (columns [] [] [] [] []) → l₁ ≡ putAt l₀ 0 (hex8 address) → l₂ ≡ putAt l₁ 9 (wordText width word)
+    → l₂ ≡ columns (hex8 address) (wordText width word) [] [] []
+front-put width address word line l₀ l₁ l₂ n e₀ e₁ e₂ =
+    let a = hex8 address in
+    let w = wordText width word in
+    let c₀ : l₀ ≡ first [] [] [] [] [] = e₀ ∙ cleared line (columns [] [] [] [] []) (omega (arith, length-empty)) ∙ from-right [] [] [] [] [] in
+    let c₁ : l₁ ≡ first a [] [] [] [] = e₁ ∙ ap (λ (s : List ℕ). putAt s 0 a) c₀ ∙ put-address a (address-fits address) in
+    e₂ ∙ ap (λ (s : List ℕ). putAt s 9 w) c₁ ∙ put-word a w (address-fits address) (word-fits width word) ∙ sym (from-right a w [] [] [])
+
+-- and the rest
+pub line-put : (width : Width) (address word : ℕ) (l₀ l₁ l₂ l₃ : List ℕ) → l₀ ≡ columns (hex8 address) (wordText width word) [] [] []
+    → l₁ ≡ putAt l₀ 18 (conditionText (decode width word)) → l₂ ≡ putAt l₁ 25 (padded 8 (nameText width (operationOf (decode width word .opcode))))
+    → l₃ ≡ putAt l₂ 33 (spaced (operandTexts width (decode width word))) → l₃ ≡ lineOf width address word
+unfolding lineOf operandsText
+line-put width address word l₀ l₁ l₂ l₃ e₀ e₁ e₂ e₃ =
+    let i = decode width word in
+    let a = hex8 address in
+    let w = wordText width word in
+    let c = conditionText i in
+    let n = nameText width (operationOf (i .opcode)) in
+    let p = padded 8 n in
+    let ha = address-fits address in
+    let hw = word-fits width word in
+    let hc = condition-fits i (in-range width word .creg) in
+    let hn = name-fits width (i .opcode) in
+    let hp : length p ≤ 8 = omega (arith, length-padded 8 n hn) in
+    let c₁ : l₁ ≡ first a w c [] [] = e₁ ∙ ap (λ (s : List ℕ). putAt s 18 c) (e₀ ∙ from-right a w [] [] []) ∙ put-condition a w c ha hw hc in
+    let c₂ : l₂ ≡ first a w c n [] = e₂ ∙ ap (λ (s : List ℕ). putAt s 25 p) c₁ ∙ put-name a w c p ha hw hc hp ∙ ap (λ (s : List ℕ). padded 8 a ++ (blank ∷ (padded 8 w ++ (blank ∷ (padded 6 c ++ (blank ∷ (s ++ (blank ∷ fifth [])))))))) (padded-again 8 n hn) in
+    e₃ ∙ ap (λ (s : List ℕ). putAt s 33 (spaced (operandTexts width i))) c₂
+    ∙ put-operands a w c n (operandTexts width i) ha hw hc hn (operands-fit width word)
+    ∙ sym (from-right a w c n (joined (operandTexts width i)))
