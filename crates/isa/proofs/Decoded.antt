@@ -1,4 +1,4 @@
--- The fields of a decoded instruction are in range. Assumes nothing.
+-- The fields of a decoded instruction are in range, and the length of a word. Assumes nothing.
 use mathlib.Core.Path.{_≡_, refl}
 use mathlib.Core.Logic.{_⊎_, inl, inr}
 use mathlib.Core.Bool.{true}
@@ -15,7 +15,7 @@ use Rattle.word.proofs.Tests.{either, and-parts}
 use Rattle.word.proofs.Integers.{signed-range}
 use Rattle.isa.specs.Operation.{Width, w16, w32}
 use Rattle.isa.specs.Format.{fieldsWidth, fieldsOf, operationField, cregField, conditionField, Immediate}
-use Rattle.isa.specs.Decode.{registerOf, immediateOf, operandsOf, opcodeOf, assembled, decode}
+use Rattle.isa.specs.Decode.{wordBytes, registerOf, immediateOf, operandsOf, opcodeOf, assembled, decode}
 use Rattle.isa.specs.Theorems.{NarrowRegisters}
 use Rattle.isa.specs.declared.Instruction.{Instruction}
 use Rattle.isa.proofs.Fields.{fields-below}
@@ -86,3 +86,15 @@ in-range width word =
 pub narrow-registers : NarrowRegisters
 unfolding decode assembled operandsOf
 narrow-registers word = record { dreg = register-high _ word; sreg1 = register-high _ word; sreg2 = register-high _ word }
+
+-- ---- the length of a word
+
+pub bytes-positive : (width : Width) → 0 < wordBytes width
+unfolding wordBytes
+bytes-positive w16 = omega arith
+bytes-positive w32 = omega arith
+
+pub bytes-most : (width : Width) → wordBytes width ≤ 4
+unfolding wordBytes
+bytes-most w16 = omega arith
+bytes-most w32 = omega arith

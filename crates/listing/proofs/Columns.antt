@@ -78,6 +78,24 @@ from-right a w c n o =
     (append-assoc (padded 6 c) _ end
     ∙ ap (λ (s : List ℕ). padded 6 c ++ (blank ∷ s)) (append-assoc (padded 8 n) (blank ∷ padded 13 o) end)))
 
+-- the texts of a line fit their columns
+pub record Fit (a w c n o : List ℕ) : Type 0 where
+  pub address : length a ≤ 8
+  pub word : length w ≤ 8
+  pub condition : length c ≤ 6
+  pub name : length n ≤ 8
+  pub operands : length o ≤ 13
+
+pub length-columns : (a w c n o : List ℕ) → Fit a w c n o → length (columns a w c n o) ≡ 48
+length-columns a w c n o f =
+    let l₁ = length-append (padded 8 a) (blank ∷ second w c n o) in
+    let l₂ = length-append (padded 8 w) (blank ∷ third c n o) in
+    let l₃ = length-append (padded 6 c) (blank ∷ fourth n o) in
+    let l₄ = length-append (padded 8 n) (blank ∷ fifth o) in
+    let l₅ = length-append (padded 13 o) (newline ∷ []) in
+    ap length (from-right a w c n o)
+    ∙ omega (arith, l₁, l₂, l₃, l₄, l₅, length-padded 8 a (f .address), length-padded 8 w (f .word), length-padded 6 c (f .condition), length-padded 8 n (f .name), length-padded 13 o (f .operands))
+
 -- ---- its parts, each put into its column
 
 pub put-address : (a : List ℕ) → length a ≤ 8 → putAt (first [] [] [] [] []) 0 a ≡ first a [] [] [] []
@@ -105,7 +123,7 @@ put-name a w c n h k l m =
     ∙ ap (λ (s : List ℕ). padded 6 c ++ (blank ∷ s)) (fill 8 n (blank ∷ fifth []) m)))
 
 -- texts with blanks between them, and with a blank before each
-spaced-joined : (t : List ℕ) (ts : List (List ℕ)) → spaced (t ∷ ts) ≡ blank ∷ joined (t ∷ ts)
+pub spaced-joined : (t : List ℕ) (ts : List (List ℕ)) → spaced (t ∷ ts) ≡ blank ∷ joined (t ∷ ts)
 unfolding spaced joined
 spaced-joined t [] = ap (λ (s : List ℕ). blank ∷ s) (append-nil t)
 spaced-joined t (u ∷ us) = ap (λ (s : List ℕ). blank ∷ t ++ s) (spaced-joined u us)

@@ -6,3 +6,4 @@ pub mod Operands
 pub mod Rooms
 pub mod Columns
 pub mod Lines
+pub mod Calls

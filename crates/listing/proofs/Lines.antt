@@ -21,7 +21,7 @@ use Rattle.listing.specs.Parts.{mnemonicOf, conditionName, spaced}
 use Rattle.listing.proofs.Texts.{length-digit}
 use Rattle.listing.proofs.Names.{length-padded, short, condition-short}
 use Rattle.listing.proofs.Rooms.{operands-fit}
-use Rattle.listing.proofs.Columns.{padded-again, fifth, first, from-right, put-address, put-word, put-condition, put-name, put-operands}
+use Rattle.listing.proofs.Columns.{Fit, length-columns, spaced-joined, padded-again, fifth, first, from-right, put-address, put-word, put-condition, put-name, put-operands}
 
 -- ---- the parts fit their columns
 
@@ -91,3 +91,29 @@ line-put width address word l₀ l₁ l₂ l₃ e₀ e₁ e₂ e₃ =
     e₃ ∙ ap (λ (s : List ℕ). putAt s 33 (spaced (operandTexts width i))) c₂
     ∙ put-operands a w c n (operandTexts width i) ha hw hc hn (operands-fit width word)
     ∙ sym (from-right a w c n (joined (operandTexts width i)))
+
+-- ---- its columns
+
+-- operands with single blanks between them take one column less than with a blank before each
+joined-fits : (ts : List (List ℕ)) → length (spaced ts) ≤ 14 → length (joined ts) ≤ 13
+unfolding joined
+joined-fits [] h = omega arith
+joined-fits (t ∷ ts) h = omega (arith, ap length (spaced-joined t ts))
+
+pub parts-fit : (width : Width) (address word : ℕ) →
+    let i = decode width word in
+    Fit (hex8 address) (wordText width word) (conditionText i) (nameText width (operationOf (i .opcode))) (operandsText width i)
+unfolding operandsText
+parts-fit width address word =
+    let i = decode width word in
+    record {
+      address = address-fits address;
+      word = word-fits width word;
+      condition = condition-fits i (in-range width word .creg);
+      name = name-fits width (i .opcode);
+      operands = joined-fits (operandTexts width i) (operands-fit width word);
+    }
+
+pub length-line : (width : Width) (address word : ℕ) → length (lineOf width address word) ≡ 48
+unfolding lineOf
+length-line width address word = length-columns _ _ _ _ _ (parts-fit width address word)

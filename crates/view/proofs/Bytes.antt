@@ -138,16 +138,6 @@ fetched-word w32 program a h = rw (bytes-there program 4 a 0 h) (simp (zero-mul,
 
 -- ---- lengths
 
-pub bytes-positive : (width : Width) → 0 < wordBytes width
-unfolding wordBytes
-bytes-positive w16 = omega arith
-bytes-positive w32 = omega arith
-
-pub bytes-most : (width : Width) → wordBytes width ≤ 4
-unfolding wordBytes
-bytes-most w16 = omega arith
-bytes-most w32 = omega arith
-
 -- a word at an aligned address lies below 2 ^ 32
 pub aligned-fits : (width : Width) (n a : ℕ) → n ≡ wordBytes width → a < 2 ^ 32 → a % n ≡ 0 → a + n ≤ 2 ^ 32
 unfolding wordBytes

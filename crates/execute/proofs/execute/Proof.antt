@@ -9,7 +9,8 @@ use Rattle.view.specs.View.{fetchedAs, view, viewOf}
 use Rattle.execute.specs.Decide.{fetchedThen, decide}
 use Rattle.view.specs.declared.Fetched.{Fetched}
 use Rattle.operation.specs.Execute.{onFound}
-use Rattle.view.proofs.Bytes.{bytes-positive, fetched-inside}
+use Rattle.isa.proofs.Decoded.{bytes-positive}
+use Rattle.view.proofs.Bytes.{fetched-inside}
 use Rattle.effect.specs.Apply.{reportOn, applying}
 use Rattle.execute.proofs.execute.Statement.{statement}
 use Rattle.execute.proofs.execute.Tie as tie

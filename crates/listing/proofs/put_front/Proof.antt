@@ -1,58 +1,40 @@
+-- `listing::put_front` meets its contract: a blank line, then address and word in their columns. Assumes nothing.
+use mathlib.Core.Path.{_≡_, ap, _∙_}
+use mathlib.Core.List.{List}
+use Prim.Native.Nat.{ℕ, _*_}
+use native.Mathlib.Omega.{arith}
 use borrow.Author.Needs.{needs}
+use Rattle.codec.specs.Number.{putAt}
+use Rattle.isa.specs.Operation.{widthBy}
+use Rattle.isa.proofs.Decoded.{bytes-most}
+use Rattle.console.specs.Digits.{digitsOf}
+use Rattle.listing.specs.Computed.{listings}
+use Rattle.listing.proofs.Lines.{front-put}
 use Rattle.listing.proofs.put_front.Statement.{statement}
 use Rattle.listing.proofs.put_front.Tie as tie
-use Rattle.listing.proofs.put_front.Reads as reads
-use Rattle.listing.proofs.put_front.Lts as lts
-use Rattle.console.proofs.put_digits.Reads as put-digits-reads
-use Rattle.isa.proofs.word_bytes.Reads as word-bytes-reads
-use Rattle.listing.proofs.copy.Reads as copy-reads
 
--- src/lib.rt:213:19
-slice-aggregate-copy : tie.Need-slice-aggregate-copy
-slice-aggregate-copy c = search needs
-
--- src/lib.rt:213:5
-copy-requires : tie.Need-copy-requires
-copy-requires c κs = search needs
-
--- src/lib.rt:214:5
-put-digits-requires : tie.Need-put-digits-requires
-put-digits-requires c κs = search needs
-
--- src/lib.rt:215:45
-word-bytes-requires : tie.Need-word-bytes-requires
-word-bytes-requires c κs = search needs
-
--- src/lib.rt:215:45
-cast-put-digits : tie.Need-cast-put-digits
-cast-put-digits c = search needs
-
--- src/lib.rt:215:41
-mul-put-digits : tie.Need-mul-put-digits
-mul-put-digits c = search needs
-
--- src/lib.rt:215:5
 put-digits-requires-2 : tie.Need-put-digits-requires-2
-put-digits-requires-2 c κs = ?
+put-digits-requires-2 c κs =
+    let start = c .before .before .before .before .before .before .before .before .before .before .before .before in
+    (omega arith, omega (arith, c .word-bytes .ensures, bytes-most (widthBy (start .args .wide)), c .before .before .before .before .put-digits .kept .0, c .before .before .before .before .before .before .before .before .copy .kept .0))
 
--- src/lib.rt:209:1
-same-length : tie.Need-same-length
-same-length c = search needs
-
--- src/lib.rt:209:1
 returns : tie.Need-returns
-returns c = ?
+unfolding listings
+returns c =
+    let start = c .before .before .before .before .before .before .before .before .before .before .before .before .before .before .before in
+    let args = start .args in
+    let l₀ = c .before .before .before .before .before .before .before .before .before .before .before .copy in
+    let l₁ = c .before .before .before .before .before .before .before .put-digits in
+    let l₂ = c .before .before .put-digits2 in
+    let n = c .before .before .before .word-bytes in
+    front-put (widthBy (args .wide)) (args .address) (args .word) (args .line .now) (l₀ .last .0) (l₁ .last .0) (l₂ .last .0) (start .pre) (l₀ .ensures) (l₁ .ensures)
+    (l₂ .ensures ∙ ap (λ (k : ℕ). putAt (l₁ .last .0) 9 (digitsOf 16 (2 * k) (args .word))) (n .ensures))
 
 pub put-front-spec : {M : Type 1} → statement M
 put-front-spec =
     tie.close
     (tie.spec
-    slice-aggregate-copy
-    copy-requires
-    put-digits-requires
-    word-bytes-requires
-    cast-put-digits
-    mul-put-digits
+    (λ c. search needs) (λ c κs. search needs) (λ c κs. search needs) (λ c κs. search needs) (λ c. search needs) (λ c. search needs)
     put-digits-requires-2
-    same-length
+    (λ c. search needs)
     returns)

@@ -1,50 +1,68 @@
+-- `listing::put_line` meets its contract: the parts of the line in their columns. Assumes nothing.
+use mathlib.Core.Path.{_≡_, sym, ap, _∙_}
+use mathlib.Core.List.{List}
+use Prim.Native.Nat.{ℕ, _<_}
+use native.Mathlib.Omega.{arith}
 use borrow.Author.Needs.{needs}
+use Rattle.codec.specs.Number.{putAt}
+use Rattle.isa.specs.Operation.{operationOf, widthBy}
+use Rattle.isa.specs.Decode.{decode}
+use Rattle.isa.specs.declared.Instruction.{Instruction}
+use Rattle.isa.proofs.Decoded.{InRange, in-range}
+use Rattle.listing.specs.Line.{operandTexts, nameText, conditionText, padded}
+use Rattle.listing.specs.Parts.{spaced}
+use Rattle.listing.proofs.Rooms.{operands-fit, value-fits}
+use Rattle.listing.proofs.Lines.{line-put}
 use Rattle.listing.proofs.put_line.Statement.{statement}
 use Rattle.listing.proofs.put_line.Tie as tie
-use Rattle.listing.proofs.put_line.Reads as reads
-use Rattle.listing.proofs.put_line.Lts as lts
-use Rattle.isa.proofs.decode.Reads as decode-reads
-use Rattle.listing.proofs.put_condition.Reads as put-condition-reads
-use Rattle.listing.proofs.put_front.Reads as put-front-reads
-use Rattle.listing.proofs.put_name.Reads as put-name-reads
-use Rattle.listing.proofs.put_operands.Reads as put-operands-reads
 
--- src/lib.rt:223:9
-decode-requires : tie.Need-decode-requires
-decode-requires c κs = search needs
+-- the fields of the instruction are in range
+ranges : (c : tie.After-decode) → InRange (c .decode .result)
+ranges c = let args = c .before .before .args in rw (c .decode .ensures) (in-range (widthBy (args .wide)) (args .word))
 
--- src/lib.rt:224:5
-put-front-requires : tie.Need-put-front-requires
-put-front-requires c κs = search needs
-
--- src/lib.rt:225:5
 put-condition-requires : tie.Need-put-condition-requires
-put-condition-requires c κs = ?
+put-condition-requires c κs =
+    let r = ranges (c .before .before .before .before .before) in
+    (omega arith, r .creg, r .condition)
 
--- src/lib.rt:226:5
 put-name-requires : tie.Need-put-name-requires
-put-name-requires c κs = ?
+put-name-requires c κs = let r = ranges (c .before .before .before .before .before .before .before .before .before) in (omega arith, r .opcode)
 
--- src/lib.rt:227:5
 put-operands-requires : tie.Need-put-operands-requires
-put-operands-requires c κs = ?
+put-operands-requires c κs =
+    let decoded = c .before .before .before .before .before .before .before .before .before .before .before .before .before in
+    let args = decoded .before .before .args in
+    let width = widthBy (args .wide) in
+    (
+      omega arith,
+      rw (decoded .decode .ensures) (operands-fit width (args .word)),
+      ranges decoded .opcode,
+      rw (decoded .decode .ensures) (value-fits width (args .word)),
+    )
 
--- src/lib.rt:219:1
-same-length : tie.Need-same-length
-same-length c = search needs
-
--- src/lib.rt:219:1
 returns : tie.Need-returns
-returns c = ?
+returns c =
+    let decoded = c .before .before .before .before .before .before .before .before .before .before .before .before .before .before .before .before in
+    let args = decoded .before .before .args in
+    let width = widthBy (args .wide) in
+    let i = decoded .decode .ensures in
+    let l₀ = c .before .before .before .before .before .before .before .before .before .before .before .before .before .before .put-front in
+    let l₁ = c .before .before .before .before .before .before .before .before .before .before .put-condition in
+    let l₂ = c .before .before .before .before .before .before .put-name in
+    let l₃ = c .before .before .put-operands in
+    line-put width (args .address) (args .word) (l₀ .last .0) (l₁ .last .0) (l₂ .last .0) (l₃ .last .0)
+    (l₀ .ensures)
+    (l₁ .ensures ∙ ap (λ (i : Instruction). putAt (l₀ .last .0) 18 (conditionText i)) i)
+    (l₂ .ensures ∙ ap (λ (i : Instruction). putAt (l₁ .last .0) 25 (padded 8 (nameText width (operationOf (i .opcode))))) i)
+    (l₃ .ensures ∙ ap (λ (i : Instruction). putAt (l₂ .last .0) 33 (spaced (operandTexts width i))) i)
 
 pub put-line-spec : {M : Type 1} → statement M
 put-line-spec =
     tie.close
     (tie.spec
-    decode-requires
-    put-front-requires
+    (λ c κs. search needs) (λ c κs. search needs)
     put-condition-requires
     put-name-requires
     put-operands-requires
-    same-length
+    (λ c. search needs)
     returns)

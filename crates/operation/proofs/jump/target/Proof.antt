@@ -8,7 +8,7 @@ use Rattle.isa.specs.Operation.{widthBy}
 use Rattle.machine.specs.Machine.{widthOf}
 use Rattle.operation.specs.Execute.{afterThis, targetBy}
 use Rattle.view.specs.View.{view}
-use Rattle.view.proofs.Bytes.{bytes-most}
+use Rattle.isa.proofs.Decoded.{bytes-most}
 use Rattle.operation.proofs.jump.target.Statement.{statement}
 use Rattle.operation.proofs.jump.target.Tie as tie
 

@@ -13,7 +13,8 @@ use Rattle.view.specs.View.{view, viewOf}
 use Rattle.effect.specs.Effect.{Effect, Raised}
 use Rattle.operation.specs.Execute.{jumped}
 use Rattle.word.proofs.Handed.{handed}
-use Rattle.view.proofs.Bytes.{bytes-positive, aligned-fits, aligned-at}
+use Rattle.isa.proofs.Decoded.{bytes-positive}
+use Rattle.view.proofs.Bytes.{aligned-fits, aligned-at}
 use Rattle.operation.proofs.jump.target_code.Statement.{statement}
 use Rattle.operation.proofs.jump.target_code.Tie as tie
 

@@ -10,7 +10,8 @@ use Rattle.machine.specs.Machine.{psr, userMode, widthOf, Memory}
 use Rattle.machine.specs.Control.{controlAt, IMEM-BOUND-LO, IMEM-BOUND-HI}
 use Rattle.machine.specs.Words.{machineOf}
 use Rattle.view.specs.View.{Raises, View, anyWithin, bytesAt, fetchAt, fetchedAs, view, viewOf}
-use Rattle.view.proofs.Bytes.{bytes-positive, aligned-fits, aligned-at}
+use Rattle.isa.proofs.Decoded.{bytes-positive}
+use Rattle.view.proofs.Bytes.{aligned-fits, aligned-at}
 use Rattle.view.proofs.program.fetch.Statement.{statement}
 use Rattle.view.proofs.program.fetch.Tie as tie
 
