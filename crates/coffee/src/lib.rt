@@ -1,5 +1,9 @@
-// The C interface: the calls of the emulator with numbers and slices only. include/coffee.h declares them for C.
+// The C interface: the calls of the emulator and of the listing with numbers and slices only. include/coffee.h declares them for C.
 ghost use mathlib.Core.Path.{_≡_};
+ghost use mathlib.Core.Bool.{not};
+ghost use lib.Dec.{eqb};
+ghost use Rattle.isa.specs.Operation.{widthBy};
+ghost use Rattle.listing.specs.Listing.{listed, listingCall};
 ghost use Rattle.emulator.specs.Run.{replyOf, runCall};
 ghost use Rattle.emulator.specs.Reset.{resetOutcome, resetCall};
 ghost use Rattle.coffee.specs.Numbers.{answerNumbers, shown, inNumbers};
@@ -57,7 +61,7 @@ pub extern "C" fn coffee_reset(buffer: &mut [u8]) -> u32
     emulator::reset(buffer)
 }
 
-// Writes the listing of a program, one line for each instruction word, to the text's front.
+// Writes the listing of a program, a line for each instruction word, to the text's front; wide 0 is 16-bit words, any other number 32-bit.
 #[no_mangle]
 pub extern "C" fn coffee_listing(program: &[u8], wide: u32, text: &mut [u8]) -> u32 {
     listing::list(program, wide != 0, text)

@@ -210,7 +210,13 @@ fn put_front(line: &mut [u8], wide: bool, address: u32, word: u32)
     requires { ⌜ length (now line) ≡ LINE-BYTES ⌝ }
     ensures { λ _. ⌜ now (line .exit) ≡ columns (hex8 address) (digitsOf 16 (2 * wordBytes (widthBy wide)) word) [] [] [] ⌝ }
 {
-    copy(line, 0, b"                                               \n", 0, LINE);
+    copy(
+        line,
+        0,
+        b"                                               \n",
+        0,
+        LINE,
+    );
     console::put_digits(line, 0, 16, 8, address);
     console::put_digits(line, WORD, 16, 2 * isa::word_bytes(wide) as usize, word);
 }

@@ -118,11 +118,10 @@ loop-again c =
     let h : n < wordsIn width (args .program .now) = rw (counted asked) at (tested .loop-test .taken) in
     let line = c .before .before .put-line in
     let e : line .last .0 ≡ lineAt width (args .program .now) n =
-        line .ensures
-        ∙ ap (λ (v : ℕ). lineOf width (asked .word-bytes .result * n) v) (c .before .before .before .word-at .ensures)
-        ∙ ap (λ (b : ℕ). lineOf width (b * n) (wordAt width (args .program .now) (b * n))) (asked .word-bytes .ensures)
-    in
-    (
+    line .ensures
+    ∙ ap (λ (v : ℕ). lineOf width (asked .word-bytes .result * n) v) (c .before .before .before .word-at .ensures)
+    ∙ ap (λ (b : ℕ). lineOf width (b * n) (wordAt width (args .program .now) (b * n))) (asked .word-bytes .ensures)
+    in (
       omega arith,
       (
         written-length width (args .program .now) n text (line .last .0) (t .line) e ∙ at-loop .inv .1 .0,
@@ -139,7 +138,7 @@ returns-4 c =
     let n : at-loop .n ≡ words = omega (arith, counted (c .before .before .before .before), c .loop-test .left, at-loop .inv .0) in
     let none : linesAt width (args .program .now) (at-loop .n) ≡ [] = ap (linesAt width (args .program .now)) n ∙ lines-none width (args .program .now) in
     let whole : at-loop .text ≡ over (linesFrom width (args .program .now) 0 words) (args .text .now) =
-        sym (putAt-nothing (at-loop .text) (48 * at-loop .n)) ∙ ap (λ (t : List ℕ). putAt (at-loop .text) (48 * at-loop .n) t) (sym none) ∙ at-loop .inv .1 .1
+    sym (putAt-nothing (at-loop .text) (48 * at-loop .n)) ∙ ap (λ (t : List ℕ). putAt (at-loop .text) (48 * at-loop .n) t) (sym none) ∙ at-loop .inv .1 .1
     in
     ap (listed 0) whole
     ∙ listable width (args .program .now) (args .text .now) (c .before .before .before .before .before .if1 .left) (rw (c .before .before .before .before .word-bytes .ensures) at (c .before .before .before .if2 .left)) (rw (counted (c .before .before .before .before)) at (c .before .before .if3 .left))

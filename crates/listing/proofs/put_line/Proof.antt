@@ -32,8 +32,7 @@ put-operands-requires : tie.Need-put-operands-requires
 put-operands-requires c κs =
     let decoded = c .before .before .before .before .before .before .before .before .before .before .before .before .before in
     let args = decoded .before .before .args in
-    let width = widthBy (args .wide) in
-    (
+    let width = widthBy (args .wide) in (
       omega arith,
       rw (decoded .decode .ensures) (operands-fit width (args .word)),
       ranges decoded .opcode,

@@ -72,8 +72,7 @@ loop-again c =
     let letter = valued .before .before .before .letter .result in
     let n = valued .value .result in
     let done = c .before .before .put-operand in
-    let m : done .result ≡ at-loop .at + length (operandPut letter n) = ap (λ (p : Placed). p .next) (done .ensures) in
-    (
+    let m : done .result ≡ at-loop .at + length (operandPut letter n) = ap (λ (p : Placed). p .next) (done .ensures) in (
       omega arith,
       (
         done .kept .0 ∙ at-loop .inv .1 .0,
