@@ -31,9 +31,10 @@ fn copy_with_faults(crate_root: &Path) {
         .collect();
 
     let mut text = String::new();
-    let mut table = String::from("pub const FAULTS: &[(&str, Run)] = &[\n");
+    let mut table = String::from("pub const FAULTS: &[Faulty] = &[\n");
     let unchanged = list::Fault {
         name: "none",
+        in_listing: false,
         changes: &[],
     };
     for (index, fault) in std::iter::once(&unchanged).chain(list::FAULTS).enumerate() {
@@ -62,7 +63,10 @@ fn copy_with_faults(crate_root: &Path) {
         }
         text += CALL;
         text += "}\n";
-        table += &format!("    ({:?}, fault_{index}::call),\n", fault.name);
+        table += &format!(
+            "    Faulty {{ name: {:?}, in_listing: {}, run: fault_{index}::call, listing: fault_{index}::listing }},\n",
+            fault.name, fault.in_listing
+        );
     }
     table += "];\n";
     let out = Path::new(&env::var("OUT_DIR").expect("cargo sets it")).join("copies.rs");

@@ -5,5 +5,17 @@ use coffee_reference::Answer;
 
 /// A run call: program, cells, image, requests, step limit, image buffer.
 type Run = fn(&[u8], &mut [u32], &[u8], &[u32], u32, &mut [u8]) -> Answer;
+/// A listing: program, width, text.
+type Listing = fn(&[u8], u32, &mut [u8]) -> u32;
+
+/// A copy of the reference.
+pub struct Faulty {
+    /// The fault's name, `none` for the copy without a fault.
+    pub name: &'static str,
+    /// Whether the fault is one of the listing.
+    pub in_listing: bool,
+    pub run: Run,
+    pub listing: Listing,
+}
 
 include!(concat!(env!("OUT_DIR"), "/copies.rs"));

@@ -392,8 +392,8 @@ mod tests {
         assert_eq!(found.difference, again.difference);
     }
 
-    /// The reference, but it also writes behind the lines.
-    fn writes_behind(program: &[u8], wide: u32, text: &mut [u8]) -> u32 {
+    /// The reference, but the last byte of a text becomes 0.
+    fn writes_last(program: &[u8], wide: u32, text: &mut [u8]) -> u32 {
         let answer = coffee_reference::listing(program, wide, text);
         if let (0, Some(last)) = (answer, text.last_mut()) {
             *last = 0;
@@ -405,8 +405,8 @@ mod tests {
     #[test]
     fn both_sides_wrong() {
         let sides = Sides {
-            reference: writes_behind,
-            library: writes_behind,
+            reference: writes_last,
+            library: writes_last,
         };
         let found = run(&OPTIONS, sides).found.expect("a difference");
         assert!(matches!(found.difference, Difference::Both(_)));
