@@ -7,11 +7,19 @@ pub struct Change {
     pub new: &'static str,
 }
 
+/// What has to show a fault. A copy has no more of the reference than this needs.
+#[derive(Clone, Copy, PartialEq, Eq)]
+pub enum ShownBy {
+    Calls,
+    Listings,
+    /// For the copy without a fault.
+    Both,
+}
+
 /// A fault: changes that belong together.
 pub struct Fault {
     pub name: &'static str,
-    /// Whether listings have to show it, not calls.
-    pub in_listing: bool,
+    pub shown_by: ShownBy,
     pub changes: &'static [Change],
 }
 
@@ -22,7 +30,7 @@ const fn change(file: &'static str, old: &'static str, new: &'static str) -> Cha
 const fn fault(name: &'static str, changes: &'static [Change]) -> Fault {
     Fault {
         name,
-        in_listing: false,
+        shown_by: ShownBy::Calls,
         changes,
     }
 }
@@ -30,7 +38,7 @@ const fn fault(name: &'static str, changes: &'static [Change]) -> Fault {
 const fn listing_fault(name: &'static str, changes: &'static [Change]) -> Fault {
     Fault {
         name,
-        in_listing: true,
+        shown_by: ShownBy::Listings,
         changes,
     }
 }
@@ -611,7 +619,7 @@ pub const FAULTS: &[Fault] = &[
     // Listings: addresses, words and columns.
     listing_fault("address counted in words", &[change("listing",
         "let address = number * word_bytes;", "let address = number;")]),
-    listing_fault("address of 16 bits repeated from 32,768 on", &[change("listing",
+    listing_fault("addresses from 32,768 on counted from 0 again", &[change("listing",
         "let address = number * word_bytes;", "let address = number * word_bytes & 0x7FFF;")]),
     listing_fault("low byte first", &[change("listing",
         "            .iter()\n            .fold(", "            .iter()\n            .rev()\n            .fold(")]),

@@ -12,10 +12,9 @@ type Listing = fn(&[u8], u32, &mut [u8]) -> u32;
 pub struct Faulty {
     /// The fault's name, `none` for the copy without a fault.
     pub name: &'static str,
-    /// Whether the fault is one of the listing.
-    pub in_listing: bool,
-    pub run: Run,
-    pub listing: Listing,
+    /// What is to show the fault. The copy without one has both.
+    pub run: Option<Run>,
+    pub listing: Option<Listing>,
 }
 
 include!(concat!(env!("OUT_DIR"), "/copies.rs"));

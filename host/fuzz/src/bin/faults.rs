@@ -5,7 +5,7 @@
 //! Prints for each fault the number of calls or of listed words after which it was found, and
 //! ends with 1 if one was not. With a name, prints that fault's difference in full.
 
-use coffee_faults::{Faulty, FAULTS};
+use coffee_faults::FAULTS;
 use coffee_fuzz::compare::Sides;
 use coffee_fuzz::listing;
 use coffee_fuzz::session::{self, Options};
@@ -60,12 +60,19 @@ fn main() -> ExitCode {
             continue;
         }
         tally.tried += 1;
-        // The copy without a fault has to agree on both.
-        if copy.in_listing || copy.name == "none" {
-            try_listings(copy, &options, name.is_some(), &mut tally);
+        if let Some(run) = copy.run {
+            let sides = Sides {
+                reference: coffee_reference::run,
+                library: run,
+            };
+            try_calls(copy.name, sides, &options, name.is_some(), &mut tally);
         }
-        if !copy.in_listing {
-            try_calls(copy, &options, name.is_some(), &mut tally);
+        if let Some(listing) = copy.listing {
+            let sides = listing::Sides {
+                reference: coffee_reference::listing,
+                library: listing,
+            };
+            try_listings(copy.name, sides, &options, name.is_some(), &mut tally);
         }
     }
     if tally.tried == 0 {
@@ -89,13 +96,8 @@ fn main() -> ExitCode {
 }
 
 /// Compares the run calls of a copy.
-fn try_calls(copy: &Faulty, options: &Options, in_full: bool, tally: &mut Tally) {
-    let fault = copy.name;
+fn try_calls(fault: &str, sides: Sides, options: &Options, in_full: bool, tally: &mut Tally) {
     let start = Instant::now();
-    let sides = Sides {
-        reference: coffee_reference::run,
-        library: copy.run,
-    };
     let mut options = options.clone();
     if fault == "none" {
         options.calls = options.calls.map(|calls| calls.min(UNCHANGED_CALLS));
@@ -132,13 +134,14 @@ fn try_calls(copy: &Faulty, options: &Options, in_full: bool, tally: &mut Tally)
 }
 
 /// Compares the listings of a copy.
-fn try_listings(copy: &Faulty, options: &Options, in_full: bool, tally: &mut Tally) {
-    let fault = copy.name;
+fn try_listings(
+    fault: &str,
+    sides: listing::Sides,
+    options: &Options,
+    in_full: bool,
+    tally: &mut Tally,
+) {
     let start = Instant::now();
-    let sides = listing::Sides {
-        reference: coffee_reference::listing,
-        library: copy.listing,
-    };
     let outcome = listing::run(options, sides);
     let seconds = start.elapsed().as_secs_f64();
     match &outcome.found {
