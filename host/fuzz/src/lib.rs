@@ -2,9 +2,9 @@
 //! random calls.
 //!
 //! 01 says what a run call is ("Machine image") and what it does ("One step"); 02 says what
-//! a listing is (wish 2). One side is
-//! the reference emulator of host/reference; the other is the proved library, or, to
-//! show that the comparison can fail, a faulty copy of the reference.
+//! a listing is (wish 2). One side is the reference emulator of host/reference; the other is
+//! the proved library, or, to show that the comparison can fail, a faulty copy of the
+//! reference.
 
 pub mod call;
 pub mod compare;

@@ -96,13 +96,15 @@ mod library {
     pub fn listing(program: &[u8], wide: u32, text: &mut [u8]) -> u32 {
         // Each pointer comes with the length of the slice that it is of; one of no bytes may
         // be null.
-        let program_start = match program.is_empty() {
-            true => std::ptr::null(),
-            false => program.as_ptr(),
+        let program_start = if program.is_empty() {
+            std::ptr::null()
+        } else {
+            program.as_ptr()
         };
-        let text_start = match text.is_empty() {
-            true => std::ptr::null_mut(),
-            false => text.as_mut_ptr(),
+        let text_start = if text.is_empty() {
+            std::ptr::null_mut()
+        } else {
+            text.as_mut_ptr()
         };
         unsafe { coffee_listing(program_start, program.len(), wide, text_start, text.len()) }
     }
@@ -113,9 +115,10 @@ static CURRENT_SEED: AtomicU64 = AtomicU64::new(0);
 
 /// The option that repeats what is being run, and its number.
 fn current() -> (&'static str, u64) {
-    let option = match CURRENT_IS_LISTING.load(Ordering::Relaxed) {
-        true => "--listing",
-        false => "--case",
+    let option = if CURRENT_IS_LISTING.load(Ordering::Relaxed) {
+        "--listing"
+    } else {
+        "--case"
     };
     (option, CURRENT_CASE.load(Ordering::Relaxed))
 }

@@ -82,16 +82,18 @@ fn main() -> ExitCode {
     println!(
         "faults: {} tried, {}, the latest found at call {} and at listing {}",
         tally.tried,
-        match tally.wrong {
-            0 => "all as they should be",
-            _ => "NOT all found",
+        if tally.wrong == 0 {
+            "all as they should be"
+        } else {
+            "NOT all found"
         },
         tally.latest_call,
         tally.latest_listing
     );
-    match tally.wrong {
-        0 => ExitCode::SUCCESS,
-        _ => ExitCode::FAILURE,
+    if tally.wrong == 0 {
+        ExitCode::SUCCESS
+    } else {
+        ExitCode::FAILURE
     }
 }
 

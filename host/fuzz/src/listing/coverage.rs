@@ -18,7 +18,7 @@ const TEXTS: [(Text, &str); 6] = [
     (Text::Empty, "empty"),
 ];
 /// Reasons for a refusal that stand together.
-const TOGETHER: [&str; 4] = ["1 and 16", "1 and 17", "16 and 17", "1, 16 and 17"];
+const TOGETHER: [&str; 4] = ["1 with 16", "1 with 17", "16 with 17", "all three"];
 /// The numbers that say the width, and any other.
 const WIDTHS: [(u32, &str); 5] = [
     (0, "0"),
@@ -189,7 +189,7 @@ impl Coverage {
             for (place, reasons) in TOGETHER.into_iter().enumerate() {
                 need(
                     self.together[width][place],
-                    format!("{name} listing refused for {reasons} at once"),
+                    format!("{name} listing with several reasons for a refusal, {reasons}"),
                 );
             }
             for (place, (_, text)) in TEXTS.into_iter().enumerate() {
@@ -273,7 +273,7 @@ impl Coverage {
             );
             line(
                 out,
-                &format!("{name} listings refused for several reasons"),
+                &format!("{name} listings with several reasons for a refusal"),
                 TOGETHER.iter().zip(&self.together[width]),
             );
             let kinds = TEXTS.iter().map(|(_, kind)| kind);
@@ -288,7 +288,7 @@ impl Coverage {
         put(
             out,
             format!(
-                "lines: 32-bit {}, with a condition {conditions}; 16-bit {}, of {different} words",
+                "lines: 32-bit {}, with a condition {conditions}; 16-bit {}, of {different} different words",
                 self.lines[1], self.lines[0]
             ),
         );

@@ -50,32 +50,27 @@ pub fn longest(random: &mut Random, input: &mut Input) {
 /// text, which often is too short.
 pub fn random_listing(random: &mut Random, input: &mut Input) {
     input.wide = match random.below(20) {
-        0..=3 => 0,
-        4..=10 => 1,
-        11 | 12 => 2,
-        13 | 14 => u32::MAX,
-        15 | 16 => 1 << random.below(32),
+        0..=6 => 0,
+        7..=11 => 1,
+        12 | 13 => 2,
+        14 | 15 => u32::MAX,
+        16 | 17 => 1 << random.below(32),
         _ => random.word().max(1),
     };
-    let word_bytes = words::bytes(input.is_wide()) as usize;
+    let word_bytes = words::bytes(input.is_wide());
     let length = match random.below(100) {
         0..=4 => 0,
-        5..=34 => word_bytes * random.range(1, 4) as usize,
-        35..=84 => word_bytes * random.range(1, 200) as usize,
-        85..=92 => word_bytes * random.range(200, 1000) as usize,
-        // No whole number of words, mostly.
-        93 => MEMORY_LIMIT + random.range(1, 8) as usize,
-        94 => MEMORY_LIMIT + 1,
-        // A whole number of words.
-        95 => MEMORY_LIMIT + word_bytes,
-        96 => MEMORY_LIMIT + word_bytes * random.range(1, 1000) as usize,
-        _ => word_bytes * random.below(4) as usize,
+        5..=34 => word_bytes * random.range(1, 4),
+        35..=83 => word_bytes * random.range(1, 200),
+        84..=91 => word_bytes * random.range(200, 1000),
+        _ => MEMORY_LIMIT as u32 + too_much(random, word_bytes),
     };
-    let ragged = match length <= 1000 * word_bytes && random.percent(12) {
-        true => random.range(1, word_bytes as u32 - 1) as usize,
-        false => 0,
+    let left_over = if length < MEMORY_LIMIT as u32 && random.percent(12) {
+        random.range(1, word_bytes - 1)
+    } else {
+        0
     };
-    fill_program(random, input, length + ragged);
+    fill_program(random, input, (length + left_over) as usize);
     let kind = match random.below(20) {
         0..=6 => Text::Exact,
         7..=13 => Text::Longer,
@@ -85,6 +80,16 @@ pub fn random_listing(random: &mut Random, input: &mut Input) {
         _ => Text::Empty,
     };
     lend(random, input, kind);
+}
+
+/// The bytes by which a program is too long: as often as not a whole number of words.
+fn too_much(random: &mut Random, word_bytes: u32) -> u32 {
+    match random.below(4) {
+        0 => 1,
+        1 => word_bytes,
+        2 => random.range(1, 8),
+        _ => random.range(1, 2000) * (word_bytes / 2),
+    }
 }
 
 /// Fills the program with this many bytes of words, the last of which may be cut off.

@@ -194,31 +194,29 @@ impl Bench {
                 input.refusal
             ));
         }
-        if answer != 0 {
-            return match self.text == input.text {
-                true => Ok(()),
-                false => Err("a refusal that changed the text".to_string()),
-            };
-        }
-        let end = input.words() * LINE;
+        // A refusal changes nothing.
+        let lines = if answer == 0 { input.words() } else { 0 };
+        let end = lines * LINE;
         if self.text[end..] != input.text[end..] {
-            return Err("bytes behind the lines changed".to_string());
+            return Err(format!(
+                "bytes behind {lines} lines changed, answer {answer}"
+            ));
         }
         let wide = input.is_wide();
         for (number, line) in self.text[..end].chunks_exact(LINE).enumerate() {
             let word = input_word(input, number);
             let address = number as u32 * words::bytes(wide);
             let operation = words::operation(word, wide);
-            let name = match !wide && words::only_wide(operation) {
-                true => "?",
-                false => NAMES[operation as usize],
+            let name = if !wide && words::only_wide(operation) {
+                "?"
+            } else {
+                NAMES[operation as usize]
             };
             let conditional = wide && word >> 25 & 1 == 1 && !words::never_conditional(operation);
+            let digits = if wide { 8 } else { 4 };
             let good = hex(&line[..8], address)
-                && match wide {
-                    true => hex(&line[9..17], word),
-                    false => hex(&line[9..13], word) && blank(&line[13..17]),
-                }
+                && hex(&line[9..9 + digits], word)
+                && blank(&line[9 + digits..17])
                 && [8, 17, 24, 33].iter().all(|&column| line[column] == b' ')
                 && blank(&line[18..24]) != conditional
                 && line[25..33].starts_with(name.as_bytes())
