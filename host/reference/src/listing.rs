@@ -21,7 +21,8 @@ pub fn listing(program: &[u8], wide: u32, text: &mut [u8]) -> u32 {
     if program.len() > PROGRAM_LIMIT {
         return 1;
     }
-    if program.len() % word_bytes != 0 {
+    let left_over = program.len() % word_bytes;
+    if left_over > 0 {
         return 16;
     }
     let words = program.len() / word_bytes;

@@ -104,7 +104,8 @@ impl Coverage {
             self.answers[width][place] += 1;
         }
         let long = length > MEMORY_LIMIT;
-        let ragged = length % word_bytes != 0;
+        let left_over = length % word_bytes;
+        let ragged = left_over > 0;
         let short = input.text.len() < input.words() * LINE;
         let place = match (long, ragged, short) {
             (true, true, false) => Some(0),
@@ -117,7 +118,7 @@ impl Coverage {
             self.together[width][place] += 1;
         }
         if !long && ragged {
-            self.left_over[width][length % word_bytes] += 1;
+            self.left_over[width][left_over] += 1;
         }
         self.one_byte_more[width] += u64::from(length == MEMORY_LIMIT + 1);
         self.one_word_more[width] += u64::from(length == MEMORY_LIMIT + word_bytes);

@@ -128,10 +128,10 @@ fn lend(random: &mut Random, input: &mut Input, kind: Text) {
     };
     fill_bytes(random, &mut input.text, length);
     input.kind = kind;
-    let word_bytes = words::bytes(input.is_wide()) as usize;
+    let left_over = input.program.len() % words::bytes(input.is_wide()) as usize;
     input.refusal = if input.program.len() > MEMORY_LIMIT {
         1
-    } else if input.program.len() % word_bytes != 0 {
+    } else if left_over > 0 {
         16
     } else if length < exact {
         17
