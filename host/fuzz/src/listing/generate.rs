@@ -62,10 +62,12 @@ pub fn random_listing(random: &mut Random, input: &mut Input) {
         0..=4 => 0,
         5..=34 => word_bytes * random.range(1, 4),
         35..=83 => word_bytes * random.range(1, 200),
-        84..=91 => word_bytes * random.range(200, 1000),
+        84..=90 => word_bytes * random.range(200, 1000),
+        // As long as can be, or a little less.
+        91 => MEMORY_LIMIT as u32 - random.below(2 * word_bytes),
         _ => MEMORY_LIMIT as u32 + too_much(random, word_bytes),
     };
-    let left_over = if length < MEMORY_LIMIT as u32 && random.percent(12) {
+    let left_over = if length < MEMORY_LIMIT as u32 / 2 && random.percent(12) {
         random.range(1, word_bytes - 1)
     } else {
         0
