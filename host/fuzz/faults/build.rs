@@ -6,6 +6,8 @@ use std::{env, fs};
 #[path = "list.rs"]
 mod list;
 
+use list::ShownBy;
+
 fn main() {
     println!("cargo:rerun-if-changed=build.rs");
     println!("cargo:rerun-if-changed=list.rs");
@@ -31,9 +33,10 @@ fn copy_with_faults(crate_root: &Path) {
         .collect();
 
     let mut text = String::new();
-    let mut table = String::from("pub const FAULTS: &[(&str, Run)] = &[\n");
+    let mut table = String::from("pub const FAULTS: &[Faulty] = &[\n");
     let unchanged = list::Fault {
         name: "none",
+        shown_by: ShownBy::Both,
         changes: &[],
     };
     for (index, fault) in std::iter::once(&unchanged).chain(list::FAULTS).enumerate() {
@@ -50,19 +53,50 @@ fn copy_with_faults(crate_root: &Path) {
             }
             source.replace("crate::", "super::").replace("//!", "//")
         };
+        // Calls need no listing; a listing needs decoding, and of lib.rs the constants.
+        let takes_module = |name: &str| match fault.shown_by {
+            ShownBy::Calls => name != "listing",
+            ShownBy::Listings => matches!(name, "listing" | "decode"),
+            ShownBy::Both => true,
+        };
+        let takes_line = |line: &str| match fault.shown_by {
+            ShownBy::Calls => line != "pub use listing::listing;",
+            ShownBy::Listings => line.starts_with("const ") || line == "pub use listing::listing;",
+            ShownBy::Both => true,
+        };
+        for change in fault.changes {
+            assert!(
+                change.file == "lib" || takes_module(change.file),
+                "fault '{}': its copy has no {}.rs",
+                fault.name,
+                change.file
+            );
+        }
         text += &format!("#[allow(warnings, clippy::all)]\nmod fault_{index} {{\n");
         for line in changed("lib").lines() {
-            if !line.starts_with("mod ") && !line.starts_with("#[cfg(test)]") {
+            let left_out = line.starts_with("mod ") || line.starts_with("#[cfg(test)]");
+            if !left_out && takes_line(line) {
                 text += line;
                 text.push('\n');
             }
         }
-        for name in &modules {
+        for name in modules.iter().filter(|name| takes_module(name)) {
             text += &format!("mod {name} {{\n{}}}\n", changed(name));
         }
-        text += CALL;
+        let mut run = String::from("None");
+        if fault.shown_by != ShownBy::Listings {
+            text += CALL;
+            run = format!("Some(fault_{index}::call)");
+        }
+        let mut listing = String::from("None");
+        if fault.shown_by != ShownBy::Calls {
+            listing = format!("Some(fault_{index}::listing)");
+        }
         text += "}\n";
-        table += &format!("    ({:?}, fault_{index}::call),\n", fault.name);
+        table += &format!(
+            "    Faulty {{ name: {:?}, run: {run}, listing: {listing} }},\n",
+            fault.name
+        );
     }
     table += "];\n";
     let out = Path::new(&env::var("OUT_DIR").expect("cargo sets it")).join("copies.rs");

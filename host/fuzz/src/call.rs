@@ -275,7 +275,7 @@ impl Default for Generator {
 }
 
 /// Replaces `bytes` by this many random ones.
-fn fill_bytes(random: &mut Random, bytes: &mut Vec<u8>, length: usize) {
+pub fn fill_bytes(random: &mut Random, bytes: &mut Vec<u8>, length: usize) {
     bytes.clear();
     while bytes.len() < length {
         bytes.extend_from_slice(&random.bits().to_le_bytes());

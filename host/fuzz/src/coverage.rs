@@ -574,13 +574,13 @@ impl Default for Coverage {
     }
 }
 
-fn put(text: &mut String, line: String) {
+pub fn put(text: &mut String, line: String) {
     text.push_str(&line);
     text.push('\n');
 }
 
 /// One line of counts with their names.
-fn line<'a, N: std::fmt::Display>(
+pub fn line<'a, N: std::fmt::Display>(
     text: &mut String,
     title: &str,
     counts: impl IntoIterator<Item = (N, &'a u64)>,

@@ -1,13 +1,17 @@
-//! `fuzz [--seed N] [--calls N] [--seconds N] [--case N]`: compares the COFFEE library
-//! with the reference emulator on seeded random calls.
+//! `fuzz [--seed N] [--calls N] [--seconds N] [--case N] [--words N] [--listing N]`: compares
+//! the COFFEE library with the reference emulator on every 16-bit word and on random 32-bit
+//! words, listed, and on seeded random calls.
 //!
-//! Prints what the calls met, and at the end `fuzz: N calls, no difference`; or the
-//! first difference, with everything that is needed to repeat it, and ends with 1. It
-//! ends with 1 too where 2,000,000 calls or more did not meet all that they should.
+//! Prints what the listings and the calls met, `fuzz: N 32-bit words and N 16-bit words
+//! listed, no difference`, and at the end `fuzz: N calls, no difference`; or the first
+//! difference, with everything that is needed to repeat it, and ends with 1. It ends with 1
+//! too where 200,000 32-bit words or more, or 2,000,000 calls or more, did not meet all that
+//! they should.
 
 use coffee_fuzz::compare::Sides;
 use coffee_fuzz::image::LONGEST;
-use coffee_fuzz::session::{self, Options, CURRENT_CASE};
+use coffee_fuzz::listing;
+use coffee_fuzz::session::{self, Options, CURRENT_CASE, CURRENT_IS_LISTING};
 use std::process::ExitCode;
 use std::sync::atomic::{AtomicU64, Ordering};
 use std::time::Instant;
@@ -15,6 +19,7 @@ use std::time::Instant;
 /// The usual session: about a minute.
 const SEED: u64 = 1;
 const CALLS: u64 = 2_000_000;
+const WORDS: u64 = 200_000;
 
 mod library {
     //! The C interface of libcoffee.a.
@@ -43,6 +48,13 @@ mod library {
             buffer_len: usize,
         ) -> CoffeeAnswer;
         fn coffee_reset(buffer: *mut u8, buffer_len: usize) -> u32;
+        fn coffee_listing(
+            program: *const u8,
+            program_bytes: usize,
+            wide: u32,
+            text: *mut u8,
+            text_bytes: usize,
+        ) -> u32;
     }
 
     pub fn run(
@@ -80,10 +92,36 @@ mod library {
         // The pointer comes with the length of the slice that it is of.
         unsafe { coffee_reset(buffer.as_mut_ptr(), buffer.len()) }
     }
+
+    pub fn listing(program: &[u8], wide: u32, text: &mut [u8]) -> u32 {
+        // Each pointer comes with the length of the slice that it is of; one of no bytes may
+        // be null.
+        let program_start = if program.is_empty() {
+            std::ptr::null()
+        } else {
+            program.as_ptr()
+        };
+        let text_start = if text.is_empty() {
+            std::ptr::null_mut()
+        } else {
+            text.as_mut_ptr()
+        };
+        unsafe { coffee_listing(program_start, program.len(), wide, text_start, text.len()) }
+    }
 }
 
 /// The seed, for a message where the process ends by a panic or a signal.
 static CURRENT_SEED: AtomicU64 = AtomicU64::new(0);
+
+/// The option that repeats what is being run, and its number.
+fn current() -> (&'static str, u64) {
+    let option = if CURRENT_IS_LISTING.load(Ordering::Relaxed) {
+        "--listing"
+    } else {
+        "--case"
+    };
+    (option, CURRENT_CASE.load(Ordering::Relaxed))
+}
 
 /// Sees to it that the seed and the case are told where the process ends early.
 fn watch(seed: u64) {
@@ -91,8 +129,8 @@ fn watch(seed: u64) {
     let usual = std::panic::take_hook();
     std::panic::set_hook(Box::new(move |panic| {
         usual(panic);
-        let case = CURRENT_CASE.load(Ordering::Relaxed);
-        eprintln!("fuzz: panic; repeat with --seed {seed} --case {case}");
+        let (option, case) = current();
+        eprintln!("fuzz: panic; repeat with --seed {seed} {option} {case}");
     }));
     #[cfg(target_os = "linux")]
     signals::watch();
@@ -115,12 +153,12 @@ mod signals {
 
     extern "C" fn report(number: i32) {
         let seed = CURRENT_SEED.load(Ordering::Relaxed);
-        let case = CURRENT_CASE.load(Ordering::Relaxed);
+        let (option, case) = current();
         let mut line = [0; 100];
         let mut rest = &mut line[..];
         let _ = writeln!(
             rest,
-            "fuzz: signal {number}; repeat with --seed {seed} --case {case}"
+            "fuzz: signal {number}; repeat with --seed {seed} {option} {case}"
         );
         let unused = rest.len();
         let _ = std::io::stderr().write_all(&line[..line.len() - unused]);
@@ -140,12 +178,16 @@ fn main() -> ExitCode {
         calls: Some(CALLS),
         seconds: None,
         case: None,
+        words: WORDS,
+        listing: None,
     };
     let options = match session::options(usual, std::env::args().skip(1)) {
         Ok(options) => options,
         Err(message) => {
             eprintln!("fuzz: {message}");
-            eprintln!("fuzz [--seed N] [--calls N] [--seconds N] [--case N]");
+            eprintln!(
+                "fuzz [--seed N] [--calls N] [--seconds N] [--case N] [--words N] [--listing N]"
+            );
             return ExitCode::from(2);
         }
     };
@@ -154,6 +196,12 @@ fn main() -> ExitCode {
     if let Err(message) = compare_reset() {
         println!("{message}");
         return ExitCode::FAILURE;
+    }
+    if options.case.is_none() && !compare_listings(&options) {
+        return ExitCode::FAILURE;
+    }
+    if options.listing.is_some() {
+        return ExitCode::SUCCESS;
     }
     let start = Instant::now();
     let sides = Sides {
@@ -187,6 +235,42 @@ fn main() -> ExitCode {
         return ExitCode::FAILURE;
     }
     ExitCode::SUCCESS
+}
+
+/// Compares listings, prints what they met, and says whether all is as it should be.
+fn compare_listings(options: &Options) -> bool {
+    let start = Instant::now();
+    let sides = listing::Sides {
+        reference: coffee_reference::listing,
+        library: library::listing,
+    };
+    let outcome = listing::run(options, sides);
+    let coverage = &outcome.coverage;
+    println!(
+        "seed {}: {} listings, {:.1} s",
+        options.seed,
+        coverage.listings,
+        start.elapsed().as_secs_f64()
+    );
+    print!("{}", coverage.report());
+    if let Some(found) = &outcome.found {
+        print!("{}", listing::explain(found));
+        return false;
+    }
+    let unmet = match options.listing {
+        Some(_) => Vec::new(),
+        None => coverage.unmet(),
+    };
+    for what in &unmet {
+        println!("not met: {what}");
+    }
+    let [short, wide] = coverage.lines;
+    println!("fuzz: {wide} 32-bit words and {short} 16-bit words listed, no difference");
+    if wide >= WORDS && !unmet.is_empty() {
+        println!("fuzz: failed, for these listings should have met all");
+        return false;
+    }
+    true
 }
 
 /// Compares reset on buffers of every length around the least, 708.

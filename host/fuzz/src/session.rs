@@ -5,7 +5,7 @@ use crate::compare::{Bench, Difference, Sides};
 use crate::coverage::{Coverage, Tracer};
 use crate::random::Random;
 use crate::shrink::{describe, shrink};
-use std::sync::atomic::{AtomicU64, Ordering};
+use std::sync::atomic::{AtomicBool, AtomicU64, Ordering};
 use std::time::{Duration, Instant};
 
 /// One call in this many is repeated step by step.
@@ -13,8 +13,9 @@ const TRACED: u32 = 8;
 /// A case has at most this many calls.
 const LONGEST_LIST: u32 = 10;
 
-/// The case that is being run, for a message where the process ends early.
+/// The case that is being run, or the listing, for a message where the process ends early.
 pub static CURRENT_CASE: AtomicU64 = AtomicU64::new(0);
+pub static CURRENT_IS_LISTING: AtomicBool = AtomicBool::new(false);
 
 /// What a session is to do.
 #[derive(Clone, Debug)]
@@ -24,8 +25,12 @@ pub struct Options {
     pub calls: Option<u64>,
     /// The seconds after which no new case starts.
     pub seconds: Option<u64>,
-    /// Only this case.
+    /// Only this case, and no listing.
     pub case: Option<u64>,
+    /// The number of 32-bit words after which no new listing starts.
+    pub words: u64,
+    /// Only this listing, and no case.
+    pub listing: Option<u64>,
 }
 
 /// A difference and where it was found.
@@ -61,6 +66,7 @@ pub fn run(options: &Options, sides: Sides) -> Outcome {
     let mut found = None;
     let mut case = options.case.unwrap_or(0);
     loop {
+        CURRENT_IS_LISTING.store(false, Ordering::Relaxed);
         CURRENT_CASE.store(case, Ordering::Relaxed);
         let mut random = Random::of_case(options.seed, case);
         if let Err((difference, stepwise)) = session.case(&mut random) {
@@ -206,6 +212,8 @@ pub fn options(
         match name.as_str() {
             "--seed" => options.seed = value,
             "--case" => options.case = Some(value),
+            "--words" => options.words = value,
+            "--listing" => options.listing = Some(value),
             "--calls" | "--seconds" => {
                 // A limit that is given replaces the usual ones.
                 if !limited {
@@ -235,6 +243,8 @@ mod tests {
         calls: Some(3000),
         seconds: None,
         case: None,
+        words: 0,
+        listing: None,
     };
 
     /// The reference agrees with itself, and a session can be repeated.

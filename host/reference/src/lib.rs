@@ -1,12 +1,13 @@
 //! A reference emulator of the COFFEE core, to compare other implementations with.
 //!
-//! It is written from three papers alone: 02 (the change requests, of which wishes 1 and 3
+//! It is written from three papers alone: 02 (the change requests, of which wishes 1 to 3
 //! are done), 01 (the board's rules) and 002 (the COFFEE Core user manual, July 2007). Where
 //! they differ, 02 decides, then 01. It is meant to be read beside them, and puts clarity
 //! before speed.
 
 mod decode;
 mod image;
+mod listing;
 mod machine;
 mod step;
 
@@ -15,6 +16,8 @@ mod tests;
 
 use image::{write_image, Sections, LONGEST_IMAGE};
 use machine::Machine;
+
+pub use listing::listing;
 
 /// "Program at most 65,536 bytes"
 const PROGRAM_LIMIT: usize = 65_536;

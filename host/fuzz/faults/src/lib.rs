@@ -5,5 +5,16 @@ use coffee_reference::Answer;
 
 /// A run call: program, cells, image, requests, step limit, image buffer.
 type Run = fn(&[u8], &mut [u32], &[u8], &[u32], u32, &mut [u8]) -> Answer;
+/// A listing: program, width, text.
+type Listing = fn(&[u8], u32, &mut [u8]) -> u32;
+
+/// A copy of the reference.
+pub struct Faulty {
+    /// The fault's name, `none` for the copy without a fault.
+    pub name: &'static str,
+    /// What is to show the fault. The copy without one has both.
+    pub run: Option<Run>,
+    pub listing: Option<Listing>,
+}
 
 include!(concat!(env!("OUT_DIR"), "/copies.rs"));

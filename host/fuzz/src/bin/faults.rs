@@ -1,12 +1,13 @@
-//! `faults [--seed N] [--calls N] [--seconds N] [NAME]`: shows that the comparison can
-//! fail. Each fault of faults/list.rs is put into a copy of the reference, alone; the copy
-//! is compared with the reference as the library would be.
+//! `faults [--seed N] [--calls N] [--seconds N] [--words N] [NAME]`: shows that the comparison
+//! can fail. Each fault of faults/list.rs is put into a copy of the reference, alone; the copy
+//! is compared with the reference as the library would be, by calls or by listings.
 //!
-//! Prints for each fault the number of calls after which it was found, and ends with 1
-//! if one was not. With a name, prints that fault's difference in full.
+//! Prints for each fault the number of calls or of listed words after which it was found, and
+//! ends with 1 if one was not. With a name, prints that fault's difference in full.
 
 use coffee_faults::FAULTS;
 use coffee_fuzz::compare::Sides;
+use coffee_fuzz::listing;
 use coffee_fuzz::session::{self, Options};
 use std::process::ExitCode;
 use std::time::Instant;
@@ -16,6 +17,20 @@ const SEED: u64 = 1;
 const CALLS: u64 = 300_000;
 /// The copy without a fault has to agree on this many calls.
 const UNCHANGED_CALLS: u64 = 20_000;
+/// A fault of the listing has to be found within this many 32-bit words, on which the copy
+/// without a fault has to agree.
+const WORDS: u64 = 200_000;
+
+/// What the faults came to.
+#[derive(Default)]
+struct Tally {
+    tried: u64,
+    /// Those that were not as they should be.
+    wrong: u64,
+    /// The latest call and listing at which one was found.
+    latest_call: u64,
+    latest_listing: u64,
+}
 
 fn main() -> ExitCode {
     let usual = Options {
@@ -23,6 +38,8 @@ fn main() -> ExitCode {
         calls: Some(CALLS),
         seconds: None,
         case: None,
+        words: WORDS,
+        listing: None,
     };
     let mut arguments: Vec<String> = std::env::args().skip(1).collect();
     let name = match arguments.len() % 2 {
@@ -33,74 +50,126 @@ fn main() -> ExitCode {
         Ok(options) => options,
         Err(message) => {
             eprintln!("faults: {message}");
-            eprintln!("faults [--seed N] [--calls N] [--seconds N] [NAME]");
+            eprintln!("faults [--seed N] [--calls N] [--seconds N] [--words N] [NAME]");
             return ExitCode::from(2);
         }
     };
-    let mut good = true;
-    let mut most = 0;
-    let mut tried = 0;
-    for &(fault, copy) in FAULTS {
-        if name.as_deref().is_some_and(|name| name != fault) {
+    let mut tally = Tally::default();
+    for copy in FAULTS {
+        if name.as_deref().is_some_and(|name| name != copy.name) {
             continue;
         }
-        tried += 1;
-        let start = Instant::now();
-        let sides = Sides {
-            reference: coffee_reference::run,
-            library: copy,
-        };
-        let mut options = options.clone();
-        if fault == "none" {
-            options.calls = options.calls.map(|calls| calls.min(UNCHANGED_CALLS));
+        tally.tried += 1;
+        if let Some(run) = copy.run {
+            let sides = Sides {
+                reference: coffee_reference::run,
+                library: run,
+            };
+            try_calls(copy.name, sides, &options, name.is_some(), &mut tally);
         }
-        let outcome = session::run(&options, sides);
-        let seconds = start.elapsed().as_secs_f64();
-        match &outcome.found {
-            Some(found) => {
-                println!(
-                    "{fault}: found at call {}{} ({seconds:.2} s)",
-                    found.call,
-                    if found.stepwise { ", step by step" } else { "" }
-                );
-                most = most.max(found.call);
-                // The copy without a fault has to agree.
-                good &= fault != "none";
-                if name.is_some() || fault == "none" {
-                    print!("{}", session::explain(found, sides));
-                }
-            }
-            None => {
-                println!(
-                    "{fault}: no difference in {} calls ({seconds:.2} s)",
-                    outcome.coverage.calls
-                );
-                good &= fault == "none";
-                if fault == "none" && name.is_some() {
-                    print!("{}", outcome.coverage.report());
-                    for what in outcome.coverage.unmet() {
-                        println!("not met: {what}");
-                    }
-                }
-            }
+        if let Some(listing) = copy.listing {
+            let sides = listing::Sides {
+                reference: coffee_reference::listing,
+                library: listing,
+            };
+            try_listings(copy.name, sides, &options, name.is_some(), &mut tally);
         }
     }
-    if tried == 0 {
+    if tally.tried == 0 {
         eprintln!("faults: no such fault");
         return ExitCode::from(2);
     }
     println!(
-        "faults: {} tried, {}, the latest found at call {most}",
-        tried,
-        if good {
+        "faults: {} tried, {}, the latest found at call {} and at listing {}",
+        tally.tried,
+        if tally.wrong == 0 {
             "all as they should be"
         } else {
             "NOT all found"
-        }
+        },
+        tally.latest_call,
+        tally.latest_listing
     );
-    if good {
+    if tally.wrong == 0 {
         ExitCode::SUCCESS
     } else {
         ExitCode::FAILURE
+    }
+}
+
+/// Compares the run calls of a copy.
+fn try_calls(fault: &str, sides: Sides, options: &Options, in_full: bool, tally: &mut Tally) {
+    let start = Instant::now();
+    let mut options = options.clone();
+    if fault == "none" {
+        options.calls = options.calls.map(|calls| calls.min(UNCHANGED_CALLS));
+    }
+    let outcome = session::run(&options, sides);
+    let seconds = start.elapsed().as_secs_f64();
+    match &outcome.found {
+        Some(found) => {
+            println!(
+                "{fault}: found at call {}{} ({seconds:.2} s)",
+                found.call,
+                if found.stepwise { ", step by step" } else { "" }
+            );
+            tally.latest_call = tally.latest_call.max(found.call);
+            tally.wrong += u64::from(fault == "none");
+            if in_full || fault == "none" {
+                print!("{}", session::explain(found, sides));
+            }
+        }
+        None => {
+            println!(
+                "{fault}: no difference in {} calls ({seconds:.2} s)",
+                outcome.coverage.calls
+            );
+            tally.wrong += u64::from(fault != "none");
+            if fault == "none" && in_full {
+                print!("{}", outcome.coverage.report());
+                for what in outcome.coverage.unmet() {
+                    println!("not met: {what}");
+                }
+            }
+        }
+    }
+}
+
+/// Compares the listings of a copy.
+fn try_listings(
+    fault: &str,
+    sides: listing::Sides,
+    options: &Options,
+    in_full: bool,
+    tally: &mut Tally,
+) {
+    let start = Instant::now();
+    let outcome = listing::run(options, sides);
+    let seconds = start.elapsed().as_secs_f64();
+    match &outcome.found {
+        Some(found) => {
+            println!(
+                "{fault}: found at listing {}, after {} words ({seconds:.2} s)",
+                found.listing, found.words
+            );
+            tally.latest_listing = tally.latest_listing.max(found.listing);
+            tally.wrong += u64::from(fault == "none");
+            if in_full || fault == "none" {
+                print!("{}", listing::explain(found));
+            }
+        }
+        None => {
+            println!(
+                "{fault}: no difference in {} listed words ({seconds:.2} s)",
+                outcome.coverage.words()
+            );
+            tally.wrong += u64::from(fault != "none");
+            if fault == "none" && in_full {
+                print!("{}", outcome.coverage.report());
+                for what in outcome.coverage.unmet() {
+                    println!("not met: {what}");
+                }
+            }
+        }
     }
 }

@@ -7,6 +7,7 @@ mod exceptions;
 mod fields;
 mod images;
 mod interrupts;
+mod listing;
 mod operations;
 mod random;
 mod transfers;

@@ -1,0 +1,412 @@
+//! Listings (02, wish 2: the program on paper) on both sides, and everything that they may
+//! touch; and a session of them.
+
+mod coverage;
+mod generate;
+
+use crate::random::Random;
+use crate::session::{Options, CURRENT_CASE, CURRENT_IS_LISTING};
+use crate::words::{self, word_at, NAMES};
+pub use coverage::Coverage;
+pub use generate::{every_short_word, longest, random_listing, Text};
+use std::fmt;
+use std::sync::atomic::Ordering;
+
+/// "each instruction a line of exactly 47 characters and a newline"
+pub const LINE: usize = 48;
+
+/// A listing: program, width (0 for 16-bit words, any other number for 32-bit words), text.
+pub type Listing = fn(&[u8], u32, &mut [u8]) -> u32;
+
+/// The two sides that are compared.
+#[derive(Clone, Copy)]
+pub struct Sides {
+    pub reference: Listing,
+    pub library: Listing,
+}
+
+/// Everything that a listing lends or gives, and what the generator knows of its answer.
+#[derive(Clone, Default)]
+pub struct Input {
+    pub program: Vec<u8>,
+    pub wide: u32,
+    pub text: Vec<u8>,
+    /// How the text was chosen.
+    pub kind: Text,
+    pub refusal: u32,
+}
+
+impl Input {
+    /// Whether the words have 32 bits.
+    pub fn is_wide(&self) -> bool {
+        self.wide != 0
+    }
+
+    /// The number of whole words of the program.
+    pub fn words(&self) -> usize {
+        self.program.len() / words::bytes(self.is_wide()) as usize
+    }
+}
+
+/// Bytes before and behind the lent ones, which nobody may touch.
+const GUARD_BYTES: usize = 64;
+const GUARD_BYTE: u8 = 0xA5;
+
+/// What differs after a listing.
+#[derive(Clone, Debug, PartialEq, Eq)]
+pub enum Difference {
+    Answer {
+        reference: u32,
+        library: u32,
+    },
+    Line {
+        number: usize,
+        word: u32,
+        reference: String,
+        library: String,
+    },
+    /// A byte that is of no line.
+    Byte {
+        index: usize,
+        before: u8,
+        reference: u8,
+        library: u8,
+    },
+    /// The library wrote to memory that was lent to be read, or not lent at all.
+    Stray(&'static str),
+    /// Both sides answer alike, and not as the papers say.
+    Both(String),
+}
+
+impl fmt::Display for Difference {
+    fn fmt(&self, f: &mut fmt::Formatter<'_>) -> fmt::Result {
+        match self {
+            Difference::Answer { reference, library } => {
+                write!(f, "answer: reference {reference}, library {library}")
+            }
+            Difference::Line {
+                number,
+                word,
+                reference,
+                library,
+            } => write!(
+                f,
+                "line {number} of word {word:X}:\n  reference {reference:?}\n  library   {library:?}"
+            ),
+            Difference::Byte {
+                index,
+                before,
+                reference,
+                library,
+            } => write!(
+                f,
+                "text byte {index}, of no line: before {before:02X}, reference {reference:02X}, library {library:02X}"
+            ),
+            Difference::Stray(place) => write!(f, "the library wrote to {place}"),
+            Difference::Both(what) => write!(f, "both sides: {what}"),
+        }
+    }
+}
+
+/// Memory for both sides, used again for every listing.
+#[derive(Default)]
+pub struct Bench {
+    /// What the reference leaves.
+    text: Vec<u8>,
+    /// The library's, between guards.
+    library_text: Vec<u8>,
+    /// The library's copy of what it may only read.
+    program: Vec<u8>,
+}
+
+impl Bench {
+    /// Calls both sides and compares the answers and the whole texts.
+    pub fn compare(&mut self, input: &Input, sides: Sides) -> Result<u32, Difference> {
+        self.text.clone_from(&input.text);
+        self.library_text.clear();
+        self.library_text
+            .extend_from_slice(&[GUARD_BYTE; GUARD_BYTES]);
+        self.library_text.extend_from_slice(&input.text);
+        self.library_text
+            .extend_from_slice(&[GUARD_BYTE; GUARD_BYTES]);
+        self.program.clone_from(&input.program);
+
+        let reference = (sides.reference)(&input.program, input.wide, &mut self.text);
+        let end = GUARD_BYTES + input.text.len();
+        let library = (sides.library)(
+            &self.program,
+            input.wide,
+            &mut self.library_text[GUARD_BYTES..end],
+        );
+        if reference != library {
+            return Err(Difference::Answer { reference, library });
+        }
+        let library_text = &self.library_text[GUARD_BYTES..end];
+        if self.text != library_text {
+            return Err(self.text_difference(input, library_text, reference));
+        }
+        let good = |byte: &u8| *byte == GUARD_BYTE;
+        if self.program != input.program {
+            return Err(Difference::Stray("the program"));
+        }
+        if !self.library_text[..GUARD_BYTES].iter().all(good) {
+            return Err(Difference::Stray("memory before the text"));
+        }
+        if !self.library_text[end..].iter().all(good) {
+            return Err(Difference::Stray("memory behind the text"));
+        }
+        self.as_promised(input, reference)
+            .map_err(Difference::Both)?;
+        Ok(reference)
+    }
+
+    /// Where the texts differ first.
+    fn text_difference(&self, input: &Input, library: &[u8], answer: u32) -> Difference {
+        let same = |(a, b): &(&u8, &u8)| a == b;
+        let index = self.text.iter().zip(library).take_while(same).count();
+        let number = index / LINE;
+        if answer != 0 || number >= input.words() {
+            return Difference::Byte {
+                index,
+                before: input.text[index],
+                reference: self.text[index],
+                library: library[index],
+            };
+        }
+        let line = |text: &[u8]| {
+            String::from_utf8_lossy(&text[number * LINE..number * LINE + LINE]).into_owned()
+        };
+        Difference::Line {
+            number,
+            word: input_word(input, number),
+            reference: line(&self.text),
+            library: line(library),
+        }
+    }
+
+    /// What can be said of every answer without knowing the operands: a refusal is the one
+    /// that the generator meant, and changes nothing; otherwise bytes behind the lines stay,
+    /// and each line has its address, word and name, and a condition only where one can be.
+    fn as_promised(&self, input: &Input, answer: u32) -> Result<(), String> {
+        if answer != input.refusal {
+            return Err(format!(
+                "answer {answer} where the generator meant {}",
+                input.refusal
+            ));
+        }
+        // A refusal changes nothing.
+        let lines = if answer == 0 { input.words() } else { 0 };
+        let end = lines * LINE;
+        if self.text[end..] != input.text[end..] {
+            return Err(format!(
+                "bytes behind {lines} lines changed, answer {answer}"
+            ));
+        }
+        let wide = input.is_wide();
+        for (number, line) in self.text[..end].chunks_exact(LINE).enumerate() {
+            let word = input_word(input, number);
+            let address = number as u32 * words::bytes(wide);
+            let operation = words::operation(word, wide);
+            let name = if !wide && words::only_wide(operation) {
+                "?"
+            } else {
+                NAMES[operation as usize]
+            };
+            let conditional = wide && word >> 25 & 1 == 1 && !words::never_conditional(operation);
+            let digits = if wide { 8 } else { 4 };
+            let good = hex(&line[..8], address)
+                && hex(&line[9..9 + digits], word)
+                && blank(&line[9 + digits..17])
+                && [8, 17, 24, 33].iter().all(|&column| line[column] == b' ')
+                && blank(&line[18..24]) != conditional
+                && line[25..33].starts_with(name.as_bytes())
+                && blank(&line[25 + name.len()..33])
+                && (name != "?" || blank(&line[34..47]))
+                && line[..47].iter().all(|byte| (b' '..=b'~').contains(byte))
+                && line[47] == b'\n';
+            if !good {
+                let line = String::from_utf8_lossy(line);
+                return Err(format!("word {word:X} at {address:X} gives {line:?}"));
+            }
+        }
+        Ok(())
+    }
+}
+
+/// A word of the program, which is there.
+fn input_word(input: &Input, number: usize) -> u32 {
+    let wide = input.is_wide();
+    let address = number as u32 * words::bytes(wide);
+    word_at(&input.program, address, wide).unwrap_or_default()
+}
+
+/// Whether all bytes are blanks.
+fn blank(bytes: &[u8]) -> bool {
+    bytes.iter().all(|&byte| byte == b' ')
+}
+
+/// Whether these are the last digits of a number, in capitals.
+fn hex(digits: &[u8], number: u32) -> bool {
+    let places = digits.iter().rev().enumerate();
+    places
+        .map(|(place, digit)| (number >> (4 * place) & 15, digit))
+        .all(|(value, &digit)| digit == b"0123456789ABCDEF"[value as usize])
+}
+
+/// A difference and where it was found.
+pub struct Found {
+    pub difference: Difference,
+    pub seed: u64,
+    /// The number of the listing in the session, from 0.
+    pub listing: u64,
+    /// The words that were listed before it.
+    pub words: u64,
+    pub input: Input,
+}
+
+/// What a session came to.
+pub struct Outcome {
+    pub coverage: Coverage,
+    pub found: Option<Found>,
+}
+
+/// Lists every 16-bit word, the longest program of 32-bit words, and then random programs,
+/// until a difference or the number of 32-bit words that the options give.
+pub fn run(options: &Options, sides: Sides) -> Outcome {
+    let mut coverage = Coverage::new();
+    let mut bench = Bench::default();
+    let mut input = Input::default();
+    let mut found = None;
+    let mut listing = options.listing.unwrap_or(0);
+    loop {
+        CURRENT_IS_LISTING.store(true, Ordering::Relaxed);
+        CURRENT_CASE.store(listing, Ordering::Relaxed);
+        let mut random = Random::of_case(options.seed, listing);
+        match listing {
+            0 | 1 => every_short_word(options.seed, listing, &mut random, &mut input),
+            2 => longest(&mut random, &mut input),
+            _ => random_listing(&mut random, &mut input),
+        }
+        match bench.compare(&input, sides) {
+            Ok(answer) => coverage.count(&input, answer),
+            Err(difference) => {
+                found = Some(Found {
+                    difference,
+                    seed: options.seed,
+                    listing,
+                    words: coverage.words(),
+                    input,
+                });
+                break;
+            }
+        }
+        listing += 1;
+        let enough = listing > 2 && coverage.lines[1] >= options.words;
+        if enough || options.listing.is_some() {
+            break;
+        }
+    }
+    Outcome { coverage, found }
+}
+
+/// A found difference as text, with everything that is needed to repeat it.
+pub fn explain(found: &Found) -> String {
+    format!(
+        "difference at listing {}: {}\nrepeat with --seed {} --listing {}\n  \
+         width {}, program {} bytes, text {} bytes ({:?}), meant to answer {}\n",
+        found.listing,
+        found.difference,
+        found.seed,
+        found.listing,
+        found.input.wide,
+        found.input.program.len(),
+        found.input.text.len(),
+        found.input.kind,
+        found.input.refusal
+    )
+}
+
+#[cfg(test)]
+mod tests {
+    use super::*;
+
+    const OPTIONS: Options = Options {
+        seed: 5,
+        calls: None,
+        seconds: None,
+        case: None,
+        words: 200_000,
+        listing: None,
+    };
+
+    /// The reference agrees with itself, meets all that it should, and a session can be
+    /// repeated.
+    #[test]
+    fn no_difference_twice() {
+        let sides = Sides {
+            reference: coffee_reference::listing,
+            library: coffee_reference::listing,
+        };
+        let first = run(&OPTIONS, sides);
+        let second = run(&OPTIONS, sides);
+        if let Some(found) = &first.found {
+            panic!("{}", explain(found));
+        }
+        assert!(first.coverage.lines[1] >= 200_000);
+        assert_eq!(first.coverage.unmet(), Vec::<String>::new());
+        assert_eq!(first.coverage.report(), second.coverage.report());
+    }
+
+    /// The reference, but a word of 32 bits that ends with ABh has another last column.
+    fn wrong_at_ab(program: &[u8], wide: u32, text: &mut [u8]) -> u32 {
+        let answer = coffee_reference::listing(program, wide, text);
+        if answer == 0 && wide != 0 {
+            for (word, line) in program.chunks_exact(4).zip(text.chunks_exact_mut(LINE)) {
+                if word[3] == 0xAB {
+                    line[46] = b'.';
+                }
+            }
+        }
+        answer
+    }
+
+    /// A difference is found, told by its line, and repeated by its number alone.
+    #[test]
+    fn difference_repeated() {
+        let sides = Sides {
+            reference: coffee_reference::listing,
+            library: wrong_at_ab,
+        };
+        let found = run(&OPTIONS, sides).found.expect("a difference");
+        assert!(matches!(
+            found.difference,
+            Difference::Line { word, .. } if word & 0xFF == 0xAB
+        ));
+        let again = Options {
+            listing: Some(found.listing),
+            ..OPTIONS
+        };
+        let again = run(&again, sides).found.expect("a difference");
+        assert_eq!(found.difference, again.difference);
+    }
+
+    /// The reference, but the last byte of a text becomes 0.
+    fn writes_last(program: &[u8], wide: u32, text: &mut [u8]) -> u32 {
+        let answer = coffee_reference::listing(program, wide, text);
+        if let (0, Some(last)) = (answer, text.last_mut()) {
+            *last = 0;
+        }
+        answer
+    }
+
+    /// What both sides do wrong is found too.
+    #[test]
+    fn both_sides_wrong() {
+        let sides = Sides {
+            reference: writes_last,
+            library: writes_last,
+        };
+        let found = run(&OPTIONS, sides).found.expect("a difference");
+        assert!(matches!(found.difference, Difference::Both(_)));
+    }
+}
