@@ -21,7 +21,7 @@ extern "C" {
 
 /* The version of this header and of the library that goes with it. The first number is that of the shared library's name: it changes when a
  * program has to be compiled anew. */
-#define COFFEE_VERSION "1.0.0"
+#define COFFEE_VERSION "1.1.0"
 
 /* Most bytes of program memory, and most cells of data memory. */
 #define COFFEE_MEMORY_MAX 65536
@@ -36,6 +36,9 @@ extern "C" {
 
 /* The number of stack entries, high byte first, is at this offset of an image: its length is COFFEE_IMAGE_MIN + COFFEE_IMAGE_ENTRY * entries. */
 #define COFFEE_IMAGE_ENTRIES 512
+
+/* Bytes of a line of a listing: 47 characters and a newline. */
+#define COFFEE_LINE 48
 
 /* What a run call answers. */
 struct coffee_answer {
@@ -83,6 +86,27 @@ struct coffee_answer coffee_run(
  *   8  buffer shorter than 708 bytes
  */
 uint32_t coffee_reset(uint8_t *buffer, size_t buffer_bytes);
+
+/* Prints a program, a line of COFFEE_LINE bytes for each word, to the front of `text`; its further bytes stay as they are.
+ *
+ * program   bytes, high byte of a word first
+ * wide      0: 16-bit words; any other number: 32-bit words
+ * text      at least COFFEE_LINE bytes for each word; no 0 byte is added
+ *
+ * A line has five columns, a blank between them, each filled with blanks on its right, and a newline at its end:
+ *   8 characters  the word's address, hexadecimal
+ *   8             the word, hexadecimal: 8 digits or 4
+ *   6             its condition and condition register, as `egt C7`; blank without a condition
+ *   8             the operation's name, or `?` where it has no form in this width; then there are no operands
+ *   13            operands in the order of the manual (002), single blanks between them: R0 to R31, C0 to C7, decimal numbers
+ * 16-bit words have registers R24 to R31, no condition and no C0.
+ *
+ * Answers 0, or the refusal, asked in this order:
+ *   1   program longer than 65,536 bytes
+ *   16  program bytes that are no whole number of words
+ *   17  text shorter than COFFEE_LINE bytes for each word
+ */
+uint32_t coffee_listing(const uint8_t *program, size_t program_bytes, uint32_t wide, uint8_t *text, size_t text_bytes);
 
 #ifdef __cplusplus
 }

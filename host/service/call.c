@@ -2,14 +2,12 @@
 #include "call.h"
 
 #include "image.h"
+#include "program.h"
 #include "text.h"
 
 #include <inttypes.h>
 #include <stdlib.h>
 #include <string.h>
-
-/* As much of a program as shows that it is too long. */
-enum { READ_PROGRAM = COFFEE_MEMORY_MAX + 1 };
 
 /* One library call from an image; the new image goes to the buffer. */
 static struct coffee_answer library_call(const struct call *call, const uint8_t *image, size_t len,
@@ -40,8 +38,8 @@ static bool complain_of_request(const char *path, const struct requests *request
 static bool complain_of_call(const struct call_words *words, const struct call *call,
                              uint32_t refusal)
 {
-    if (refusal == 1 && call->program.len > COFFEE_MEMORY_MAX)
-        return complain(words->program, "refused with 1: more than 65,536 bytes of program");
+    if (refusal == 1 && too_long(&call->program))
+        return complain_of_length(words->program);
     if (refusal >= 1 && refusal <= 5)
         return complain_of_machine(words->machine, &call->machine, refusal);
     if (refusal == 6 && words->requests != NULL)
@@ -77,7 +75,7 @@ bool load_call(const struct call_words *words, int machine, struct call *call)
     if (!read_decimal(words->steps, &call->steps))
         return complain(words->steps, "STEPS is not a decimal number");
     return apart(words->machine, words->program) && apart(words->machine, words->requests) &&
-           read_file(words->program, READ_PROGRAM, &call->program) &&
+           read_program(words->program, &call->program) &&
            read_open_machine(machine, words->machine, &call->machine) &&
            read_requests(words->requests, &call->requests) && ask(words, call);
 }

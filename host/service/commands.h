@@ -21,5 +21,6 @@ enum status import_command(const struct arguments *arguments);
 enum status export_command(const struct arguments *arguments);
 enum status show_command(const struct arguments *arguments);
 enum status cells_command(const struct arguments *arguments);
+enum status list_command(const struct arguments *arguments);
 
 #endif

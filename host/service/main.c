@@ -22,18 +22,12 @@ static const struct command {
     {"show", "", "MACHINE", "prints mode, registers, position and stack", 1, 1, show_command},
     {"cells", "", "MACHINE [FIRST [COUNT]]", "prints cells of the data memory", 1, 3,
      cells_command},
+    {"list", "", "PROGRAM WIDTH", "prints a program, a line for each word", 2, 2, list_command},
     {"import", "[--replace] ", "IMAGE DATA MACHINE", "makes a machine from a plain image and cells", 3,
      3, import_command},
     {"export", "[--replace] ", "MACHINE IMAGE DATA", "writes a machine as a plain image and cells", 3,
      3, export_command},
 };
-
-/* Says what is wrong with the command line. */
-static enum status misused(const char *name, const char *text)
-{
-    complain(name, "%s; 'service --help' tells more", text);
-    return USAGE;
-}
 
 static enum status help(void)
 {
@@ -50,6 +44,7 @@ static enum status help(void)
          "\n"
          "MACHINE    a machine file: an image, then the data memory; or a plain image\n"
          "STEPS      decimal, at most 1,000,000,000,000\n"
+         "WIDTH      bits of a word: 16 or 32\n"
          "REQUESTS   a text: line n has the requests of step n in hexadecimal, or 'N: HEX'\n"
          "\n"
          "status: 0 done; 1 refused, nothing changed; 2 wrong command line;\n"

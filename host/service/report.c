@@ -20,6 +20,8 @@ static const char *const reasons[] = {
     [6] = "a request above FFFh",
     [7] = "a step limit above 1,000,000",
     [8] = "a buffer too short for an image",
+    [16] = "a program that is no whole number of words",
+    [17] = "a buffer too short for a listing",
 };
 
 /* Prints a text; names in it may hold line ends, and a complaint stays one line. */
@@ -55,11 +57,16 @@ bool complain_of_errno(const char *name)
 
 bool complain_of_refusal(const char *name, uint32_t refusal)
 {
-    size_t known = sizeof reasons / sizeof reasons[0];
+    const char *reason = refusal < sizeof reasons / sizeof reasons[0] ? reasons[refusal] : NULL;
 
     return complain(name, "refused with %" PRIu32 ": %s", refusal,
-                    refusal > 0 && refusal < known ? reasons[refusal]
-                                                   : "no reason that is known here");
+                    reason != NULL ? reason : "no reason that is known here");
+}
+
+enum status misused(const char *name, const char *text)
+{
+    complain(name, "%s; 'service --help' tells more", text);
+    return USAGE;
 }
 
 bool end_output(void)

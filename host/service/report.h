@@ -26,6 +26,9 @@ bool complain_of_errno(const char *name);
 /* Complains of a refusal by the library, in general words. */
 bool complain_of_refusal(const char *name, uint32_t refusal);
 
+/* Complains of what is wrong with the command line; gives USAGE. */
+enum status misused(const char *name, const char *text);
+
 /* Sees that all that was printed went out, or complains. */
 bool end_output(void);
 

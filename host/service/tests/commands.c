@@ -199,6 +199,71 @@ static void test_cells(void)
              "3");
 }
 
+/* Writes the longest program of words of so many bytes, prints it to a file, and compares that with
+   its lines (02, wish 2). In 32 bits the words are lli R0 0, lli R1 4 and so on, each with its own
+   address as immediate; in 16 bits every cmpi, over and over. */
+static void list_longest(const char *width, unsigned bytes)
+{
+    static uint8_t program[65536];
+    static char lines[sizeof program / 2 * 48 + 1];
+    bool wide = bytes == 4;
+    char *end = lines;
+
+    for (unsigned at = 0; at < sizeof program; at += bytes) {
+        unsigned word = wide ? 0x88000000 | at / 4 % 32 << 16 | at : 0x8400 | at / 2 % 1024;
+        unsigned target = wide ? at / 4 % 32 : 24 + word % 8;
+        int immediate = wide ? (int)at : (int)((word >> 3 & 127) ^ 64) - 64;
+        char digits[9], operands[32];
+
+        for (unsigned i = 0; i < bytes; i++)
+            program[at + i] = (uint8_t)(word >> 8 * (bytes - 1 - i));
+        snprintf(digits, sizeof digits, "%0*X", 2 * (int)bytes, word);
+        snprintf(operands, sizeof operands, "R%u %d", target, immediate);
+        end += sprintf(end, "%08X %-8s        %-8s %-13s\n", at, digits, wide ? "lli" : "cmpi",
+                       operands);
+    }
+    write_bytes("program", program, sizeof program);
+    write_bytes("expected", lines, (size_t)(end - lines));
+    setting.output = STORED;
+    RUN("list", "program", (char *)width);
+    check("the longest program: status 0, no complaint",
+          outcome.status == 0 && outcome.err[0] == '\0');
+    same_bytes(text("the longest program, %s-bit words", width), "expected", "out");
+}
+
+static void test_list(void)
+{
+    section("list");
+    fresh();
+    write_words("program", "881FFFFF 07C87FDD FDF87FFF 6C047FE0 A3E00000 EC001022");
+    ACCEPTED("32-bit words",
+             "00000000 881FFFFF        lli      R31 65535    \n"
+             "00000004 07C87FDD egt C7 add      R31 R30 R29  \n"
+             "00000008 FDF87FFF        exbfi    R31 R31 63 31\n"
+             "0000000C 6C047FE0        ld       R31 R31 -256 \n"
+             "00000010 A3E00000        bc       C7 -2097152  \n"
+             "00000014 EC001022        conh     R4 R2 R1     \n",
+             "list", "program", "32");
+    write_words("program", "0C118800 8607A200 0000F018");
+    ACCEPTED("16-bit words",
+             "00000000 0C11            sub      R25 R26      \n"
+             "00000002 8800            ?                     \n"
+             "00000004 8607            cmpi     R31 -64      \n"
+             "00000006 A200            bc       -512         \n"
+             "00000008 0000            nop                   \n"
+             "0000000A F018            exb      R24 3        \n",
+             "list", "program", "16");
+    write_bytes("program", "\x0C\x11", 2);
+    ACCEPTED("one word", "00000000 0C11            sub      R25 R26      \n", "list", "program",
+             "16");
+    write_text("program", "");
+    ACCEPTED("an empty program, 32-bit words", "", "list", "program", "32");
+    ACCEPTED("an empty program, 16-bit words", "", "list", "program", "16");
+    list_longest("32", 4);
+    list_longest("16", 2);
+    same_text("list leaves no other file", "expected out program", names_in("."));
+}
+
 /* A program that stops: cells, words, the line of steps, ending and PC, the line in words. */
 static void stop(size_t cells, const char *words, const char *line, const char *in_words)
 {
@@ -536,7 +601,10 @@ static void test_help(void)
                                             "[REQUESTS]\n") != NULL);
     RUN("run", "--help");
     check("run --help", outcome.status == 0 && strncmp(outcome.out, "usage:", 6) == 0);
-    ACCEPTED("--version", "service 1.0.0\n", "--version");
+    RUN("list", "--help");
+    check("list --help", outcome.status == 0 &&
+                             strstr(outcome.out, "service list PROGRAM WIDTH\n") != NULL);
+    ACCEPTED("--version", "service 1.1.0\n", "--version");
 }
 
 /* Names with blanks, in other folders, through links. */
@@ -567,6 +635,7 @@ void test_commands(void)
     test_new();
     test_show();
     test_cells();
+    test_list();
     test_run();
     test_in_words();
     test_resume();

@@ -15,6 +15,7 @@
 #include <unistd.h>
 
 int __real_openat(int folder, const char *path, int flags, ...);
+ssize_t __real_read(int file, void *bytes, size_t len);
 ssize_t __real_write(int file, const void *bytes, size_t len);
 int __real_fsync(int file);
 int __real_flock(int file, int what);
@@ -22,12 +23,17 @@ int __real_fchmod(int file, mode_t mode);
 int __real_renameat2(int from, const char *old, int to, const char *new, unsigned flags);
 int __real_unlinkat(int folder, const char *path, int flags);
 int __real_fstatfs(int file, struct statfs *state);
+void *__real_malloc(size_t len);
+void *__real_calloc(size_t count, size_t len);
+void *__real_realloc(void *at, size_t len);
 struct coffee_answer __real_coffee_run(const uint8_t *program, size_t program_bytes,
                                        uint32_t *cells, size_t cell_count, const uint8_t *image,
                                        size_t image_bytes, const uint32_t *requests,
                                        size_t request_count, uint32_t limit, uint8_t *buffer,
                                        size_t buffer_bytes);
 uint32_t __real_coffee_reset(uint8_t *buffer, size_t buffer_bytes);
+uint32_t __real_coffee_listing(const uint8_t *program, size_t program_bytes, uint32_t wide,
+                               uint8_t *text, size_t text_bytes);
 
 struct fault_setting fault_setting;
 
@@ -143,6 +149,11 @@ int __wrap_openat(int folder, const char *path, int flags, ...)
     return __real_openat(folder, path, flags, mode);
 }
 
+ssize_t __wrap_read(int file, void *bytes, size_t len)
+{
+    return goes_wrong("read") ? -1 : __real_read(file, bytes, len);
+}
+
 /* Writes to a file in two calls: half of the bytes, then the rest. */
 ssize_t __wrap_write(int file, const void *bytes, size_t len)
 {
@@ -199,6 +210,21 @@ int __wrap_fstatfs(int file, struct statfs *state)
     return done;
 }
 
+void *__wrap_malloc(size_t len)
+{
+    return goes_wrong("malloc") ? NULL : __real_malloc(len);
+}
+
+void *__wrap_calloc(size_t count, size_t len)
+{
+    return goes_wrong("malloc") ? NULL : __real_calloc(count, len);
+}
+
+void *__wrap_realloc(void *at, size_t len)
+{
+    return goes_wrong("malloc") ? NULL : __real_realloc(at, len);
+}
+
 struct coffee_answer __wrap_coffee_run(const uint8_t *program, size_t program_bytes,
                                        uint32_t *cells, size_t cell_count, const uint8_t *image,
                                        size_t image_bytes, const uint32_t *requests,
@@ -219,4 +245,12 @@ uint32_t __wrap_coffee_reset(uint8_t *buffer, size_t buffer_bytes)
     if (in_child && fault_setting.refusal != 0)
         return fault_setting.refusal;
     return __real_coffee_reset(buffer, buffer_bytes);
+}
+
+uint32_t __wrap_coffee_listing(const uint8_t *program, size_t program_bytes, uint32_t wide,
+                               uint8_t *text, size_t text_bytes)
+{
+    if (in_child && fault_setting.refusal != 0)
+        return fault_setting.refusal;
+    return __real_coffee_listing(program, program_bytes, wide, text, text_bytes);
 }

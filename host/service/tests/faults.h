@@ -16,7 +16,8 @@ enum kind {
 
 extern struct fault_setting {
     enum kind kind;
-    const char *call; /* the only call that is counted, or NULL for all */
+    const char *call; /* the only call that is counted, or NULL for all; calloc and realloc are
+                         counted as malloc */
     unsigned at;      /* counted from 1 */
     int error;        /* of FAIL and DEAD; 0 is EIO */
     void (*hook)(void);

@@ -398,6 +398,17 @@ void machine(const char *path, size_t cells)
 
 /* ---- the service program */
 
+/* Where the child's outputs are read. */
+static int out_reader = -1, err_reader = -1;
+
+/* Closes both in the child, which else would wait for itself when nobody reads on. */
+static void close_readers(void)
+{
+    close(out_reader);
+    close(err_reader);
+    out_reader = err_reader = -1;
+}
+
 /* Makes the child's output what the setting says. */
 static void set_output(int out, int err)
 {
@@ -421,6 +432,9 @@ static void set_output(int out, int err)
         dup2(broken[1], STDOUT_FILENO);
         close(broken[0]);
         close(broken[1]);
+        break;
+    case STORED:
+        dup2(open("out", O_WRONLY | O_CREAT | O_TRUNC | O_CLOEXEC, 0644), STDOUT_FILENO);
         break;
     }
 }
@@ -468,6 +482,7 @@ pid_t start_to(char *const *words, int out, int err)
     if (child != 0)
         return child;
     signal(SIGINT, SIG_DFL);
+    close_readers();
     set_output(out, err);
     be_service(words);
     return 0;
@@ -508,11 +523,14 @@ void run_words(char *const *words)
     pid_t child;
 
     need(pipe2(out, O_CLOEXEC) == 0 && pipe2(err, O_CLOEXEC) == 0, "a pipe");
+    out_reader = out[0];
+    err_reader = err[0];
     child = start_to(words, out[1], err[1]);
     close(out[1]);
     close(err[1]);
-    drain(out[0], outcome.out, sizeof outcome.out);
-    drain(err[0], outcome.err, sizeof outcome.err);
+    drain(out_reader, outcome.out, sizeof outcome.out);
+    drain(err_reader, outcome.err, sizeof outcome.err);
+    out_reader = err_reader = -1;
     outcome.status = wait_for(child);
     setting = (struct setting){0};
     no_fault();

@@ -72,7 +72,8 @@ void machine(const char *path, size_t cells);
 
 /* ---- the service program */
 
-enum output { CAPTURED, CLOSED, FULL, BROKEN };
+/* STORED is in the file 'out'. */
+enum output { CAPTURED, CLOSED, FULL, BROKEN, STORED };
 
 /* How the next child is run; fresh() and each run make it all 0 again. */
 extern struct setting {

@@ -3,6 +3,7 @@
 #include "harness.h"
 #include "places.h"
 
+#include <errno.h>
 #include <stdlib.h>
 #include <string.h>
 #include <sys/stat.h>
@@ -215,14 +216,79 @@ static void test_order(void)
     run_refused("8: run", "m: refused with 8: a buffer too short for an image");
     fault_setting.refusal = 8;
     REFUSED("8: new", "x: refused with 8: a buffer too short for an image", "new", "x");
-    fault_setting.refusal = 16;
-    run_refused("16: run", "m: refused with 16: no reason that is known here");
+    fault_setting.refusal = 9;
+    run_refused("9: run", "m: refused with 9: no reason that is known here");
+    fault_setting.refusal = 99;
+    run_refused("99: run", "m: refused with 99: no reason that is known here");
     /* A refusal that our words do not account for has the library's number all the same. */
     fault_setting.refusal = 3;
     run_refused("3 of a good machine",
                 "m: refused with 3: an image with a number that its register cannot hold");
     fault_setting.refusal = 6;
     run_refused("6 of good requests", "requests: refused with 6: a request above FFFh");
+}
+
+/* A program of so many bytes is refused by list with this line. */
+static void list_refused(size_t len, char *width, const char *line)
+{
+    write_zeros("program", len);
+    REFUSED(text("list: %zu bytes, %s-bit words", len, width),
+            text("program: refused with %s", line), "list", "program", width);
+}
+
+/* The library, by a stand-in for it, refuses a good program. */
+static void list_refused_with(uint32_t refusal, const char *reason)
+{
+    fault_setting.refusal = refusal;
+    REFUSED(text("%u of a good program", refusal),
+            text("program: refused with %u: %s", refusal, reason), "list", "program", "32");
+}
+
+static void test_listing(void)
+{
+    section("refusals 1, 16, 17 of list");
+    good();
+#define LENGTH_16(len, width, bytes) \
+    "16: its length in bytes is " len ": with " width "-bit words it must be a multiple of " bytes
+    list_refused(1, "32", LENGTH_16("1", "32", "4"));
+    list_refused(2, "32", LENGTH_16("2", "32", "4"));
+    list_refused(3, "32", LENGTH_16("3", "32", "4"));
+    list_refused(65534, "32", LENGTH_16("65534", "32", "4"));
+    list_refused(1, "16", LENGTH_16("1", "16", "2"));
+    list_refused(3, "16", LENGTH_16("3", "16", "2"));
+    list_refused(65535, "16", LENGTH_16("65535", "16", "2"));
+    /* 1 is asked first. */
+    list_refused(65537, "32", "1: more than 65,536 bytes of program");
+    list_refused(65537, "16", "1: more than 65,536 bytes of program");
+    list_refused(65540, "32", "1: more than 65,536 bytes of program");
+    list_refused(1000000, "16", "1: more than 65,536 bytes of program");
+    good();
+    list_refused_with(1, "more than 65,536 bytes of program or 65,536 cells of data");
+    list_refused_with(16, "a program that is no whole number of words");
+    list_refused_with(17, "a buffer too short for a listing");
+    list_refused_with(18, "no reason that is known here");
+}
+
+/* A call of list goes wrong with this error, and nothing is printed. */
+static void list_fails(const char *call, unsigned at, int error, const char *reason)
+{
+    fault_setting = (struct fault_setting){.kind = FAIL, .call = call, .at = at, .error = error};
+    REFUSED(text("list: %s %u", call, at), text("program: %s", reason), "list", "program", "32");
+}
+
+static void test_list_faults(void)
+{
+    section("list without memory, and with a file that cannot be read");
+    good();
+    /* The program is read to the first memory; the second is for its lines. */
+    list_fails("malloc", 1, ENOMEM, "Cannot allocate memory");
+    list_fails("malloc", 2, ENOMEM, "Cannot allocate memory");
+    list_fails("read", 1, EIO, "Input/output error");
+    list_fails("read", 2, EIO, "Input/output error");
+    write_words("program", "EC001022");
+    fault_setting = (struct fault_setting){.kind = FAIL, .call = "read", .at = 1, .error = EINTR};
+    ACCEPTED("list: a read that is interrupted",
+             "00000000 EC001022        conh     R4 R2 R1     \n", "list", "program", "32");
 }
 
 /* Each file of a command, in turn, is something else. */
@@ -294,6 +360,8 @@ static void test_files(void)
     bad_file("REQUESTS", 5, WORDS("run", "program", "m", "3", ""));
     bad_file("MACHINE", 2, WORDS("show", ""));
     bad_file("MACHINE", 2, WORDS("cells", ""));
+    bad_file("PROGRAM", 2, WORDS("list", "", "32"));
+    REFUSED("list of /dev/null", "/dev/null: not a plain file", "list", "/dev/null", "16");
     bad_file("IMAGE", 2, WORDS("import", "", "data", "x"));
     bad_file("DATA", 3, WORDS("import", "image", "", "x"));
     bad_file("MACHINE", 2, WORDS("export", "", "x", "y"));
@@ -389,6 +457,9 @@ static void test_twice(void)
 
 static void test_usage(void)
 {
+    static const char *const widths[] = {"0", "1", "8", "64", "-16", "+16", "016", "16 ", "0x10",
+                                         "32.0", "3", "wide", NULL};
+
     section("usage");
     good();
 #define MORE "; 'service --help' tells more"
@@ -407,6 +478,19 @@ static void test_usage(void)
     MISUSED("show with two words", "show: its words are MACHINE" MORE, "show", "m", "m");
     MISUSED("cells with four words", "cells: its words are MACHINE [FIRST [COUNT]]" MORE, "cells",
             "m", "1", "1", "1");
+    MISUSED("list with one word", "list: its words are PROGRAM WIDTH" MORE, "list", "program");
+    MISUSED("list with three words", "list: its words are PROGRAM WIDTH" MORE, "list", "program",
+            "32", "16");
+    for (size_t i = 0; widths[i] != NULL; i++)
+        MISUSED(text("width '%s'", widths[i]),
+                text("%s: WIDTH is neither 16 nor 32" MORE, widths[i]), "list", "program",
+                (char *)widths[i]);
+    MISUSED("a width before its program", "program: WIDTH is neither 16 nor 32" MORE, "list", "32",
+            "program");
+    MISUSED("a wrong width comes before a program that is not there",
+            "64: WIDTH is neither 16 nor 32" MORE, "list", "absent", "64");
+    REFUSED("no width", "WIDTH: is empty", "list", "program", "");
+    MISUSED("an option of list", "-v: no such option" MORE, "list", "-v", "program", "32");
     MISUSED("import with two words", "import: its words are IMAGE DATA MACHINE" MORE, "import",
             "m", "x");
     MISUSED("export with two words", "export: its words are MACHINE IMAGE DATA" MORE, "export",
@@ -424,6 +508,8 @@ void test_messages(void)
     test_limits();
     test_damaged();
     test_order();
+    test_listing();
+    test_list_faults();
     test_files();
     test_texts();
     test_twice();

@@ -49,12 +49,23 @@ static const char *found(void)
 }
 
 #define RUN_M "run", "kept/program", "files/m", "3"
+#define LIST "list", "kept/program", "32"
 
 /* A save fails with this reason, and nothing is changed. */
 static void cannot_save(const char *name, const char *reason)
 {
     REFUSED(name, text("files/m: cannot save in %s/files: %s; nothing is changed", here(), reason),
             RUN_M);
+}
+
+/* Prints a listing of 1,572,864 bytes to an output that takes a part of it: one line tells why. */
+static void list_in_part(const char *name, const char *reason)
+{
+    write_zeros("kept/longest", 65536);
+    RUN("list", "kept/longest", "16");
+    check(text("%s: status 1", name), outcome.status == 1);
+    same_text(text("%s: the line", name),
+              text("service: standard output: %s; nothing is changed\n", reason), outcome.err);
 }
 
 static void test_outputs(void)
@@ -87,6 +98,24 @@ static void test_outputs(void)
     ACCEPTED("new needs no output", "", "new", "files/n");
     setting.output = BROKEN;
     REFUSED("run to a broken pipe", "standard output: Broken pipe; nothing is changed", RUN_M);
+    setting.output = FULL;
+    REFUSED("list to a full output",
+            "standard output: No space left on device; nothing is changed", LIST);
+    setting.output = CLOSED;
+    REFUSED("list to no output", "standard output: Bad file descriptor; nothing is changed", LIST);
+    setting.output = BROKEN;
+    REFUSED("list to a broken pipe", "standard output: Broken pipe; nothing is changed", LIST);
+    setting.output = FULL;
+    list_in_part("the longest list to a full output", "No space left on device");
+    setting.output = CLOSED;
+    list_in_part("the longest list to no output", "Bad file descriptor");
+    setting.output = BROKEN;
+    list_in_part("the longest list to a broken pipe", "Broken pipe");
+    /* The outcome has room for less than the lines, and its pipe is closed then. */
+    list_in_part("the longest list to a reader that goes away", "Broken pipe");
+    setting.output = STORED;
+    setting.file_limit = 1 + 1000000;
+    list_in_part("the longest list to a file that may grow to 1,000,000 bytes", "File too large");
 }
 
 static void test_full(void)
@@ -217,6 +246,8 @@ static void test_rights(void)
     chmod("kept/program", 0200);
     setting.user = OWNER;
     REFUSED("a program that may not be read", "kept/program: Permission denied", RUN_M);
+    setting.user = OWNER;
+    REFUSED("a program that may not be read: list", "kept/program: Permission denied", LIST);
 
     before_and_after();
     if (setxattr("files/m", "system.posix_acl_access", list, sizeof list, 0) != 0) {

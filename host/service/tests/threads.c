@@ -6,13 +6,13 @@
 #include <stdlib.h>
 #include <string.h>
 
-enum { THREADS = 8, CELLS = 64, STEPS = 1000 };
+enum { THREADS = 8, PROGRAM = 32, CELLS = 64, STEPS = 1000 };
 
-/* A machine, and the answers of its calls added up. */
+/* A machine, the answers of its calls added up, and its program's lines. */
 struct job {
     pthread_t thread;
     long calls;
-    uint8_t program[32], images[2][COFFEE_IMAGE_MAX];
+    uint8_t program[PROGRAM], images[2][COFFEE_IMAGE_MAX], lines[PROGRAM / 4 * COFFEE_LINE];
     uint32_t cells[CELLS], requests[STEPS];
     uint64_t steps;
 };
@@ -20,7 +20,7 @@ struct job {
 /* A loop that stores and loads, multiplies and is interrupted; the number is different in each. */
 static void prepare(struct job *job, long calls, uint8_t number)
 {
-    static const uint8_t program[32] = {
+    static const uint8_t program[PROGRAM] = {
         0x88, 0x01, 0x00, 0x07, 0x58, 0x07, 0x88, 0x3D, 0x7C, 0x00, 0x0C, 0x00, 0x70, 0x00, 0x08,
         0x01, 0x6C, 0x00, 0x10, 0x01, 0x4C, 0x00, 0x14, 0xA1, 0x91, 0xFF, 0xFF, 0xF4, 0x70, 0x00,
         0x14, 0x02};
@@ -46,6 +46,7 @@ static void *work(void *argument)
                        STEPS, job->images[(i + 1) % 2], COFFEE_IMAGE_MAX);
 
         job->steps += answer.steps;
+        coffee_listing(job->program, PROGRAM, 1, job->lines, sizeof job->lines);
         coffee_reset(job->images[i % 2], COFFEE_IMAGE_MAX);
     }
     return NULL;
