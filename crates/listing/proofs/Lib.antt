@@ -7,3 +7,4 @@ pub mod Rooms
 pub mod Columns
 pub mod Lines
 pub mod Calls
+pub mod Theorems

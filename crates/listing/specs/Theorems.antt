@@ -4,7 +4,7 @@ use mathlib.Core.Bool.{false}
 use mathlib.Core.Logic.{_≢_}
 use mathlib.Core.List.{List, [], _∷_}
 use Prim.Native.Nat.{ℕ, _+_, _*_, _%_, _≤_, _<_}
-use lib.ListN.{length, getD, take, drop}
+use lib.ListN.{length, take, drop}
 use Rattle.isa.specs.Text.{bytes}
 use Rattle.isa.specs.Operation.{operationOf, Width}
 use Rattle.isa.specs.Decode.{wordBytes, wordAt, decode}
@@ -30,7 +30,7 @@ pub record Columns (width : Width) (a w : ℕ) : Type 0 where
   pub condition : ColumnIs (lineOf width a w) 18 6 (conditionText (decode width w))
   pub name : ColumnIs (lineOf width a w) 25 8 (nameText width (operationOf (decode width w .opcode)))
   pub operands : ColumnIs (lineOf width a w) 34 13 (operandsText width (decode width w))
-  pub end : getD (lineOf width a w) 47 0 ≡ newline
+  pub end : drop 47 (lineOf width a w) ≡ newline ∷ []
 
 abbrev pub LineColumns : Type 0
 LineColumns = (width : Width) (address word : ℕ) → Columns width address word
@@ -66,7 +66,7 @@ abbrev pub ListedLines : Type 0
 ListedLines = (width : Width) (program text : List ℕ) → listingCall width program text .answer ≡ 0
     → Listable width program text × Lines width program text (listingCall width program text .text)
 
--- "each call .. numbers in this order": 1, then 16, then 17
+-- 1, "16 when the bytes are no whole number of words, asked after 1; 17 when the buffer is below 48 bytes per word"
 pub record Asked (width : Width) (program text : List ℕ) : Type 0 where
   pub first : MOST-MEMORY < length program → listingCall width program text ≡ listed 1 text
   pub second : length program ≤ MOST-MEMORY → length program % wordBytes width ≢ 0 → listingCall width program text ≡ listed 16 text
