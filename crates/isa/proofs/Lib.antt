@@ -5,3 +5,4 @@ pub mod Rules
 pub mod Groups
 pub mod Rows
 pub mod Decoded
+pub mod Showing

@@ -14,7 +14,7 @@ use Rattle.isa.specs.Theorems.{Numbered, between, ConditionalIs, Transfe
 use Rattle.isa.proofs.Table.{values, agree, by-number}
 
 -- no number past high is one of low to high
-not-between : (low high n : ℕ) → high < n → between low high n ≡ false
+pub not-between : (low high n : ℕ) → high < n → between low high n ≡ false
 not-between low high n h = rw (lt-leb n high h) (and-false (leb low n))
 
 -- each row has its own number

@@ -2,11 +2,16 @@
 use mathlib.Core.Path.{_≡_}
 use mathlib.Core.Logic.{_⊎_}
 use mathlib.Core.Bool.{Bool, not, _&&_, _||_}
-use Prim.Native.Nat.{ℕ, _≤_, _<_}
+use mathlib.Core.List.{List, [], _∷_, _++_}
+use Prim.Native.Nat.{ℕ, _+_, _≤_, _<_}
 use lib.Dec.{leb, eqb}
 use Rattle.word.specs.Choice.{if_then_else_}
 use Rattle.isa.specs.Operation.{operationOf, Width, w16, widthBy, unavailable, codeOf, properties}
+use Rattle.isa.specs.Text.{bytes}
+use Rattle.isa.specs.Condition.{conditionOf, nameOf}
+use Rattle.isa.specs.Format.{Role, Dreg, Sreg1, Sreg2, Creg, Imm, Length, Position, Immediate, Layout, layoutOf}
 use Rattle.isa.specs.Decode.{decode}
+use Rattle.isa.specs.Shown.{hasForm, shownRoles}
 use Rattle.isa.specs.declared.Instruction.{Instruction}
 
 -- ---- the table, of all operations at once
@@ -48,3 +53,37 @@ pub record HighRegisters (i : Instruction) : Type 0 where
 
 abbrev pub NarrowRegisters : Type 0
 NarrowRegisters = (word : ℕ) → HighRegisters (decode w16 word)
+
+-- ---- what a listing shows (02 wish 2)
+
+-- "an operation with no form in that width": lli, lui and exbfi in 16-bit words, none in 32-bit words
+abbrev pub FormIs : Type 0
+FormIs = (wide : Bool) (n : ℕ) → hasForm (widthBy wide) (operationOf n) ≡ not ((between 34 35 n || leb 63 n) && not wide)
+
+-- "40 to 47 branch on condition 0 to 7" (01): their names are b and the condition's
+abbrev pub BranchNames : Type 0
+BranchNames = (n : ℕ) → n < 8 → properties (operationOf (40 + n)) .mnemonic ≡ bytes "b" ++ nameOf (conditionOf n)
+
+-- "where 01 takes their sign": "addi, muli, cmpi, ld, st extend the sign", "jmp, jal: signed ..", "Branches: .. signed"
+abbrev pub SignedIs : Type 0
+SignedIs =
+    (width : Width) (n : ℕ) → layoutOf width (properties (operationOf n) .form) .immediate .signed
+    ≡ ((eqb n 18 || eqb n 22) || (between 27 28 n || eqb n 33)) || (between 36 37 n || between 40 47 n)
+
+-- "16-bit registers as R24 to R31 and no C0"
+unfoldable pub Narrow : Instruction → Role → Type 0
+Narrow i Dreg = (24 ≤ i .dreg) × (i .dreg ≤ 31)
+Narrow i Sreg1 = (24 ≤ i .sreg1) × (i .sreg1 ≤ 31)
+Narrow i Sreg2 = (24 ≤ i .sreg2) × (i .sreg2 ≤ 31)
+Narrow i Creg = ⊥
+Narrow i Imm = Unit {0}
+Narrow i Length = Unit {0}
+Narrow i Position = Unit {0}
+
+-- of every role of a list
+unfoldable pub All : (Role → Type 0) → List Role → Type 0
+All P [] = Unit {0}
+All P (r ∷ rs) = P r × All P rs
+
+abbrev pub NarrowShown : Type 0
+NarrowShown = (word : ℕ) → All (Narrow (decode w16 word)) (shownRoles w16 (operationOf (decode w16 word .opcode)))

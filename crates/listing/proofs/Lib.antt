@@ -8,3 +8,4 @@ pub mod Columns
 pub mod Lines
 pub mod Calls
 pub mod Theorems
+pub mod Worked
