@@ -1,4 +1,4 @@
-// Runs the examples of examples.txt, which says how it is read, and prints a line for each run.
+// Runs and lists the examples of examples.txt, which says how it is read, and prints a line for each run and for each word that is listed.
 mod lines;
 mod show;
 
@@ -63,6 +63,10 @@ fn examples(text: &[u8], names: &[u8]) {
                 size,
                 &requests,
             );
+            continue;
+        }
+        if kind == b'=' {
+            show::print_listing(&program, size, number(&text[start..end]) == 0x32);
             continue;
         }
         if kind == b'@' {

@@ -1,9 +1,9 @@
-// Runs an example from reset, and prints a line of it.
+// Runs an example from reset, and prints a line of it; prints the listing of a program.
 use crate::lines::end_of;
 use emulator::Answer;
 use libc::STDOUT_FILENO;
 ghost use mathlib.Core.Path.{_≡_};
-ghost use Prim.Native.Nat.{_≤_};
+ghost use Prim.Native.Nat.{_*_, _≤_};
 ghost use lib.ListN.{length};
 ghost use Rattle.image.specs.Image.{LONGEST};
 
@@ -134,4 +134,27 @@ pub fn example(
     print_values(line, end, names, &buffer);
     io::write_all(STDOUT_FILENO, b"| ");
     runner::print(runner::line(answer, &buffer));
+}
+
+// Prints the first lines of a listing.
+fn print_lines(text: &[u8], lines: usize)
+    requires { ⌜ 48 * lines ≤ length (now text) ⌝ }
+{
+    io::write_all(STDOUT_FILENO, &text[..listing::LINE * lines]);
+}
+
+// Prints the listing of a program of `size` bytes, in 32-bit words where wide, else in 16-bit words; nothing where it is refused.
+pub fn print_listing(program: &[u8; 256], size: usize, wide: bool)
+    requires { ⌜ size ≤ 256 ⌝ }
+{
+    let memory = &program[..];
+    let mut text = [0u8; 6144];
+    if listing::list(&memory[0..size], wide, &mut text) != 0 {
+        return;
+    }
+    if wide {
+        print_lines(&text, size / 4);
+    } else {
+        print_lines(&text, size / 2);
+    }
 }
