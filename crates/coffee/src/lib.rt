@@ -63,6 +63,8 @@ pub extern "C" fn coffee_reset(buffer: &mut [u8]) -> u32
 
 // Writes the listing of a program, a line for each instruction word, to the text's front; wide 0 is 16-bit words, any other number 32-bit.
 #[no_mangle]
-pub extern "C" fn coffee_listing(program: &[u8], wide: u32, text: &mut [u8]) -> u32 {
+pub extern "C" fn coffee_listing(program: &[u8], wide: u32, text: &mut [u8]) -> u32
+    ensures { λ r. ⌜ listed r (now (text .exit)) ≡ listingCall (widthBy (not (eqb wide 0))) (now (program .entry)) (now (text .entry)) ⌝ }
+{
     listing::list(program, wide != 0, text)
 }
