@@ -1,7 +1,7 @@
 /* A COFFEE RISC core that is run in steps: the C interface.
  *
  * Link with libcoffee.a, which `rt staticlib coffee` proves and writes to target/staticlib. Each function is proved equal to a definition:
- * crates/emulator/specs/Run.antt (runCall) and crates/emulator/specs/Reset.antt (resetCall).
+ * crates/emulator/specs/Run.antt (runCall), crates/emulator/specs/Reset.antt (resetCall) and crates/listing/specs/Listing.antt (listingCall).
  *
  * A slice is a pointer and then a count of elements; a slice of 0 elements may have a null pointer. A slice that is written (not const) must
  * overlap no other slice of the same call. Nothing is kept between calls, no memory is allocated, and nothing else is read or written, so
@@ -98,7 +98,7 @@ uint32_t coffee_reset(uint8_t *buffer, size_t buffer_bytes);
  *   8             the word, hexadecimal: 8 digits or 4
  *   6             its condition and condition register, as `egt C7`; blank without a condition
  *   8             the operation's name, or `?` where it has no form in this width; then there are no operands
- *   13            operands in the order of the manual (002), single blanks between them: R0 to R31, C0 to C7, decimal numbers
+ *   13            its operands in the manual's order (002 section 6.2), single blanks between them: R0 to R31, C0 to C7, decimal numbers
  * 16-bit words have registers R24 to R31, no condition and no C0.
  *
  * Answers 0, or the refusal, asked in this order:

@@ -2,6 +2,7 @@
 //
 //     bench                     checks that both agree, then prints nanoseconds per step of each
 //     bench scenes              prints the names of the scenes, in their order from 0
+//     bench listing             prints the library's milliseconds for a listing of the longest program
 //     bench SIDE N              one call of scene N on one side, library or baseline, for a profiler;
 //                               SCENES is a call with limit 0
 //
@@ -160,6 +161,30 @@ static void measure_short(const struct scene *s, double best[SIDES])
     }
 }
 
+// Times listings of random words, as many as there can be, in each width: the best milliseconds.
+static int measure_listing(void)
+{
+    static uint8_t program[COFFEE_MEMORY_MAX], text[COFFEE_MEMORY_MAX / 2 * COFFEE_LINE];
+    uint32_t random = 1;
+    for (size_t i = 0; i < sizeof program; i++) {
+        random = random * 1664525 + 1013904223;
+        program[i] = (uint8_t)(random >> 24);
+    }
+    for (uint32_t wide = 0; wide <= 1; wide++) {
+        double best = 1e30;
+        for (int turn = 0; turn < ROUNDS; turn++) {
+            double start = now();
+            if (coffee_listing(program, sizeof program, wide, text, sizeof text) != 0)
+                return 1;
+            double time = now() - start;
+            if (time < best)
+                best = time;
+        }
+        printf("listing of 65,536 bytes, %s-bit words: %.2f ms\n", wide ? "32" : "16", best / 1e6);
+    }
+    return 0;
+}
+
 // Prints a line of the table.
 static void show(const char *name, const char *mode, const double best[SIDES])
 {
@@ -173,7 +198,7 @@ static void show(const char *name, const char *mode, const double best[SIDES])
 // Says what the program is called with.
 static int usage(void)
 {
-    fprintf(stderr, "bench [scenes | library|baseline 0..%d]\n", SCENES);
+    fprintf(stderr, "bench [scenes | listing | library|baseline 0..%d]\n", SCENES);
     return 2;
 }
 
@@ -207,6 +232,8 @@ int main(int argc, char **argv)
         return once(argv[1], argv[2]);
     if (argc == 2 && strcmp(argv[1], "scenes") == 0)
         return list();
+    if (argc == 2 && strcmp(argv[1], "listing") == 0)
+        return measure_listing();
     if (argc != 1)
         return usage();
 
