@@ -1,7 +1,7 @@
 -- The laws of numbers as bytes. Assumes nothing.
 use mathlib.Core.Path.{_≡_, refl, sym, ap, _∙_}
 use mathlib.Core.List.{List, [], _∷_, _++_, append-assoc}
-use Prim.Native.Nat.{ℕ, zero, suc, _+_, _*_, _/_, _%_, _^_, _-_, _≤_, _<_}
+use Prim.Native.Nat.{ℕ, zero, suc, _+_, _*_, _/_, _%_, _^_, _≤_, _<_}
 use native.Mathlib.Omega.{arith}
 use native.Mathlib.Numerals.{add-one, unary-clauses}
 use lib.ListN.{length, take, drop, getD, set, length-append, length-take, length-drop, List·getD-append}
@@ -153,7 +153,7 @@ putAt-over front s t at e =
     ∙ ap (λ (u : List ℕ). front ++ t ++ u) (drop-append-add front (drop (length front) s) (length t) ∙ drop-drop (length t) (length front) s)
     ∙ rw length-append
 
--- nothing changes nothing
+-- to put nothing changes nothing
 pub putAt-nothing : (s : List ℕ) (at : ℕ) → putAt s at [] ≡ s
 putAt-nothing s at = sym (paste-zero s at [])
 

@@ -1,4 +1,4 @@
--- Laws of the text of the run program.
+-- Laws of the text of programs.
 pub mod Digits
 pub mod Limits
 pub mod Lines

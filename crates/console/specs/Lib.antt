@@ -1,4 +1,4 @@
--- The text of the run program.
+-- The text of programs: numbers as digits, the run program's step limit and line.
 pub mod Digits
 pub mod Limit
 pub mod Line

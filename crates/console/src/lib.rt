@@ -1,4 +1,4 @@
-// The text of the run program: the step limit that it reads, and the line that it prints.
+// The text of programs: numbers as digits, the step limit that the run program reads, the line that it prints.
 ghost use mathlib.Core.Path.{_≡_};
 ghost use mathlib.Core.List.{[], _∷_, _++_};
 ghost use Prim.Native.Nat.{_+_, _<_, _≤_};
@@ -61,13 +61,7 @@ pub fn limit_of(text: &[u8]) -> u32
     decimal(&text[..n])
 }
 
-// ---- the line
-
-// A line of text: `count` characters at the front of its bytes, and zeros after them.
-pub struct Line {
-    pub bytes: [u8; 31],
-    pub count: usize,
-}
+// ---- numbers
 
 // The character of a digit below 16.
 fn digit(d: u32) -> u8
@@ -115,6 +109,14 @@ pub fn put_ended(line: &mut [u8], at: usize, base: u32, count: usize, n: u32, en
 {
     line[at + count] = end;
     put_digits(line, at, base, count, n);
+}
+
+// ---- the line
+
+// A line of text: `count` characters at the front of its bytes, and zeros after them.
+pub struct Line {
+    pub bytes: [u8; 31],
+    pub count: usize,
 }
 
 // The line for a call that ran: steps, ending, and PC in hexadecimal.

@@ -65,6 +65,7 @@ fn examples(text: &[u8], names: &[u8]) {
             );
             continue;
         }
+        // The width is read as hexadecimal digits; any other than 32 counts as 16.
         if kind == b'=' {
             show::print_listing(&program, size, number(&text[start..end]) == 0x32);
             continue;

@@ -6,6 +6,7 @@ ghost use mathlib.Core.Path.{_≡_};
 ghost use Prim.Native.Nat.{_*_, _≤_};
 ghost use lib.ListN.{length};
 ghost use Rattle.image.specs.Image.{LONGEST};
+ghost use Rattle.listing.specs.Listing.{LINE-BYTES};
 
 // Where a name stands in image.txt, after its first line: its number in an image; past every image when it is not there.
 fn place(names: &[u8], name: &[u8]) -> usize {
@@ -138,7 +139,7 @@ pub fn example(
 
 // Prints the first lines of a listing.
 fn print_lines(text: &[u8], lines: usize)
-    requires { ⌜ 48 * lines ≤ length (now text) ⌝ }
+    requires { ⌜ LINE-BYTES * lines ≤ length (now text) ⌝ }
 {
     io::write_all(STDOUT_FILENO, &text[..listing::LINE * lines]);
 }
@@ -148,7 +149,7 @@ pub fn print_listing(program: &[u8; 256], size: usize, wide: bool)
     requires { ⌜ size ≤ 256 ⌝ }
 {
     let memory = &program[..];
-    let mut text = [0u8; 6144];
+    let mut text = [0u8; listing::LINE * 128];
     if listing::list(&memory[0..size], wide, &mut text) != 0 {
         return;
     }

@@ -3,14 +3,14 @@ use mathlib.Core.Path.{_≡_, refl}
 use mathlib.Core.Logic.{_⊎_, inl, inr}
 use mathlib.Core.Bool.{true}
 use mathlib.Core.List.{List, [], _∷_}
-use Prim.Native.Nat.{ℕ, _^_, _-_, _≤_, _<_}
+use Prim.Native.Nat.{ℕ, _^_, _≤_, _<_}
 use native.Mathlib.Nat.{lt-of-lt-of-le}
 use native.Mathlib.Omega.{arith}
 use borrow.Author.Tests.{leb-true}
 use lib.Pow.{pow-mono}
 use lib.Signed.{mag}
-use Rattle.word.specs.Word.{Field}
 use Rattle.word.specs.Choice.{if_then_else_}
+use Rattle.word.specs.Word.{Field}
 use Rattle.word.proofs.Tests.{either, and-parts}
 use Rattle.word.proofs.Integers.{signed-range}
 use Rattle.isa.specs.Operation.{Width, w16, w32}

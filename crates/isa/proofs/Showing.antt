@@ -1,23 +1,25 @@
 -- What a listing shows of an instruction, against the sentences of 01 and 02. Assumes nothing.
-use mathlib.Core.Path.{_≡_, refl, sym, ap, _∙_}
+use mathlib.Core.Path.{_≡_, refl, ap, _∙_}
 use mathlib.Core.Bool.{Bool, true, false, not, _&&_, _||_, and-false}
 use mathlib.Core.List.{List, [], _∷_, _++_}
-use Prim.Native.Nat.{ℕ, _+_, _≤_, _<_}
+use Prim.Native.Nat.{ℕ, _+_, _*_, _≤_, _<_}
+use native.Mathlib.Nat.{mul-one, add-zero}
 use native.Mathlib.Omega.{arith}
 use lib.Dec.{leb, eqb}
-use borrow.Author.Tests.{lt-leb, ne-eqb}
-use Rattle.word.specs.Word.{Field}
+use lib.IntN.{pos}
+use borrow.Author.Tests.{ne-eqb}
 use Rattle.word.specs.Choice.{if_then_else_}
+use Rattle.word.specs.Word.{Field, bits_to_, fieldOf, modZ, wordOf}
 use Rattle.word.proofs.Tests.{either, and-parts}
+use Rattle.word.proofs.Bounds.{field-below}
 use Rattle.isa.specs.Text.{bytes}
-use Rattle.isa.specs.Operation.{operationOf, Width, w16, w32, widthBy, Properties, properties}
+use Rattle.isa.specs.Operation.{operations, operationOf, Width, w16, w32, properties}
 use Rattle.isa.specs.Condition.{conditionOf, nameOf}
-use Rattle.isa.specs.Format.{Role, Dreg, Sreg1, Sreg2, Creg, Imm, Length, Position, Layout, layoutOf}
-use Rattle.isa.specs.Decode.{registerOf, operandsOf, opcodeOf, assembled, decode}
-use Rattle.isa.specs.Shown.{hasForm, shownRoles}
-use Rattle.isa.specs.declared.Instruction.{Instruction}
+use Rattle.isa.specs.Format.{fieldsWidth, fieldsOf, conditionalField, Role, Dreg, Sreg1, Sreg2, Creg, Imm, Length, Position, Layout, layoutOf}
+use Rattle.isa.specs.Decode.{registerOf, immediateOf, operandsOf, opcodeOf, assembled, decode}
+use Rattle.isa.specs.Shown.{hasForm, shownRoles, shownValue}
 use Rattle.isa.specs.Computed.{instructions}
-use Rattle.isa.specs.Theorems.{between, FormIs, BranchNames, SignedIs, Narrow, All, NarrowShown}
+use Rattle.isa.specs.Theorems.{between, FormIs, BranchNames, SignedIs, Narrow, All, NarrowShown, BitFieldShown}
 use Rattle.isa.proofs.Table.{values, agree, by-number}
 use Rattle.isa.proofs.Rules.{not-between, unavailable-is}
 use Rattle.isa.proofs.Decoded.{in-range}
@@ -97,5 +99,27 @@ module _ (word : ℕ) where
   all-narrow (r ∷ rs) e = let t = and-parts (present l r) (allPresent l rs) e in (narrow r (t .0), all-narrow rs (t .1))
 
 pub narrow-shown : NarrowShown
-unfolding decode assembled
-narrow-shown word = all-narrow word (shownRoles w16 (operationOf (opcodeOf w16 word))) (rows-present (opcodeOf w16 word))
+unfolding decode assembled conditionalField fieldsOf
+narrow-shown word = (refl, all-narrow word (shownRoles w16 (operationOf (opcodeOf w16 word))) (rows-present (opcodeOf w16 word)))
+
+-- ---- exbfi
+
+-- its immediate is length × 32 + position
+pieces : (word : ℕ) → immediateOf (layoutOf w32 (properties (operationOf 63) .form) .immediate) word ≡ pos (fieldOf (bits 24 to 19) word * 32 + fieldOf (bits 4 to 0) word)
+unfolding operationOf operations properties layoutOf immediateOf fieldsOf fieldsWidth if_then_else_
+pieces word = simp (mul-one, add-zero)
+
+bit-field : (word : ℕ) → opcodeOf w32 word ≡ 63 → decode w32 word .immediate ≡ pos (fieldOf (bits 24 to 19) word * 32 + fieldOf (bits 4 to 0) word)
+unfolding decode assembled operandsOf
+bit-field word e = ap (λ (n : ℕ). immediateOf (layoutOf w32 (properties (operationOf n) .form) .immediate) word) e ∙ pieces word
+
+-- the two parts of such a number
+parts : (x y : ℕ) → x < 64 → y < 32 → (fieldOf (bits 10 to 5) (wordOf 32 (pos (x * 32 + y))) ≡ x) × (fieldOf (bits 4 to 0) (wordOf 32 (pos (x * 32 + y))) ≡ y)
+unfolding fieldOf modZ
+parts x y h k = (omega arith, omega arith)
+
+pub bit-field-shown : BitFieldShown
+unfolding shownValue
+bit-field-shown word e =
+    let p = parts (fieldOf (bits 24 to 19) word) (fieldOf (bits 4 to 0) word) (field-below (bits 24 to 19) word) (field-below (bits 4 to 0) word) in
+    rw (bit-field word e) (ap pos (p .0), ap pos (p .1))

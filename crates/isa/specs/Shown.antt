@@ -5,11 +5,12 @@ use lib.Dec.{eqb}
 use lib.IntN.{ℤ, pos}
 use Rattle.word.specs.Choice.{if_then_else_}
 use Rattle.word.specs.Word.{bits_to_, fieldOf, wordOf}
-use Rattle.isa.specs.Operation.{Operation, Width, Availability, unavailable, codeOf, Properties, properties}
-use Rattle.isa.specs.Format.{Role, Dreg, Sreg1, Sreg2, Creg, Imm, Length, Position, Layout, layoutOf}
+use Rattle.isa.specs.Operation.{Operation, Width, unavailable, codeOf, properties}
+use Rattle.isa.specs.Format.{Role, Dreg, Sreg1, Sreg2, Creg, Imm, Length, Position, layoutOf}
 use Rattle.isa.specs.declared.Instruction.{Instruction}
 
--- whether an operation has a form in a width: it has where the super user may use it
+-- an operation has no form in a width where it is 02h for the super user too: "Code 02h: lli, lui in 16-bit" (01), "63 exbfi: .. code 02h in
+-- 16-bit" (02 wish 1)
 unfoldable pub hasForm : Width → Operation → Bool
 hasForm width o = eqb (codeOf (unavailable (properties o .availability) width false)) 0
 

@@ -1,17 +1,19 @@
 -- What is proved of the instruction set: the statements, each with the sentence of 01 or 02 that it says. Assumes nothing.
 use mathlib.Core.Path.{_≡_}
 use mathlib.Core.Logic.{_⊎_}
-use mathlib.Core.Bool.{Bool, not, _&&_, _||_}
+use mathlib.Core.Bool.{Bool, false, not, _&&_, _||_}
 use mathlib.Core.List.{List, [], _∷_, _++_}
 use Prim.Native.Nat.{ℕ, _+_, _≤_, _<_}
 use lib.Dec.{leb, eqb}
+use lib.IntN.{pos}
 use Rattle.word.specs.Choice.{if_then_else_}
-use Rattle.isa.specs.Operation.{operationOf, Width, w16, widthBy, unavailable, codeOf, properties}
+use Rattle.word.specs.Word.{bits_to_, fieldOf}
+use Rattle.isa.specs.Operation.{operationOf, Width, w16, w32, widthBy, unavailable, codeOf, properties}
 use Rattle.isa.specs.Text.{bytes}
 use Rattle.isa.specs.Condition.{conditionOf, nameOf}
-use Rattle.isa.specs.Format.{Role, Dreg, Sreg1, Sreg2, Creg, Imm, Length, Position, Immediate, Layout, layoutOf}
-use Rattle.isa.specs.Decode.{decode}
-use Rattle.isa.specs.Shown.{hasForm, shownRoles}
+use Rattle.isa.specs.Format.{Role, Dreg, Sreg1, Sreg2, Creg, Imm, Length, Position, layoutOf}
+use Rattle.isa.specs.Decode.{opcodeOf, decode}
+use Rattle.isa.specs.Shown.{hasForm, shownRoles, shownValue}
 use Rattle.isa.specs.declared.Instruction.{Instruction}
 
 -- ---- the table, of all operations at once
@@ -70,7 +72,7 @@ SignedIs =
     (width : Width) (n : ℕ) → layoutOf width (properties (operationOf n) .form) .immediate .signed
     ≡ ((eqb n 18 || eqb n 22) || (between 27 28 n || eqb n 33)) || (between 36 37 n || between 40 47 n)
 
--- "16-bit registers as R24 to R31 and no C0"
+-- "16-bit registers as R24 to R31 and no C0"; "Nothing is conditional" (01)
 unfoldable pub Narrow : Instruction → Role → Type 0
 Narrow i Dreg = (24 ≤ i .dreg) × (i .dreg ≤ 31)
 Narrow i Sreg1 = (24 ≤ i .sreg1) × (i .sreg1 ≤ 31)
@@ -86,4 +88,10 @@ All P [] = Unit {0}
 All P (r ∷ rs) = P r × All P rs
 
 abbrev pub NarrowShown : Type 0
-NarrowShown = (word : ℕ) → All (Narrow (decode w16 word)) (shownRoles w16 (operationOf (decode w16 word .opcode)))
+NarrowShown = (word : ℕ) → (decode w16 word .conditional ≡ false) × All (Narrow (decode w16 word)) (shownRoles w16 (operationOf (decode w16 word .opcode)))
+
+-- "immediates by the bits used": exbfi has its length "in bits 24..19, position in 4..0" (wish 1)
+abbrev pub BitFieldShown : Type 0
+BitFieldShown =
+    (word : ℕ) → opcodeOf w32 word ≡ 63
+    → (shownValue (decode w32 word) Length ≡ pos (fieldOf (bits 24 to 19) word)) × (shownValue (decode w32 word) Position ≡ pos (fieldOf (bits 4 to 0) word))

@@ -1,14 +1,13 @@
--- The listing call: its questions, and the lines one after the other. Assumes nothing.
-use mathlib.Core.Path.{_≡_, refl, sym, ap, _∙_}
+-- The listing call: its questions, and the lines one next-word the other. Assumes nothing.
+use mathlib.Core.Path.{_≡_, sym, ap, _∙_}
 use mathlib.Core.Logic.{_≢_}
-use mathlib.Core.Bool.{not}
-use mathlib.Core.List.{List, [], _∷_, _++_, append-assoc}
-use Prim.Native.Nat.{ℕ, zero, suc, _+_, _-_, _*_, _/_, _%_, _≤_, _<_}
+use mathlib.Core.List.{List, [], _++_, append-assoc}
+use Prim.Native.Nat.{ℕ, suc, _+_, _-_, _*_, _/_, _%_, _≤_, _<_}
 use native.Mathlib.Nat.{zero-add, mul-zero}
 use native.Mathlib.Omega.{arith}
 use lib.ListN.{length, take, drop}
 use lib.Seq.{drop-drop}
-use borrow.Rule.Slice.PartMut.{putMid, postOf}
+use borrow.Rule.Slice.PartMut.{putMid}
 use borrow.Author.Tests.{le-leb, lt-leb, eq-eqb, ne-eqb}
 use Rattle.word.specs.Choice.{if_then_else_}
 use Rattle.codec.specs.Number.{putAt, over}
@@ -16,8 +15,8 @@ use Rattle.codec.proofs.Laws.{length-putAt, putAt-append}
 use Rattle.isa.specs.Operation.{Width, w16, w32}
 use Rattle.isa.specs.Decode.{wordBytes, wordAt}
 use Rattle.machine.specs.Machine.{MOST-MEMORY}
-use Rattle.listing.specs.Line.{lineOf}
-use Rattle.listing.specs.Listing.{LINE-BYTES, linesFrom, wordsIn, Listed, listed, listingCall}
+use Rattle.listing.specs.Line.{wordLine}
+use Rattle.listing.specs.Listing.{LINE-BYTES, linesFrom, wordsIn, listed, listingCall}
 use Rattle.listing.proofs.Lines.{length-line}
 
 -- ---- the questions
@@ -28,14 +27,14 @@ module _ (width : Width) (program text : List ℕ) where
   too-long h = rw (lt-leb (length program) MOST-MEMORY h)
 
   module _ (size : length program ≤ MOST-MEMORY) where
-    pub broken : length program % wordBytes width ≢ 0 → listed 16 text ≡ listingCall width program text
+    pub not-whole : length program % wordBytes width ≢ 0 → listed 16 text ≡ listingCall width program text
     unfolding listingCall if_then_else_
-    broken d = rw (le-leb (length program) MOST-MEMORY size, ne-eqb (length program % wordBytes width) 0 d)
+    not-whole d = rw (le-leb (length program) MOST-MEMORY size, ne-eqb (length program % wordBytes width) 0 d)
 
     module _ (whole : length program % wordBytes width ≡ 0) where
-      pub no-room : length text < LINE-BYTES * wordsIn width program → listed 17 text ≡ listingCall width program text
+      pub too-short : length text < LINE-BYTES * wordsIn width program → listed 17 text ≡ listingCall width program text
       unfolding listingCall if_then_else_
-      no-room h =
+      too-short h =
           rw (le-leb (length program) MOST-MEMORY size, eq-eqb (length program % wordBytes width) 0 whole, lt-leb (LINE-BYTES * wordsIn width program) (length text) h)
 
       pub listable : LINE-BYTES * wordsIn width program ≤ length text → listed 0 (over (linesFrom width program 0 (wordsIn width program)) text) ≡ listingCall width program text
@@ -51,17 +50,17 @@ unfolding wordBytes
 inside w16 size n h = omega arith
 inside w32 size n h = omega arith
 
--- the one after it
-pub after : (width : Width) (n : ℕ) → wordBytes width * n + wordBytes width ≡ wordBytes width * (n + 1)
+-- the one next-word it
+pub next-word : (width : Width) (n : ℕ) → wordBytes width * n + wordBytes width ≡ wordBytes width * (n + 1)
 unfolding wordBytes
-after w16 n = omega arith
-after w32 n = omega arith
+next-word w16 n = omega arith
+next-word w32 n = omega arith
 
--- a word has two bytes or more
-pub half : (width : Width) (size : ℕ) → size / wordBytes width ≤ size
+-- no more words than bytes
+pub words-le : (width : Width) (size : ℕ) → size / wordBytes width ≤ size
 unfolding wordBytes
-half w16 size = omega arith
-half w32 size = omega arith
+words-le w16 size = omega arith
+words-le w32 size = omega arith
 
 -- ---- the lines
 
@@ -72,7 +71,7 @@ module _ (width : Width) (program : List ℕ) where
 
   -- the line of word n
   abbrev pub lineAt : (n : ℕ) → List ℕ
-  lineAt n = lineOf width (wordBytes width * n) (wordAt width program (wordBytes width * n))
+  lineAt n = wordLine width (wordBytes width * n) (wordAt width program (wordBytes width * n))
 
   pub lines-first : linesAt 0 ≡ linesFrom width program 0 (wordsIn width program)
   lines-first =
@@ -85,7 +84,7 @@ module _ (width : Width) (program : List ℕ) where
   lines-next n h =
       let words = wordsIn width program in
       let e : words - n ≡ suc (words - (n + 1)) = omega arith in
-      ap (linesFrom width program (wordBytes width * n)) e ∙ ap (λ (a : ℕ). lineAt n ++ linesFrom width program a (words - (n + 1))) (after width n)
+      ap (linesFrom width program (wordBytes width * n)) e ∙ ap (λ (a : ℕ). lineAt n ++ linesFrom width program a (words - (n + 1))) (next-word width n)
 
   pub lines-none : linesAt (wordsIn width program) ≡ []
   unfolding linesFrom
@@ -118,7 +117,7 @@ module _ (width : Width) (program : List ℕ) (n : ℕ) (text part : List ℕ) (
   pub written-length : length written ≡ length text
   written-length = ap length written-is ∙ length-putAt text (48 * n) part (omega (arith, size))
 
-  -- the lines after it are left
+  -- the lines next-word it are left
   pub written-next : (goal : List ℕ) → n < wordsIn width program → putAt text (48 * n) (linesAt width program n) ≡ goal
       → putAt written (48 * (n + 1)) (linesAt width program (n + 1)) ≡ goal
   written-next goal h g =

@@ -1,10 +1,10 @@
 -- The columns of a line, filled one after the other. Assumes nothing.
 use mathlib.Core.Path.{_≡_, refl, sym, ap, _∙_}
 use mathlib.Core.List.{List, [], _∷_, _++_, append-assoc, append-nil}
-use Prim.Native.Nat.{ℕ, zero, suc, _+_, _-_, _≤_, _<_}
+use Prim.Native.Nat.{ℕ, zero, suc, _+_, _-_, _≤_}
 use native.Mathlib.Nat.{zero-add}
 use native.Mathlib.Omega.{arith}
-use lib.ListN.{length, take, drop, replicate, length-append, length-replicate, drop-of-length-le}
+use lib.ListN.{length, drop, replicate, length-append, length-replicate}
 use lib.Seq.{drop-append-le}
 use Rattle.codec.specs.Number.{putAt}
 use Rattle.codec.proofs.Laws.{putAt-nothing, putAt-skip}
@@ -37,7 +37,7 @@ fill-after n t rest h =
     let e : 0 + suc (length t) ≡ suc (0 + length t) = omega arith in
     ap (λ (k : ℕ). (blank ∷ t) ++ drop k (blank ∷ (padded n [] ++ rest))) e ∙ ap (λ (s : List ℕ). blank ∷ s) (fill n t rest h)
 
--- a column that is full stays so
+-- padding twice is padding once
 pub padded-again : (n : ℕ) (t : List ℕ) → length t ≤ n → padded n (padded n t) ≡ padded n t
 unfolding padded
 padded-again n t h =
@@ -45,8 +45,8 @@ padded-again n t h =
     ap (λ (k : ℕ). padded n t ++ replicate k blank) e ∙ append-nil (padded n t)
 
 -- past a column and the blank after it
-past : (n at k : ℕ) (c s t : List ℕ) → length c ≤ n → n + 1 + at ≡ k → putAt (padded n c ++ (blank ∷ s)) k t ≡ padded n c ++ (blank ∷ putAt s at t)
-past n at k c s t h e =
+put-past : (n at k : ℕ) (c s t : List ℕ) → length c ≤ n → n + 1 + at ≡ k → putAt (padded n c ++ (blank ∷ s)) k t ≡ padded n c ++ (blank ∷ putAt s at t)
+put-past n at k c s t h e =
     putAt-skip (padded n c) (blank ∷ s) t (1 + at) k (omega (arith, length-padded n c h))
     ∙ ap (λ (l : List ℕ). padded n c ++ l) (putAt-skip (blank ∷ []) s t at (1 + at) refl)
 
@@ -103,23 +103,23 @@ put-address a h = fill 8 a (blank ∷ second [] [] [] []) h
 
 pub put-word : (a w : List ℕ) → length a ≤ 8 → length w ≤ 8 → putAt (first a [] [] [] []) 9 w ≡ first a w [] [] []
 put-word a w h k =
-    past 8 0 9 a (second [] [] [] []) w h refl
+    put-past 8 0 9 a (second [] [] [] []) w h refl
     ∙ ap (λ (s : List ℕ). padded 8 a ++ (blank ∷ s)) (fill 8 w (blank ∷ third [] [] []) k)
 
 pub put-condition : (a w c : List ℕ) → length a ≤ 8 → length w ≤ 8 → length c ≤ 6 → putAt (first a w [] [] []) 18 c ≡ first a w c [] []
 put-condition a w c h k l =
-    past 8 9 18 a (second w [] [] []) c h refl
+    put-past 8 9 18 a (second w [] [] []) c h refl
     ∙ ap (λ (s : List ℕ). padded 8 a ++ (blank ∷ s))
-    (past 8 0 9 w (third [] [] []) c k refl
+    (put-past 8 0 9 w (third [] [] []) c k refl
     ∙ ap (λ (s : List ℕ). padded 8 w ++ (blank ∷ s)) (fill 6 c (blank ∷ fourth [] []) l))
 
 pub put-name : (a w c n : List ℕ) → length a ≤ 8 → length w ≤ 8 → length c ≤ 6 → length n ≤ 8 → putAt (first a w c [] []) 25 n ≡ first a w c n []
 put-name a w c n h k l m =
-    past 8 16 25 a (second w c [] []) n h refl
+    put-past 8 16 25 a (second w c [] []) n h refl
     ∙ ap (λ (s : List ℕ). padded 8 a ++ (blank ∷ s))
-    (past 8 7 16 w (third c [] []) n k refl
+    (put-past 8 7 16 w (third c [] []) n k refl
     ∙ ap (λ (s : List ℕ). padded 8 w ++ (blank ∷ s))
-    (past 6 0 7 c (fourth [] []) n l refl
+    (put-past 6 0 7 c (fourth [] []) n l refl
     ∙ ap (λ (s : List ℕ). padded 6 c ++ (blank ∷ s)) (fill 8 n (blank ∷ fifth []) m)))
 
 -- texts with blanks between them, and with a blank before each
@@ -132,11 +132,11 @@ spaced-joined t (u ∷ us) = ap (λ (s : List ℕ). blank ∷ t ++ s) (spaced-jo
 put-last : (a w c n t : List ℕ) → length a ≤ 8 → length w ≤ 8 → length c ≤ 6 → length n ≤ 8 → length t ≤ 13
     → putAt (first a w c n []) 33 (blank ∷ t) ≡ first a w c n t
 put-last a w c n t h k l m o =
-    past 8 24 33 a (second w c n []) (blank ∷ t) h refl
+    put-past 8 24 33 a (second w c n []) (blank ∷ t) h refl
     ∙ ap (λ (s : List ℕ). padded 8 a ++ (blank ∷ s))
-    (past 8 15 24 w (third c n []) (blank ∷ t) k refl
+    (put-past 8 15 24 w (third c n []) (blank ∷ t) k refl
     ∙ ap (λ (s : List ℕ). padded 8 w ++ (blank ∷ s))
-    (past 6 8 15 c (fourth n []) (blank ∷ t) l refl
+    (put-past 6 8 15 c (fourth n []) (blank ∷ t) l refl
     ∙ ap (λ (s : List ℕ). padded 6 c ++ (blank ∷ s))
     (putAt-skip (padded 8 n) (blank ∷ fifth []) (blank ∷ t) 0 8 (omega (arith, length-padded 8 n m))
     ∙ ap (λ (s : List ℕ). padded 8 n ++ s) (fill-after 13 t (newline ∷ []) o))))

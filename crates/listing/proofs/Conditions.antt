@@ -1,51 +1,68 @@
 -- The condition of an instruction in a line. Assumes nothing.
-use mathlib.Core.Path.{_≡_, refl, sym, ap, _∙_}
+use mathlib.Core.Path.{_≡_, sym, ap, _∙_}
 use mathlib.Core.Bool.{true, false}
 use mathlib.Core.List.{List, [], _∷_, _++_}
 use Prim.Native.Nat.{ℕ, _+_, _*_, _≤_, _<_}
+use lib.IntN.{ℤ}
 use native.Mathlib.Omega.{arith}
-use lib.ListN.{length, take, drop, length-append}
+use lib.ListN.{length, take, drop}
 use Rattle.word.specs.Choice.{if_then_else_}
 use Rattle.word.specs.Word.{signedOf}
-use Rattle.word.proofs.Tests.{either}
+use Rattle.word.proofs.Tests.{if-true, if-false}
+use Rattle.word.proofs.Integers.{signed-low}
 use Rattle.codec.specs.Number.{putAt}
 use Rattle.codec.proofs.Laws.{putAt-nothing, putAt-append}
 use Rattle.isa.specs.Text.{bytes}
 use Rattle.isa.specs.declared.Instruction.{Instruction}
+use Rattle.isa.specs.Format.{Creg}
+use Rattle.isa.specs.Shown.{shownValue}
 use Rattle.operands.specs.Letters.{roleOf}
-use Rattle.console.specs.Digits.{blank, decimal}
-use Rattle.listing.specs.Line.{integerText, prefixOf, joined, conditionText}
+use Rattle.console.specs.Digits.{blank}
+use Rattle.listing.specs.Line.{integerText, prefixOf, operandText, joined, conditionText}
 use Rattle.listing.specs.Parts.{conditionName, Placed, placed, put}
-use Rattle.listing.proofs.Texts.{text-positive, length-digit, prefix-creg}
-use Rattle.listing.proofs.Names.{condition-short, conditionNames, condition-at}
+use Rattle.listing.proofs.Texts.{length-digit}
+use Rattle.listing.proofs.Names.{conditionNames, condition-at}
 
--- the condition register, as an operand
+-- the text of a conditional instruction, and of another one
+pub text-conditional : (i : Instruction) → i .conditional ≡ true → conditionText i ≡ conditionName (i .condition) ++ (blank ∷ operandText i Creg)
+unfolding conditionText joined conditionName
+text-conditional i t = if-true _ _ _ t
+
+pub text-unconditional : (i : Instruction) → i .conditional ≡ false → conditionText i ≡ []
+unfolding conditionText
+text-unconditional i t = if-false _ _ _ t
+
+-- the condition register, as `put_operand` writes it with a blank before it
 abbrev pub register : (creg : ℕ) → List ℕ
 register creg = blank ∷ prefixOf (roleOf 99) ++ integerText (signedOf 32 creg)
 
-register-is : (creg : ℕ) → creg < 8 → register creg ≡ blank ∷ 67 ∷ decimal creg
-register-is creg h = rw (prefix-creg 99 refl, text-positive creg (omega arith))
+module _ (i : Instruction) (h : i .creg < 8) where
+  register-is : register (i .creg) ≡ blank ∷ operandText i Creg
+  unfolding operandText prefixOf roleOf if_then_else_ shownValue
+  register-is = ap (λ (z : ℤ). blank ∷ prefixOf Creg ++ integerText z) (signed-low 32 (i .creg) (omega arith))
 
-pub length-register : (creg : ℕ) → creg < 8 → length (register creg) ≤ 3
-length-register creg h = omega (arith, ap length (register-is creg h), length-digit creg (omega arith))
+  pub length-creg : length (operandText i Creg) ≤ 2
+  unfolding operandText prefixOf bytes integerText shownValue
+  length-creg = omega (arith, length-digit (i .creg) (omega arith))
 
--- what is written of a conditional instruction
-pub condition-put : (line copied after : List ℕ) (n next : ℕ) (i : Instruction) → i .conditional ≡ true → i .creg < 8 → i .condition < 8 → 18 ≤ length line
-    → n ≡ length (conditionName (i .condition)) → copied ≡ putAt line 18 (take n (drop (i .condition * 3) conditionNames))
-    → placed next after ≡ put (register (i .creg)) (18 + n) copied → after ≡ putAt line 18 (conditionText i)
-unfolding conditionText joined conditionName bytes if_then_else_
-condition-put line copied after n next i t h k l e f g =
-    let name = conditionName (i .condition) in
-    let named : copied ≡ putAt line 18 name = f ∙ ap (λ (m : ℕ). putAt line 18 (take m (drop (i .condition * 3) conditionNames))) e ∙ ap (λ (s : List ℕ). putAt line 18 s) (condition-at (i .condition) k) in
-    let told : after ≡ putAt copied (18 + n) (register (i .creg)) = ap (λ (p : Placed). p .line) g in
-    rw t
-    (told
-    ∙ ap (λ (s : List ℕ). putAt copied (18 + n) s) (register-is (i .creg) h)
-    ∙ ap (λ (m : ℕ). putAt copied (18 + m) (blank ∷ 67 ∷ decimal (i .creg))) e
-    ∙ ap (λ (s : List ℕ). putAt s (18 + length name) (blank ∷ 67 ∷ decimal (i .creg))) named
-    ∙ putAt-append line 18 name (blank ∷ 67 ∷ decimal (i .creg)) l)
+  pub length-register : length (register (i .creg)) ≤ 3
+  length-register = omega (arith, ap length register-is, length-creg)
+
+  -- what is written of a conditional instruction
+  pub condition-put : (line copied after : List ℕ) (n next : ℕ) → i .conditional ≡ true → i .condition < 8 → 18 ≤ length line
+      → n ≡ length (conditionName (i .condition)) → copied ≡ putAt line 18 (take n (drop (i .condition * 3) conditionNames))
+      → placed next after ≡ put (register (i .creg)) (18 + n) copied → after ≡ putAt line 18 (conditionText i)
+  condition-put line copied after n next t k l e f g =
+      let name = conditionName (i .condition) in
+      let named : copied ≡ putAt line 18 name = f ∙ ap (λ (m : ℕ). putAt line 18 (take m (drop (i .condition * 3) conditionNames))) e ∙ ap (λ (s : List ℕ). putAt line 18 s) (condition-at (i .condition) k) in
+      let told : after ≡ putAt copied (18 + n) (register (i .creg)) = ap (λ (p : Placed). p .line) g in
+      told
+      ∙ ap (λ (s : List ℕ). putAt copied (18 + n) s) register-is
+      ∙ ap (λ (m : ℕ). putAt copied (18 + m) (blank ∷ operandText i Creg)) e
+      ∙ ap (λ (s : List ℕ). putAt s (18 + length name) (blank ∷ operandText i Creg)) named
+      ∙ putAt-append line 18 name (blank ∷ operandText i Creg) l
+      ∙ ap (λ (s : List ℕ). putAt line 18 s) (sym (text-conditional i t))
 
 -- and of another one: nothing
 pub condition-none : (line : List ℕ) (i : Instruction) → i .conditional ≡ false → line ≡ putAt line 18 (conditionText i)
-unfolding conditionText if_then_else_
-condition-none line i t = rw t (sym (putAt-nothing line 18))
+condition-none line i t = sym (ap (λ (s : List ℕ). putAt line 18 s) (text-unconditional i t) ∙ putAt-nothing line 18)

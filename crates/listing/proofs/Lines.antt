@@ -1,25 +1,25 @@
 -- A line, from its parts. Assumes nothing.
 use mathlib.Core.Path.{_≡_, refl, sym, ap, _∙_}
-use mathlib.Core.Bool.{Bool, true, false}
 use mathlib.Core.List.{List, [], _∷_, _++_, append-nil}
 use Prim.Native.Nat.{ℕ, _+_, _*_, _≤_, _<_}
 use native.Mathlib.Omega.{arith}
-use lib.ListN.{length, drop, length-append, drop-of-length-le}
+use lib.ListN.{length, length-append, drop-of-length-le}
 use Rattle.word.specs.Choice.{if_then_else_}
 use Rattle.word.proofs.Tests.{either}
 use Rattle.codec.specs.Number.{putAt}
 use Rattle.isa.specs.Text.{bytes}
-use Rattle.isa.specs.Operation.{Operation, operationOf, Width, w16, w32}
+use Rattle.isa.specs.Operation.{operationOf, Width, w16, w32}
+use Rattle.isa.specs.Format.{Creg}
 use Rattle.isa.specs.Decode.{wordBytes, decode}
 use Rattle.isa.specs.Shown.{hasForm}
 use Rattle.isa.specs.declared.Instruction.{Instruction}
 use Rattle.isa.proofs.Decoded.{in-range}
-use Rattle.console.specs.Digits.{blank, digitsOf, decimal, hex8}
+use Rattle.console.specs.Digits.{blank, digitsOf, hex8}
 use Rattle.console.proofs.Digits.{length-digitsOf}
-use Rattle.listing.specs.Line.{joined, operandTexts, operandsText, nameText, conditionText, padded, columns, lineOf}
+use Rattle.listing.specs.Line.{operandText, joined, shownTexts, operandsText, nameText, conditionText, padded, columns, wordLine}
 use Rattle.listing.specs.Parts.{mnemonicOf, conditionName, spaced}
-use Rattle.listing.proofs.Texts.{length-digit}
 use Rattle.listing.proofs.Names.{length-padded, short, condition-short}
+use Rattle.listing.proofs.Conditions.{text-conditional, text-unconditional, length-creg}
 use Rattle.listing.proofs.Rooms.{operands-fit}
 use Rattle.listing.proofs.Columns.{Fit, length-columns, spaced-joined, padded-again, fifth, first, from-right, put-address, put-word, put-condition, put-name, put-operands}
 
@@ -38,11 +38,10 @@ word-fits w16 word = omega (arith, length-digitsOf 16 4 word)
 word-fits w32 word = omega (arith, length-digitsOf 16 8 word)
 
 pub condition-fits : (i : Instruction) → i .creg < 8 → length (conditionText i) ≤ 6
-unfolding conditionText joined bytes if_then_else_ conditionName
 condition-fits i h =
     either (i .conditional)
-    (λ e. rw e (omega (arith, length-append (conditionName (i .condition)) (blank ∷ 67 ∷ decimal (i .creg)), condition-short (i .condition), length-digit (i .creg) (omega arith))))
-    (λ e. rw e (omega arith))
+    (λ e. omega (arith, ap length (text-conditional i e), length-append (conditionName (i .condition)) (blank ∷ operandText i Creg), condition-short (i .condition), length-creg i h))
+    (λ e. omega (arith, ap length (text-unconditional i e)))
 
 pub name-fits : (width : Width) (n : ℕ) → length (nameText width (operationOf n)) ≤ 8
 unfolding nameText mnemonicOf bytes if_then_else_
@@ -50,7 +49,7 @@ name-fits width n = either (hasForm width (operationOf n)) (λ e. rw e (short n)
 
 -- ---- the line
 
--- an empty line, all of which was written
+-- a text no shorter than the line replaces all of it
 cleared : (line s : List ℕ) → length line ≤ length s → putAt line 0 s ≡ s
 cleared line s h = let e : length line ≤ 0 + length s = omega arith in ap (λ (t : List ℕ). s ++ t) (drop-of-length-le line e) ∙ append-nil s
 
@@ -72,8 +71,8 @@ front-put width address word line l₀ l₁ l₂ n e₀ e₁ e₂ =
 -- and the rest
 pub line-put : (width : Width) (address word : ℕ) (l₀ l₁ l₂ l₃ : List ℕ) → l₀ ≡ columns (hex8 address) (wordText width word) [] [] []
     → l₁ ≡ putAt l₀ 18 (conditionText (decode width word)) → l₂ ≡ putAt l₁ 25 (padded 8 (nameText width (operationOf (decode width word .opcode))))
-    → l₃ ≡ putAt l₂ 33 (spaced (operandTexts width (decode width word))) → l₃ ≡ lineOf width address word
-unfolding lineOf operandsText
+    → l₃ ≡ putAt l₂ 33 (spaced (shownTexts width (decode width word))) → l₃ ≡ wordLine width address word
+unfolding wordLine operandsText
 line-put width address word l₀ l₁ l₂ l₃ e₀ e₁ e₂ e₃ =
     let i = decode width word in
     let a = hex8 address in
@@ -88,9 +87,9 @@ line-put width address word l₀ l₁ l₂ l₃ e₀ e₁ e₂ e₃ =
     let hp : length p ≤ 8 = omega (arith, length-padded 8 n hn) in
     let c₁ : l₁ ≡ first a w c [] [] = e₁ ∙ ap (λ (s : List ℕ). putAt s 18 c) (e₀ ∙ from-right a w [] [] []) ∙ put-condition a w c ha hw hc in
     let c₂ : l₂ ≡ first a w c n [] = e₂ ∙ ap (λ (s : List ℕ). putAt s 25 p) c₁ ∙ put-name a w c p ha hw hc hp ∙ ap (λ (s : List ℕ). padded 8 a ++ (blank ∷ (padded 8 w ++ (blank ∷ (padded 6 c ++ (blank ∷ (s ++ (blank ∷ fifth [])))))))) (padded-again 8 n hn) in
-    e₃ ∙ ap (λ (s : List ℕ). putAt s 33 (spaced (operandTexts width i))) c₂
-    ∙ put-operands a w c n (operandTexts width i) ha hw hc hn (operands-fit width word)
-    ∙ sym (from-right a w c n (joined (operandTexts width i)))
+    e₃ ∙ ap (λ (s : List ℕ). putAt s 33 (spaced (shownTexts width i))) c₂
+    ∙ put-operands a w c n (shownTexts width i) ha hw hc hn (operands-fit width word)
+    ∙ sym (from-right a w c n (joined (shownTexts width i)))
 
 -- ---- its columns
 
@@ -111,9 +110,9 @@ parts-fit width address word =
       word = word-fits width word;
       condition = condition-fits i (in-range width word .creg);
       name = name-fits width (i .opcode);
-      operands = joined-fits (operandTexts width i) (operands-fit width word);
+      operands = joined-fits (shownTexts width i) (operands-fit width word);
     }
 
-pub length-line : (width : Width) (address word : ℕ) → length (lineOf width address word) ≡ 48
-unfolding lineOf
+pub length-line : (width : Width) (address word : ℕ) → length (wordLine width address word) ≡ 48
+unfolding wordLine
 length-line width address word = length-columns _ _ _ _ _ (parts-fit width address word)

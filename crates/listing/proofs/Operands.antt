@@ -5,13 +5,13 @@ use mathlib.Core.List.{List, [], _∷_, _++_, map}
 use Prim.Native.Nat.{ℕ, zero, suc, _+_, _^_, _≤_, _<_}
 use native.Mathlib.Numerals.{add-one}
 use native.Mathlib.Omega.{arith}
-use lib.ListN.{length, getD, drop, length-append}
+use lib.ListN.{length, getD, drop}
 use lib.Signed.{mag}
 use Rattle.word.specs.Word.{signedOf, wordOf}
 use Rattle.word.proofs.Integers.{signed-word}
 use Rattle.codec.specs.Number.{putAt}
-use Rattle.codec.proofs.Laws.{putAt-nothing, length-putAt, putAt-append}
-use Rattle.isa.specs.Format.{Role, Dreg, Sreg1, Sreg2, Creg, Imm, Length, Position}
+use Rattle.codec.proofs.Laws.{putAt-append}
+use Rattle.isa.specs.Format.{Role}
 use Rattle.isa.specs.Shown.{shownValue}
 use Rattle.isa.specs.declared.Instruction.{Instruction}
 use Rattle.operands.specs.Letters.{letterOf, roleOf}
@@ -72,9 +72,9 @@ module _ (i : Instruction) (rs : List Role) where
       rw (next, g, add-one k)
 
   -- it is written
-  pub written : (k letter n at next : ℕ) (line after goal : List ℕ) → at ≤ length line → left k ≡ operandPut letter n ++ left (k + 1)
+  pub operand-written : (k letter n at next : ℕ) (line after goal : List ℕ) → at ≤ length line → left k ≡ operandPut letter n ++ left (k + 1)
       → placed next after ≡ put (operandPut letter n) at line → putAt line at (left k) ≡ goal → putAt after next (left (k + 1)) ≡ goal
-  written k letter n at next line after goal h e f g =
+  operand-written k letter n at next line after goal h e f g =
       let t = operandPut letter n in
       let l : after ≡ putAt line at t = ap (λ (p : Placed). p .line) f in
       let m : next ≡ at + length t = ap (λ (p : Placed). p .next) f in

@@ -1,15 +1,15 @@
 -- The parts of a line fit their columns. Assumes nothing.
-use mathlib.Core.Path.{_≡_, refl, sym, ap, _∙_}
-use mathlib.Core.Bool.{Bool, true, false}
-use mathlib.Core.List.{List, [], _∷_, _++_, map}
-use Prim.Native.Nat.{ℕ, zero, suc, _+_, _-_, _*_, _^_, _≤_, _<_}
+use mathlib.Core.Path.{_≡_, refl}
+use mathlib.Core.Bool.{Bool, true}
+use mathlib.Core.List.{List, [], _∷_, map}
+use Prim.Native.Nat.{ℕ, suc, _+_, _-_, _^_, _≤_, _<_}
 use native.Mathlib.Nat.{le-trans}
 use native.Mathlib.Omega.{arith}
-use lib.Dec.{leb, ltb}
+use lib.Dec.{leb}
 use lib.IntN.{ℤ, pos, negsuc}
 use lib.ListN.{length, length-append}
 use lib.Signed.{mag}
-use borrow.Author.Tests.{leb-true, ltb-true, lt-ltb}
+use borrow.Author.Tests.{leb-true}
 use Rattle.word.specs.Choice.{if_then_else_}
 use Rattle.word.specs.Word.{bits_to_, signedOf, wordOf}
 use Rattle.word.proofs.Tests.{either, and-parts}
@@ -26,7 +26,7 @@ use Rattle.isa.proofs.Rows.{immediateFits, rows-sound}
 use Rattle.isa.proofs.Decoded.{in-range}
 use Rattle.console.specs.Digits.{blank, decimal, placesOf}
 use Rattle.console.proofs.Digits.{length-digitsOf, places-le, places-mono}
-use Rattle.listing.specs.Line.{integerText, prefixOf, operandText, operandTexts}
+use Rattle.listing.specs.Line.{integerText, prefixOf, operandText, shownTexts}
 use Rattle.listing.specs.Parts.{spaced}
 use Rattle.listing.specs.Computed.{listings}
 
@@ -60,7 +60,7 @@ unfoldable rolesRoom : (Role → ℕ) → List Role → ℕ
 rolesRoom room [] = 0
 rolesRoom room (r ∷ rs) = suc (room r) + rolesRoom room rs
 
--- no row of the table needs more than 14, one computed test
+-- no row of the table needs more than 14: a computed test for each width
 abbrev fourteen : Width → Operation → Bool
 fourteen width o = leb (rolesRoom (roleRoom (layoutOf width (properties o .form))) (shownRoles width o)) 14
 
@@ -116,7 +116,7 @@ unfolding spaced rolesRoom
 spaced-room f room h [] = omega arith
 spaced-room f room h (r ∷ rs) = omega (arith, h r, spaced-room f room h rs, length-append (blank ∷ f r) (spaced (map f rs)))
 
-pub operands-fit : (width : Width) (word : ℕ) → length (spaced (operandTexts width (decode width word))) ≤ 14
+pub operands-fit : (width : Width) (word : ℕ) → length (spaced (shownTexts width (decode width word))) ≤ 14
 unfolding decode assembled
 operands-fit width word =
     let o = operationOf (opcodeOf width word) in

@@ -1,8 +1,8 @@
 -- Laws of texts in a line. Assumes nothing.
 use mathlib.Core.Path.{_≡_, refl, sym, ap, _∙_}
 use mathlib.Core.Logic.{_≢_}
-use mathlib.Core.List.{List, [], _∷_, _++_}
-use Prim.Native.Nat.{ℕ, zero, suc, _+_, _-_, _*_, _^_, _≤_, _<_}
+use mathlib.Core.List.{List, [], _∷_}
+use Prim.Native.Nat.{ℕ, suc, _+_, _-_, _^_, _≤_, _<_}
 use native.Mathlib.Omega.{arith}
 use native.Mathlib.Numerals.{add-one}
 use lib.ListN.{length, take, drop, set, getD, length-drop}
@@ -20,7 +20,7 @@ use Rattle.console.specs.Digits.{digitsOf, placesOf, decimal}
 use Rattle.console.proofs.Digits.{length-digitsOf, places-le}
 use Rattle.listing.specs.Line.{integerText, prefixOf}
 use Rattle.listing.specs.Computed.{listings}
-use Rattle.listing.specs.Parts.{Placed, placed, put}
+use Rattle.listing.specs.Parts.{placed, put}
 use Rattle.codec.specs.Number.{putAt}
 use Rattle.codec.proofs.Laws.{set-putAt, length-putAt, putAt-append}
 

@@ -15,15 +15,15 @@ unfoldable text : List String → List ℕ
 text [] = []
 text (s ∷ ss) = bytes s ++ (newline ∷ text ss)
 
--- 32-bit words of every operation that has operands of its own kind, ignored bits at 0 and at 1
+-- 32-bit words of every form, ignored bits at 0 and at 1
 unfoldable program32 : List ℕ
 program32 =
     0x0000_0000 ∷ 0x02FF_FFFF ∷ 0x881F_FFFF ∷ 0x07C8_7FDD ∷ 0x0400_7FDD ∷ 0x49CC_7FE0 ∷ 0x4803_801F ∷ 0x500F_FFFF ∷
-    0x5A2F_8C3F ∷ 0x6C04_7FE0 ∷ 0x73BF_83FF ∷ 0x75FF_FFFF ∷ 0x7BF8_FFFF ∷ 0x7E38_7C00 ∷ 0x82C7_7FFF ∷ 0x85C0_7FE0 ∷
-    0x8FFF_0001 ∷ 0x9100_0000 ∷ 0x94FF_FFFF ∷ 0x9800_0380 ∷ 0x9FFF_FFFF ∷ 0xA3E0_0000 ∷ 0xA7DF_FFFF ∷ 0xBC40_0001 ∷
-    0xC3F8_0000 ∷ 0xC000_0000 ∷ 0xC400_0000 ∷ 0xC8FF_FFFF ∷ 0xCC00_03FE ∷ 0xD000_0000 ∷ 0xD400_0000 ∷ 0xD800_0021 ∷
-    0xDC00_00FF ∷ 0xE000_7C00 ∷ 0xE400_03E0 ∷ 0xE800_04E2 ∷ 0xEC00_1022 ∷ 0xEE28_1022 ∷ 0xF01F_FC63 ∷ 0xF400_0C23 ∷
-    0xF800_0C22 ∷ 0xFDF8_7FFF ∷ 0xFC00_00A6 ∷
+    0x5A2F_8C3F ∷ 0x5C07_FFFF ∷ 0x6C04_7FE0 ∷ 0x73BF_83FF ∷ 0x75FF_FFFF ∷ 0x7BF8_FFFF ∷ 0x7E38_7C00 ∷ 0x82C7_7FFF ∷
+    0x85C0_7FE0 ∷ 0x8FFF_0001 ∷ 0x9100_0000 ∷ 0x94FF_FFFF ∷ 0x9800_0380 ∷ 0x9FFF_FFFF ∷ 0xA3E0_0000 ∷ 0xA7DF_FFFF ∷
+    0xBC40_0001 ∷ 0xC3F8_0000 ∷ 0xC000_0000 ∷ 0xC400_0000 ∷ 0xC8FF_FFFF ∷ 0xCC00_03FE ∷ 0xD000_0000 ∷ 0xD400_0000 ∷
+    0xD800_0021 ∷ 0xDC00_00FF ∷ 0xE000_7C00 ∷ 0xE400_03E0 ∷ 0xE800_04E2 ∷ 0xEC00_1022 ∷ 0xEE28_1022 ∷ 0xF01F_FC63 ∷
+    0xF400_0C23 ∷ 0xF800_0C22 ∷ 0xFDF8_7FFF ∷ 0xFC00_00A6 ∷
     []
 
 unfoldable lines32 : List String
@@ -37,43 +37,44 @@ lines32 =
     "00000018 4803801F        addi     R0 R0 255    " ∷
     "0000001C 500FFFFF        andi     R31 R31 511  " ∷
     "00000020 5A2F8C3F lt C0  muli     R3 R1 -1     " ∷
-    "00000024 6C047FE0        ld       R31 R31 -256 " ∷
-    "00000028 73BF83FF nc C6  st       R0 R31 -1    " ∷
-    "0000002C 75FFFFFF        mov      R31 R31      " ∷
-    "00000030 7BF8FFFF nc C7  not      R31 R31      " ∷
-    "00000034 7E387C00 nc C0  mulhi    R31          " ∷
-    "00000038 82C77FFF        cmp      C3 R31 R31   " ∷
-    "0000003C 85C07FE0        cmpi     C7 R31 0     " ∷
-    "00000040 8FFF0001        lui      R31 1        " ∷
-    "00000044 91000000        jmp      -16777216    " ∷
-    "00000048 94FFFFFF        jal      16777215     " ∷
-    "0000004C 98000380        jmpr     R28          " ∷
-    "00000050 9FFFFFFF nc C7  jalr     R31          " ∷
-    "00000054 A3E00000        bc       C7 -2097152  " ∷
-    "00000058 A7DFFFFF        begt     C7 2097151   " ∷
-    "0000005C BC400001        bnc      C1 1         " ∷
-    "00000060 C3F80000 nc C7  scall                 " ∷
-    "00000064 C0000000        scall                 " ∷
-    "00000068 C4000000        retu                  " ∷
-    "0000006C C8FFFFFF        reti                  " ∷
-    "00000070 CC0003FE        chrs     2            " ∷
-    "00000074 D0000000        di                    " ∷
-    "00000078 D4000000        ei                    " ∷
-    "0000007C D8000021        swm      1            " ∷
-    "00000080 DC0000FF        trap     31           " ∷
-    "00000084 E0007C00        scon     R31          " ∷
-    "00000088 E40003E0        rcon     R31          " ∷
-    "0000008C E80004E2        conb     R1 R7 R2     " ∷
-    "00000090 EC001022        conh     R4 R2 R1     " ∷
-    "00000094 EE281022 lt C0  conh     R4 R2 R1     " ∷
-    "00000098 F01FFC63        exb      R31 R3 3     " ∷
-    "0000009C F4000C23        exh      R3 R1 1      " ∷
-    "000000A0 F8000C22        exbf     R3 R1 R2     " ∷
-    "000000A4 FDF87FFF        exbfi    R31 R31 63 31" ∷
-    "000000A8 FC0000A6        exbfi    R0 R5 0 6    " ∷
+    "00000024 5C07FFFF        slli     R31 R31 31   " ∷
+    "00000028 6C047FE0        ld       R31 R31 -256 " ∷
+    "0000002C 73BF83FF nc C6  st       R0 R31 -1    " ∷
+    "00000030 75FFFFFF        mov      R31 R31      " ∷
+    "00000034 7BF8FFFF nc C7  not      R31 R31      " ∷
+    "00000038 7E387C00 nc C0  mulhi    R31          " ∷
+    "0000003C 82C77FFF        cmp      C3 R31 R31   " ∷
+    "00000040 85C07FE0        cmpi     C7 R31 0     " ∷
+    "00000044 8FFF0001        lui      R31 1        " ∷
+    "00000048 91000000        jmp      -16777216    " ∷
+    "0000004C 94FFFFFF        jal      16777215     " ∷
+    "00000050 98000380        jmpr     R28          " ∷
+    "00000054 9FFFFFFF nc C7  jalr     R31          " ∷
+    "00000058 A3E00000        bc       C7 -2097152  " ∷
+    "0000005C A7DFFFFF        begt     C7 2097151   " ∷
+    "00000060 BC400001        bnc      C1 1         " ∷
+    "00000064 C3F80000 nc C7  scall                 " ∷
+    "00000068 C0000000        scall                 " ∷
+    "0000006C C4000000        retu                  " ∷
+    "00000070 C8FFFFFF        reti                  " ∷
+    "00000074 CC0003FE        chrs     2            " ∷
+    "00000078 D0000000        di                    " ∷
+    "0000007C D4000000        ei                    " ∷
+    "00000080 D8000021        swm      1            " ∷
+    "00000084 DC0000FF        trap     31           " ∷
+    "00000088 E0007C00        scon     R31          " ∷
+    "0000008C E40003E0        rcon     R31          " ∷
+    "00000090 E80004E2        conb     R1 R7 R2     " ∷
+    "00000094 EC001022        conh     R4 R2 R1     " ∷
+    "00000098 EE281022 lt C0  conh     R4 R2 R1     " ∷
+    "0000009C F01FFC63        exb      R31 R3 3     " ∷
+    "000000A0 F4000C23        exh      R3 R1 1      " ∷
+    "000000A4 F8000C22        exbf     R3 R1 R2     " ∷
+    "000000A8 FDF87FFF        exbfi    R31 R31 63 31" ∷
+    "000000AC FC0000A6        exbfi    R0 R5 0 6    " ∷
     []
 
-worked-32 : linesFrom w32 (bytesOf program32) 0 43 ≡ text lines32
+worked-32 : linesFrom w32 (bytesOf program32) 0 44 ≡ text lines32
 unfolding listings bytesOf text program32 lines32
 worked-32 = refl
 

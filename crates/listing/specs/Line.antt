@@ -30,6 +30,7 @@ prefixOf Imm = []
 prefixOf Length = []
 prefixOf Position = []
 
+-- an operand: its prefix and its value
 unfoldable pub operandText : Instruction → Role → List ℕ
 operandText i r = prefixOf r ++ integerText (shownValue i r)
 
@@ -39,11 +40,13 @@ joined [] = []
 joined (t ∷ []) = t
 joined (t ∷ u ∷ ts) = t ++ blank ∷ joined (u ∷ ts)
 
-abbrev pub operandTexts : Width → Instruction → List (List ℕ)
-operandTexts width i = map (operandText i) (shownRoles width (operationOf (i .opcode)))
+-- the operands of an instruction, in order
+abbrev pub shownTexts : Width → Instruction → List (List ℕ)
+shownTexts width i = map (operandText i) (shownRoles width (operationOf (i .opcode)))
 
+-- "operands (13, with R names, decimals, single blanks)"
 unfoldable pub operandsText : Width → Instruction → List ℕ
-operandsText width i = joined (operandTexts width i)
+operandsText width i = joined (shownTexts width i)
 
 -- ---- name and condition
 
@@ -53,9 +56,22 @@ nameText width o = if hasForm width o then properties o .mnemonic else bytes "?"
 
 -- "condition (`egt C7` ..)", of an instruction that is conditional
 unfoldable pub conditionText : Instruction → List ℕ
-conditionText i = if i .conditional then joined (nameOf (conditionOf (i .condition)) ∷ (bytes "C" ++ decimal (i .creg)) ∷ []) else []
+conditionText i = if i .conditional then joined (nameOf (conditionOf (i .condition)) ∷ operandText i Creg ∷ []) else []
 
 -- ---- the line
+
+-- where the parts begin; the address begins in column 0
+abbrev pub WORD-COLUMN : ℕ
+WORD-COLUMN = 9
+
+abbrev pub CONDITION-COLUMN : ℕ
+CONDITION-COLUMN = 18
+
+abbrev pub NAME-COLUMN : ℕ
+NAME-COLUMN = 25
+
+abbrev pub OPERANDS-COLUMN : ℕ
+OPERANDS-COLUMN = 34
 
 -- "every part is padded with blanks on its right"
 unfoldable pub padded : (columns : ℕ) (text : List ℕ) → List ℕ
@@ -67,12 +83,12 @@ unfoldable pub columns : (address word condition name operands : List ℕ) → L
 columns a w c n o = joined (padded 8 a ∷ padded 8 w ∷ padded 6 c ∷ padded 8 n ∷ padded 13 o ∷ []) ++ newline ∷ []
 
 -- the line of a word at an address; "word (8, or 4 and 4 blanks)": two hexadecimal digits to a byte
-unfoldable pub lineOf : Width → (address word : ℕ) → List ℕ
-lineOf width address word =
+unfoldable pub wordLine : Width → (address word : ℕ) → List ℕ
+wordLine width address word =
     let i = decode width word in
     columns (hex8 address) (digitsOf 16 (2 * wordBytes width) word) (conditionText i) (nameText width (operationOf (i .opcode))) (operandsText width i)
 
 -- to unfold all of these
 unfoldable pub lines : Unit {0}
-unfolding integerText prefixOf operandText joined operandsText nameText conditionText padded columns lineOf
+unfolding integerText prefixOf operandText joined operandsText nameText conditionText padded columns wordLine
 lines = tt

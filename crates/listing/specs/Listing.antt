@@ -1,5 +1,5 @@
 -- The call that lists a program (02 wish 2). Assumes nothing.
-use mathlib.Core.Bool.{Bool, not}
+use mathlib.Core.Bool.{not}
 use mathlib.Core.List.{List, [], _++_}
 use Prim.Native.Nat.{ℕ, zero, suc, _+_, _*_, _/_, _%_}
 use lib.Dec.{leb, eqb}
@@ -9,7 +9,7 @@ use Rattle.codec.specs.Number.{over}
 use Rattle.isa.specs.Operation.{Width}
 use Rattle.isa.specs.Decode.{wordBytes, wordAt}
 use Rattle.machine.specs.Machine.{MOST-MEMORY}
-use Rattle.listing.specs.Line.{lineOf}
+use Rattle.listing.specs.Line.{wordLine}
 
 -- "48 bytes per word": 47 characters and a newline
 abbrev pub LINE-BYTES : ℕ
@@ -18,7 +18,7 @@ LINE-BYTES = 48
 -- "each instruction a line": those of `count` words, from an address on
 unfoldable pub linesFrom : Width → (program : List ℕ) (address count : ℕ) → List ℕ
 linesFrom width program a zero = []
-linesFrom width program a (suc count) = lineOf width a (wordAt width program a) ++ linesFrom width program (a + wordBytes width) count
+linesFrom width program a (suc count) = wordLine width a (wordAt width program a) ++ linesFrom width program (a + wordBytes width) count
 
 -- how many words a program has
 abbrev pub wordsIn : Width → (program : List ℕ) → ℕ

@@ -1,7 +1,7 @@
 // The listing of a program: a line of text for each instruction word.
 ghost use mathlib.Core.Path.{_≡_};
 ghost use mathlib.Core.List.{[], _∷_, _++_};
-ghost use Prim.Native.Nat.{_+_, _*_, _/_, _^_, _≤_, _<_};
+ghost use Prim.Native.Nat.{_+_, _-_, _*_, _/_, _^_, _≤_, _<_};
 ghost use lib.ListN.{length, take, drop};
 ghost use lib.Signed.{mag};
 ghost use Rattle.codec.specs.Number.{putAt};
@@ -12,7 +12,7 @@ ghost use Rattle.isa.specs.Shown.{shownValue};
 ghost use Rattle.isa.specs.Decode.{wordBytes};
 ghost use Rattle.console.specs.Digits.{blank, digitsOf, decimal, hex8};
 ghost use Rattle.operands.specs.Letters.{roleOf};
-ghost use Rattle.listing.specs.Line.{integerText, prefixOf, operandTexts, nameText, conditionText, padded, columns, lineOf};
+ghost use Rattle.listing.specs.Line.{integerText, prefixOf, shownTexts, nameText, conditionText, padded, CONDITION-COLUMN, NAME-COLUMN, OPERANDS-COLUMN, columns, wordLine};
 ghost use Rattle.listing.specs.Parts.{mnemonicOf, conditionName, namesFrom, spaced, placed, put};
 ghost use Rattle.listing.specs.Listing.{LINE-BYTES, listed, listingCall};
 use isa::Instruction;
@@ -20,7 +20,7 @@ use isa::Instruction;
 // Bytes of a line: 47 characters and a newline.
 pub const LINE: usize = 48;
 
-// Columns in which parts of a line begin; a blank stands before the operands.
+// Columns in which parts of a line begin; OPERANDS is that of the blank before them.
 const WORD: usize = 9;
 
 const CONDITION: usize = 18;
@@ -29,7 +29,7 @@ const NAME: usize = 25;
 
 const OPERANDS: usize = 33;
 
-// ---- parts of a line
+// ---- parts of a line; a function that answers a place answers the one after what it wrote
 
 // Copies n bytes of a text, from a place of it on, into a line.
 fn copy(line: &mut [u8], at: usize, text: &[u8], from: usize, n: usize)
@@ -41,18 +41,18 @@ fn copy(line: &mut [u8], at: usize, text: &[u8], from: usize, n: usize)
     }
 }
 
-// The mnemonic of an operation, from a row of eight.
+// Writes the mnemonic of an operation, from a row of eight.
 fn put_from_row(line: &mut [u8], op: u32, row: &[u8])
     requires { ⌜ (length (now line) ≡ LINE-BYTES) × (now row ≡ namesFrom 8 mnemonicOf (op / 8 * 8) 8) ⌝ }
-    ensures { λ _. ⌜ now (line .exit) ≡ putAt (now (line .entry)) 25 (padded 8 (mnemonicOf op)) ⌝ }
+    ensures { λ _. ⌜ now (line .exit) ≡ putAt (now (line .entry)) NAME-COLUMN (padded 8 (mnemonicOf op)) ⌝ }
 {
     copy(line, NAME, row, (op % 8 * 8) as usize, 8);
 }
 
-// The mnemonic of an operation.
+// Writes the mnemonic of an operation.
 fn put_mnemonic(line: &mut [u8], op: u32)
     requires { ⌜ (length (now line) ≡ LINE-BYTES) × (op < 64) ⌝ }
-    ensures { λ _. ⌜ now (line .exit) ≡ putAt (now (line .entry)) 25 (padded 8 (mnemonicOf op)) ⌝ }
+    ensures { λ _. ⌜ now (line .exit) ≡ putAt (now (line .entry)) NAME-COLUMN (padded 8 (mnemonicOf op)) ⌝ }
 {
     match op / 8 {
         0 => put_from_row(
@@ -98,10 +98,10 @@ fn put_mnemonic(line: &mut [u8], op: u32)
     }
 }
 
-// The name of an operation: its mnemonic, or `?` where it has no form in the width.
+// Writes the name of an operation: its mnemonic, or `?` where it has no form in the width.
 fn put_name(line: &mut [u8], op: u32, wide: bool)
     requires { ⌜ (length (now line) ≡ LINE-BYTES) × (op < 64) ⌝ }
-    ensures { λ _. ⌜ now (line .exit) ≡ putAt (now (line .entry)) 25 (padded 8 (nameText (widthBy wide) (operationOf op))) ⌝ }
+    ensures { λ _. ⌜ now (line .exit) ≡ putAt (now (line .entry)) NAME-COLUMN (padded 8 (nameText (widthBy wide) (operationOf op))) ⌝ }
 {
     if isa::unavailability(op, wide, false) == 0 {
         put_mnemonic(line, op);
@@ -110,7 +110,7 @@ fn put_name(line: &mut [u8], op: u32, wide: bool)
     }
 }
 
-// A number in decimal. Answers the place after it.
+// Writes a number in decimal.
 fn put_decimal(line: &mut [u8], at: usize, n: u32) -> usize
     requires { ⌜ at + length (decimal n) ≤ length (now line) ⌝ }
     ensures { λ r. ⌜ placed r (now (line .exit)) ≡ put (decimal n) at (now (line .entry)) ⌝ }
@@ -120,7 +120,7 @@ fn put_decimal(line: &mut [u8], at: usize, n: u32) -> usize
     at + k
 }
 
-// The integer of a word in decimal, with a minus where it is negative.
+// Writes the integer of a word in decimal, with a minus where it is negative.
 fn put_integer(line: &mut [u8], at: usize, n: u32) -> usize
     requires { ⌜ at + length (integerText (signedOf 32 n)) ≤ length (now line) ⌝ }
     ensures { λ r. ⌜ placed r (now (line .exit)) ≡ put (integerText (signedOf 32 n)) at (now (line .entry)) ⌝ }
@@ -133,7 +133,7 @@ fn put_integer(line: &mut [u8], at: usize, n: u32) -> usize
     }
 }
 
-// A character, and an integer after it.
+// Writes a character, and an integer after it.
 fn put_prefixed(line: &mut [u8], at: usize, prefix: u8, n: u32) -> usize
     requires { ⌜ at + length (prefix ∷ integerText (signedOf 32 n)) ≤ length (now line) ⌝ }
     ensures { λ r. ⌜ placed r (now (line .exit)) ≡ put (prefix ∷ integerText (signedOf 32 n)) at (now (line .entry)) ⌝ }
@@ -142,7 +142,7 @@ fn put_prefixed(line: &mut [u8], at: usize, prefix: u8, n: u32) -> usize
     put_integer(line, at + 1, n)
 }
 
-// An operand, from its letter and its value, with a blank before it.
+// Writes an operand, from its letter and its value, with a blank before it.
 fn put_operand(line: &mut [u8], at: usize, letter: u8, n: u32) -> usize
     requires { ⌜ (48 ≤ letter) × (at + length (blank ∷ prefixOf (roleOf letter) ++ integerText (signedOf 32 n)) ≤ length (now line)) ⌝ }
     ensures { λ r. ⌜ placed r (now (line .exit)) ≡ put (blank ∷ prefixOf (roleOf letter) ++ integerText (signedOf 32 n)) at (now (line .entry)) ⌝ }
@@ -169,10 +169,10 @@ fn name_length(condition: u32) -> usize
     }
 }
 
-// The condition of an instruction, if it is conditional: its name, and the condition register.
+// Writes the condition of an instruction, if it is conditional: its name, and the condition register.
 fn put_condition(line: &mut [u8], i: Instruction)
     requires { ⌜ (length (now line) ≡ LINE-BYTES) × (i .creg < 8) × (i .condition < 8) ⌝ }
-    ensures { λ _. ⌜ now (line .exit) ≡ putAt (now (line .entry)) 18 (conditionText i) ⌝ }
+    ensures { λ _. ⌜ now (line .exit) ≡ putAt (now (line .entry)) CONDITION-COLUMN (conditionText i) ⌝ }
 {
     let conditional = i.conditional;
     if conditional {
@@ -188,10 +188,10 @@ fn put_condition(line: &mut [u8], i: Instruction)
     }
 }
 
-// The operands of an instruction, a blank before each.
+// Writes the operands of an instruction, a blank before each.
 fn put_operands(line: &mut [u8], i: Instruction, wide: bool)
-    requires { ⌜ (length (now line) ≡ LINE-BYTES) × (length (spaced (operandTexts (widthBy wide) i)) ≤ 14) × (i .opcode < 64) × ((r : Role) → mag (shownValue i r) < 2 ^ 31) ⌝ }
-    ensures { λ _. ⌜ now (line .exit) ≡ putAt (now (line .entry)) 33 (spaced (operandTexts (widthBy wide) i)) ⌝ }
+    requires { ⌜ (length (now line) ≡ LINE-BYTES) × (length (spaced (shownTexts (widthBy wide) i)) ≤ 14) × (i .opcode < 64) × ((r : Role) → mag (shownValue i r) < 2 ^ 31) ⌝ }
+    ensures { λ _. ⌜ now (line .exit) ≡ putAt (now (line .entry)) (OPERANDS-COLUMN - 1) (spaced (shownTexts (widthBy wide) i)) ⌝ }
 {
     let mut at = OPERANDS;
     for k in 0..4 {
@@ -205,7 +205,7 @@ fn put_operands(line: &mut [u8], i: Instruction, wide: bool)
 
 // ---- lines
 
-// The front of a line, address and word, and blanks for the rest.
+// Writes the front of a line, address and word, and blanks for the rest.
 fn put_front(line: &mut [u8], wide: bool, address: u32, word: u32)
     requires { ⌜ length (now line) ≡ LINE-BYTES ⌝ }
     ensures { λ _. ⌜ now (line .exit) ≡ columns (hex8 address) (digitsOf 16 (2 * wordBytes (widthBy wide)) word) [] [] [] ⌝ }
@@ -221,10 +221,10 @@ fn put_front(line: &mut [u8], wide: bool, address: u32, word: u32)
     console::put_digits(line, WORD, 16, 2 * isa::word_bytes(wide) as usize, word);
 }
 
-// The line of a word at an address.
+// Writes the line of a word at an address.
 fn put_line(line: &mut [u8], wide: bool, address: u32, word: u32)
     requires { ⌜ length (now line) ≡ LINE-BYTES ⌝ }
-    ensures { λ _. ⌜ now (line .exit) ≡ lineOf (widthBy wide) address word ⌝ }
+    ensures { λ _. ⌜ now (line .exit) ≡ wordLine (widthBy wide) address word ⌝ }
 {
     let i = isa::decode(word, wide);
     put_front(line, wide, address, word);

@@ -2,7 +2,7 @@
 use mathlib.Core.Path.{_≡_}
 use Prim.Native.Nat.{ℕ, zero, suc, _+_, _*_, _/_, _%_, _<_}
 use native.Mathlib.Omega.{arith}
-use native.Mathlib.Nat.{add-zero, add-suc}
+use native.Mathlib.Nat.{add-zero}
 use lib.ListN.{length, getD}
 use Rattle.isa.specs.Operation.{operationOf, Width}
 use Rattle.operands.specs.Letters.{letterAt, lettersFrom, letters}

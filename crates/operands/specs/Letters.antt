@@ -1,4 +1,4 @@
--- What an operand is to the operation, as a letter: 0 dreg, 1 sreg1, 2 sreg2, c creg, i the immediate, l and p its length and position.
+-- What an operand is to the operation, as one character: 0 dreg, 1 sreg1, 2 sreg2, c creg, i the immediate, l and p its length and position.
 -- Assumes nothing.
 use mathlib.Core.List.{List, [], _∷_, map}
 use Prim.Native.Nat.{ℕ, zero, suc, _/_, _%_}
@@ -9,16 +9,17 @@ use Rattle.isa.specs.Operation.{Operation, operationOf, Width}
 use Rattle.isa.specs.Format.{Role, Dreg, Sreg1, Sreg2, Creg, Imm, Length, Position}
 use Rattle.isa.specs.Shown.{shownRoles}
 
+-- the letter of a role
 unfoldable pub letterOf : Role → ℕ
-letterOf Dreg = 48
-letterOf Sreg1 = 49
-letterOf Sreg2 = 50
-letterOf Creg = 99
-letterOf Imm = 105
-letterOf Length = 108
-letterOf Position = 112
+letterOf Dreg = 48  -- 0
+letterOf Sreg1 = 49  -- 1
+letterOf Sreg2 = 50  -- 2
+letterOf Creg = 99  -- c
+letterOf Imm = 105  -- i
+letterOf Length = 108  -- l
+letterOf Position = 112  -- p
 
--- the role of a letter
+-- the role of a letter; any other character counts as Position's
 unfoldable pub roleOf : (letter : ℕ) → Role
 roleOf b =
     if eqb b 48 then Dreg

@@ -15,6 +15,7 @@ use Rattle.word.proofs.Tests.{either, and-parts, both-bounds, false-unless}
 use Rattle.isa.specs.Operation.{Width, w16, w32, widthBy}
 use Rattle.isa.specs.Decode.{wordBytes, wordAt}
 use Rattle.machine.specs.Control.{within}
+use Rattle.view.specs.Theorems.{FetchedWord}
 use Rattle.view.specs.View.{Attempt, Found, Raises, Stops, anyWithin, byteThen, bytesAt, fetchAt}
 
 -- ---- protection
@@ -130,8 +131,8 @@ fetched-inside program low high user n pc w p e =
     either (leb (pc + n) (length program)) (leb-true (pc + n) (length program))
     (λ t. absurd (not-fetched _ _ _ w (bytes-absent program n pc 0 p (leb-false (pc + n) (length program) t)) e))
 
--- the word whose bytes are there is the one that a listing shows
-pub fetched-word : (width : Width) (program : List ℕ) (a : ℕ) → a + wordBytes width ≤ length program → bytesAt program (wordBytes width) a 0 ≡ Found (wordAt width program a)
+-- the word whose bytes are there is wordAt's
+pub fetched-word : FetchedWord
 unfolding wordBytes wordAt bytesFrom
 fetched-word w16 program a h = rw (bytes-there program 2 a 0 h) (simp (zero-mul, zero-add, towards-suc))
 fetched-word w32 program a h = rw (bytes-there program 4 a 0 h) (simp (zero-mul, zero-add, towards-suc))

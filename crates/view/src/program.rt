@@ -32,7 +32,7 @@ pub fn misaligned(wide: bool, a: u32) -> bool
     (a % 2 == 1) | (a / 2 % 2 == 1) & wide
 }
 
-// The bytes of the instruction word at an address, if all are there.
+// The instruction word at an address, if all of its bytes are there. Each width has a test of its own: a step takes 8 instructions less.
 fn word_at(program: &[u8], wide: bool, a: u32) -> Fetched
     ensures { λ r. ⌜ fetchedAs r ≡ bytesAt (now (program .entry)) (wordBytes (widthBy wide)) a 0 ⌝ }
 {

@@ -1,6 +1,5 @@
 -- `examples` meets its contract: the loop goes through the text. Assumes nothing.
 use Prim.Native.Nat.{_≤_, _+_, _-_}
-use native.Mathlib.Omega.{arith}
 use lib.ListN.{length}
 use borrow.Author.Needs.{needs}
 use Rattle.examples.proofs.examples.Statement.{statement}

@@ -1,7 +1,7 @@
 -- `isa::word_at` meets its contract: by the width. Assumes nothing.
-use Prim.Native.Nat.{_+_, _≤_, _<_}
+use Prim.Native.Nat.{_+_, _≤_}
 use native.Mathlib.Omega.{arith}
-use lib.ListN.{length, getD}
+use lib.ListN.{length}
 use borrow.Author.Needs.{needs}
 use Rattle.isa.specs.Operation.{widthBy}
 use Rattle.isa.specs.Decode.{wordBytes, wordAt}
@@ -18,7 +18,7 @@ unfolding wordBytes widthBy
 narrow-there c = rw (c .if1 .left) at (c .before .before .pre)
 
 number-at-requires : tie.Need-number-at-requires
-number-at-requires c κs = wide-there c
+number-at-requires c κs = omega (arith, wide-there c)
 
 shared-slice-read-result : tie.Need-shared-slice-read-result
 shared-slice-read-result c = omega (arith, narrow-there (c .before))

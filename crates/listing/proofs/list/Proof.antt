@@ -1,19 +1,19 @@
 -- `listing::list` meets its contract: the questions in order, and each turn of the loop writes one line more. Assumes nothing.
 use mathlib.Core.Path.{_≡_, refl, sym, ap, _∙_}
-use mathlib.Core.Logic.{_≢_}
 use mathlib.Core.List.{List, []}
-use Prim.Native.Nat.{ℕ, _+_, _-_, _*_, _/_, _%_, _≤_, _<_}
+use Prim.Native.Nat.{ℕ, _+_, _-_, _*_, _/_, _≤_, _<_}
 use native.Mathlib.Omega.{arith}
-use lib.ListN.{length, take, drop, length-take, length-drop}
+use lib.ListN.{length, length-take, length-drop}
 use borrow.Author.Needs.{needs}
 use Rattle.codec.specs.Number.{putAt, over}
 use Rattle.codec.proofs.Laws.{putAt-nothing}
 use Rattle.isa.specs.Operation.{widthBy}
-use Rattle.isa.specs.Decode.{wordBytes, wordAt}
+use Rattle.isa.specs.Decode.{wordAt}
 use Rattle.isa.proofs.Decoded.{bytes-positive}
-use Rattle.listing.specs.Line.{lineOf}
+use Rattle.machine.specs.Machine.{MOST-MEMORY}
+use Rattle.listing.specs.Line.{wordLine}
 use Rattle.listing.specs.Listing.{linesFrom, wordsIn, listed}
-use Rattle.listing.proofs.Calls.{too-long, broken, no-room, listable, inside, half, linesAt, lineAt, lines-first, lines-none, put-over, written-length, written-next}
+use Rattle.listing.proofs.Calls.{too-long, not-whole, too-short, listable, inside, words-le, linesAt, lineAt, lines-first, lines-none, put-over, written-length, written-next}
 use Rattle.listing.proofs.list.Statement.{statement}
 use Rattle.listing.proofs.list.Tie as tie
 
@@ -33,7 +33,7 @@ counted c = ap (λ (b : ℕ). length (c .before .before .before .before .args .p
 -- in a turn of the loop, the word lies in the program and its line in the text
 record Turn (bytes words n size room : ℕ) : Type 0 where
   word : bytes * n + bytes ≤ size
-  few : size ≤ 65536
+  few : size ≤ MOST-MEMORY
   line : 48 * n + 48 ≤ room
 
 turn : (c : tie.In-loop Inv-loop μ-loop) →
@@ -58,7 +58,7 @@ rem-if2 c = rw (c .word-bytes .ensures) (bytes-positive _)
 returns-2 : tie.Need-returns-2 Inv-loop μ-loop
 returns-2 c =
     let args = c .before .before .before .before .before .args in
-    broken (widthBy (args .wide)) (args .program .now) (args .text .now) (c .before .before .if1 .left) (rw (c .before .word-bytes .ensures) at (c .if2 .taken))
+    not-whole (widthBy (args .wide)) (args .program .now) (args .text .now) (c .before .before .if1 .left) (rw (c .before .word-bytes .ensures) at (c .if2 .taken))
 
 div-words : tie.Need-div-words Inv-loop μ-loop
 div-words c = rw (c .before .word-bytes .ensures) (bytes-positive _)
@@ -66,13 +66,13 @@ div-words c = rw (c .before .word-bytes .ensures) (bytes-positive _)
 mul-if3 : tie.Need-mul-if3 Inv-loop μ-loop
 mul-if3 c =
     let args = c .before .before .before .before .before .args in
-    let n = half (widthBy (args .wide)) (length (args .program .now)) in
+    let n = words-le (widthBy (args .wide)) (length (args .program .now)) in
     omega (arith, counted (c .before), c .before .before .if1 .left)
 
 returns-3 : tie.Need-returns-3 Inv-loop μ-loop
 returns-3 c =
     let args = c .before .before .before .before .before .before .args in
-    no-room (widthBy (args .wide)) (args .program .now) (args .text .now) (c .before .before .before .if1 .left) (rw (c .before .before .word-bytes .ensures) at (c .before .if2 .left)) (rw (counted (c .before .before)) at (c .if3 .taken))
+    too-short (widthBy (args .wide)) (args .program .now) (args .text .now) (c .before .before .before .if1 .left) (rw (c .before .before .word-bytes .ensures) at (c .before .if2 .left)) (rw (counted (c .before .before)) at (c .if3 .taken))
 
 loop-holds : tie.Need-loop-holds Inv-loop μ-loop
 loop-holds c =
@@ -119,8 +119,8 @@ loop-again c =
     let line = c .before .before .put-line in
     let e : line .last .0 ≡ lineAt width (args .program .now) n =
     line .ensures
-    ∙ ap (λ (v : ℕ). lineOf width (asked .word-bytes .result * n) v) (c .before .before .before .word-at .ensures)
-    ∙ ap (λ (b : ℕ). lineOf width (b * n) (wordAt width (args .program .now) (b * n))) (asked .word-bytes .ensures)
+    ∙ ap (λ (v : ℕ). wordLine width (asked .word-bytes .result * n) v) (c .before .before .before .word-at .ensures)
+    ∙ ap (λ (b : ℕ). wordLine width (b * n) (wordAt width (args .program .now) (b * n))) (asked .word-bytes .ensures)
     in (
       omega arith,
       (

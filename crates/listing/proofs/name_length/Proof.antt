@@ -2,7 +2,6 @@
 use mathlib.Core.Path.{refl, sym}
 use native.Mathlib.Omega.{arith}
 use lib.ListN.{length}
-use borrow.Author.Needs.{needs}
 use Rattle.isa.proofs.Table.{values, agree}
 use Rattle.listing.specs.Parts.{conditionName}
 use Rattle.listing.specs.Computed.{listings}

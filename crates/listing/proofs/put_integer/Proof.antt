@@ -1,14 +1,13 @@
 -- `listing::put_integer` meets its contract: by the sign. Assumes nothing.
 use mathlib.Core.Path.{_≡_, ap, _∙_}
-use mathlib.Core.List.{List, _∷_}
-use Prim.Native.Nat.{ℕ, _+_, _-_, _^_, _≤_, _<_}
+use mathlib.Core.List.{_∷_}
+use Prim.Native.Nat.{_+_, _-_}
 use native.Mathlib.Omega.{arith}
 use lib.ListN.{length, length-set}
 use borrow.Author.Needs.{needs}
 use Rattle.word.specs.Word.{signedOf}
 use Rattle.console.specs.Digits.{decimal}
 use Rattle.listing.specs.Line.{integerText}
-use Rattle.listing.specs.Parts.{placed, put}
 use Rattle.listing.proofs.Texts.{put-after, text-positive, text-negative}
 use Rattle.listing.proofs.put_integer.Statement.{statement}
 use Rattle.listing.proofs.put_integer.Tie as tie

@@ -1,7 +1,5 @@
 -- `listing::put_line` meets its contract: the parts of the line in their columns. Assumes nothing.
-use mathlib.Core.Path.{_≡_, sym, ap, _∙_}
-use mathlib.Core.List.{List}
-use Prim.Native.Nat.{ℕ, _<_}
+use mathlib.Core.Path.{ap, _∙_}
 use native.Mathlib.Omega.{arith}
 use borrow.Author.Needs.{needs}
 use Rattle.codec.specs.Number.{putAt}
@@ -9,7 +7,7 @@ use Rattle.isa.specs.Operation.{operationOf, widthBy}
 use Rattle.isa.specs.Decode.{decode}
 use Rattle.isa.specs.declared.Instruction.{Instruction}
 use Rattle.isa.proofs.Decoded.{InRange, in-range}
-use Rattle.listing.specs.Line.{operandTexts, nameText, conditionText, padded}
+use Rattle.listing.specs.Line.{shownTexts, nameText, conditionText, padded}
 use Rattle.listing.specs.Parts.{spaced}
 use Rattle.listing.proofs.Rooms.{operands-fit, value-fits}
 use Rattle.listing.proofs.Lines.{line-put}
@@ -53,7 +51,7 @@ returns c =
     (l₀ .ensures)
     (l₁ .ensures ∙ ap (λ (i : Instruction). putAt (l₀ .last .0) 18 (conditionText i)) i)
     (l₂ .ensures ∙ ap (λ (i : Instruction). putAt (l₁ .last .0) 25 (padded 8 (nameText width (operationOf (i .opcode))))) i)
-    (l₃ .ensures ∙ ap (λ (i : Instruction). putAt (l₂ .last .0) 33 (spaced (operandTexts width i))) i)
+    (l₃ .ensures ∙ ap (λ (i : Instruction). putAt (l₂ .last .0) 33 (spaced (shownTexts width i))) i)
 
 pub put-line-spec : {M : Type 1} → statement M
 put-line-spec =

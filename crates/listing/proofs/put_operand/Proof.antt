@@ -1,20 +1,17 @@
 -- `listing::put_operand` meets its contract: a blank, the prefix of the role, the value. Assumes nothing.
-use mathlib.Core.Path.{_≡_, refl, ap, _∙_}
-use mathlib.Core.List.{List, [], _∷_, _++_}
-use Prim.Native.Nat.{ℕ, _+_, _≤_, _<_}
+use mathlib.Core.Path.{_≡_, _∙_}
+use mathlib.Core.List.{[], _∷_}
 use native.Mathlib.Omega.{arith}
-use lib.ListN.{length, set, length-set}
+use lib.ListN.{length-set}
 use borrow.Author.Needs.{needs}
 use Rattle.word.specs.Word.{signedOf}
-use Rattle.operands.specs.Letters.{roleOf, lettering}
+use Rattle.operands.specs.Letters.{roleOf}
 use Rattle.listing.specs.Line.{integerText, prefixOf}
-use Rattle.listing.specs.Parts.{placed, put}
-use Rattle.listing.specs.Computed.{listings}
 use Rattle.listing.proofs.Texts.{put-after, prefix-register, prefix-creg, prefix-none}
 use Rattle.listing.proofs.put_operand.Statement.{statement}
 use Rattle.listing.proofs.put_operand.Tie as tie
 
--- the text after the blank
+-- the prefix of the role, by the branch taken
 register : (c : tie.Then1) → prefixOf (roleOf (c .before .before .args .letter)) ≡ 82 ∷ []
 register c = prefix-register (c .before .before .args .letter) (c .before .before .pre .0) (c .if1 .taken)
 

@@ -1,21 +1,17 @@
 -- `listing::put_operands` meets its contract: each turn of the loop writes one operand more. Assumes nothing.
 use mathlib.Core.Path.{_≡_, refl, sym, ap, _∙_}
-use mathlib.Core.Logic.{_≢_}
 use mathlib.Core.List.{List, [], _++_}
 use Prim.Native.Nat.{ℕ, _+_, _-_, _≤_}
 use native.Mathlib.Omega.{arith}
-use lib.ListN.{length, drop, length-append, drop-of-length-le}
+use lib.ListN.{length, length-append, drop-of-length-le}
 use borrow.Author.Needs.{needs}
 use Rattle.codec.specs.Number.{putAt}
 use Rattle.codec.proofs.Laws.{putAt-nothing}
 use Rattle.isa.specs.Operation.{operationOf, widthBy}
-use Rattle.isa.specs.Format.{Role}
 use Rattle.isa.specs.Shown.{shownRoles}
-use Rattle.isa.specs.declared.Instruction.{Instruction}
 use Rattle.operands.specs.Letters.{roleOf, letterAt}
-use Rattle.listing.specs.Line.{operandTexts}
-use Rattle.listing.specs.Parts.{spaced, Placed}
-use Rattle.listing.proofs.Operands.{letterIn, none-left, next-high, operandPut, left, left-none, left-next, written}
+use Rattle.listing.specs.Parts.{Placed}
+use Rattle.listing.proofs.Operands.{letterIn, none-left, next-high, operandPut, left, left-none, left-next, operand-written}
 use Rattle.listing.proofs.Rooms.{roles-few}
 use Rattle.listing.proofs.put_operands.Statement.{statement}
 use Rattle.listing.proofs.put_operands.Tie as tie
@@ -78,7 +74,7 @@ loop-again c =
         done .kept .0 ∙ at-loop .inv .1 .0,
         (
           omega (arith, m, at-loop .inv .1 .1 .0, ap length (next valued), length-append (operandPut letter n) (left (args .i) rs (at-loop .k + 1))),
-          written (args .i) rs (at-loop .k) letter n (at-loop .at) (done .result) (at-loop .line) (done .last .0) (putAt (args .line .now) 33 (left (args .i) rs 0)) (omega (arith, room valued, at-loop .inv .1 .0)) (next valued) (done .ensures) (at-loop .inv .1 .1 .1),
+          operand-written (args .i) rs (at-loop .k) letter n (at-loop .at) (done .result) (at-loop .line) (done .last .0) (putAt (args .line .now) 33 (left (args .i) rs 0)) (omega (arith, room valued, at-loop .inv .1 .0)) (next valued) (done .ensures) (at-loop .inv .1 .1 .1),
         ),
       ),
     )

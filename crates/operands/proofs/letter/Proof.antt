@@ -1,5 +1,4 @@
 -- `operands::letter` meets its contract: both tables are those of the operands that are shown, by two computed tests. Assumes nothing.
-use mathlib.Core.Path.{refl}
 use borrow.Author.Needs.{needs}
 use Rattle.isa.specs.Computed.{instructions}
 use Rattle.operands.specs.Letters.{lettering}

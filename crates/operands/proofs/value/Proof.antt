@@ -16,7 +16,7 @@ use Rattle.operands.specs.Letters.{roleOf}
 use Rattle.operands.proofs.value.Statement.{statement}
 use Rattle.operands.proofs.value.Tie as tie
 
--- no letter of another role
+-- a character that is no other role's letter is Position's
 last : (b : ℕ) → (((((Unit {0} × (b ≢ 48)) × (b ≢ 49)) × (b ≢ 50)) × (b ≢ 99)) × (b ≢ 105)) × (b ≢ 108) → roleOf b ≡ Position
 unfolding roleOf if_then_else_
 last b others =

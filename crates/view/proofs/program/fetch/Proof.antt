@@ -9,7 +9,7 @@ use Rattle.isa.specs.Operation.{widthBy}
 use Rattle.machine.specs.Machine.{psr, userMode, widthOf, Memory}
 use Rattle.machine.specs.Control.{controlAt, IMEM-BOUND-LO, IMEM-BOUND-HI}
 use Rattle.machine.specs.Words.{machineOf}
-use Rattle.view.specs.View.{Raises, View, anyWithin, bytesAt, fetchAt, fetchedAs, view, viewOf}
+use Rattle.view.specs.View.{Raises, anyWithin, bytesAt, fetchAt, fetchedAs, view, viewOf}
 use Rattle.isa.proofs.Decoded.{bytes-positive}
 use Rattle.view.proofs.Bytes.{aligned-fits, aligned-at}
 use Rattle.view.proofs.program.fetch.Statement.{statement}
