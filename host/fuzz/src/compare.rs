@@ -1,6 +1,7 @@
 //! One call on both sides, and everything that it may touch.
 
 use crate::call::Call;
+use crate::guarded::Guarded;
 use crate::image;
 use coffee_reference::Answer;
 use std::fmt;
@@ -15,11 +16,25 @@ pub struct Sides {
     pub library: Run,
 }
 
-/// Bytes and cells before and behind the lent ones, which nobody may touch.
-const GUARD_CELLS: usize = 4;
-const GUARD_BYTES: usize = 16;
-const GUARD_CELL: u32 = 0xA5C3_965A;
-const GUARD_BYTE: u8 = 0xA5;
+/// A cell or byte that the sides leave different.
+#[derive(Clone, Debug, PartialEq, Eq)]
+pub struct Unlike<T> {
+    pub index: usize,
+    pub before: T,
+    pub reference: T,
+    pub library: T,
+}
+
+impl<T: fmt::UpperHex> fmt::Display for Unlike<T> {
+    fn fmt(&self, f: &mut fmt::Formatter<'_>) -> fmt::Result {
+        let digits = 2 * std::mem::size_of::<T>();
+        write!(
+            f,
+            "before {:0digits$X}, reference {:0digits$X}, library {:0digits$X}",
+            self.before, self.reference, self.library
+        )
+    }
+}
 
 /// What differs after a call.
 #[derive(Clone, Debug, PartialEq, Eq)]
@@ -28,20 +43,10 @@ pub enum Difference {
         reference: Answer,
         library: Answer,
     },
-    Cell {
-        index: usize,
-        before: u32,
-        reference: u32,
-        library: u32,
-    },
-    Byte {
-        index: usize,
-        before: u8,
-        reference: u8,
-        library: u8,
-    },
+    Cell(Unlike<u32>),
+    Byte(Unlike<u8>),
     /// The library wrote to memory that was lent to be read, or not lent at all.
-    Stray(&'static str),
+    Stray(String),
     /// Both sides answer alike, and not as the papers say.
     Both(String),
 }
@@ -59,25 +64,11 @@ impl fmt::Display for Difference {
                 library.steps,
                 library.ending
             ),
-            Difference::Cell {
-                index,
-                before,
-                reference,
-                library,
-            } => write!(
-                f,
-                "cell {index}: before {before:08X}, reference {reference:08X}, library {library:08X}"
-            ),
-            Difference::Byte {
-                index,
-                before,
-                reference,
-                library,
-            } => write!(
-                f,
-                "buffer byte {index} ({}): before {before:02X}, reference {reference:02X}, library {library:02X}",
-                image::name(index / 4)
-            ),
+            Difference::Cell(cell) => write!(f, "cell {}: {cell}", cell.index),
+            Difference::Byte(byte) => {
+                let name = image::name(byte.index / 4);
+                write!(f, "buffer byte {} ({name}): {byte}", byte.index)
+            }
             Difference::Stray(place) => write!(f, "the library wrote to {place}"),
             Difference::Both(what) => write!(f, "both sides: {what}"),
         }
@@ -91,8 +82,8 @@ pub struct Bench {
     pub cells: Vec<u32>,
     pub buffer: Vec<u8>,
     /// The library's, between guards.
-    library_cells: Vec<u32>,
-    library_buffer: Vec<u8>,
+    library_cells: Guarded<u32>,
+    library_buffer: Guarded<u8>,
     /// The library's copies of what it may only read.
     program: Vec<u8>,
     image: Vec<u8>,
@@ -111,41 +102,27 @@ impl Bench {
             call.limit,
             &mut self.buffer,
         );
-        let cells_end = GUARD_CELLS + call.cells.len();
-        let bytes_end = GUARD_BYTES + call.buffer.len();
         let library = (sides.library)(
             &self.program,
-            &mut self.library_cells[GUARD_CELLS..cells_end],
+            self.library_cells.lent_mut(),
             &self.image,
             &self.requests,
             call.limit,
-            &mut self.library_buffer[GUARD_BYTES..bytes_end],
+            self.library_buffer.lent_mut(),
         );
 
         if reference != library {
             return Err(Difference::Answer { reference, library });
         }
-        let cells = &self.library_cells[GUARD_CELLS..cells_end];
-        if self.cells != cells {
-            let index = first_difference(&self.cells, cells);
-            return Err(Difference::Cell {
-                index,
-                before: call.cells[index],
-                reference: self.cells[index],
-                library: cells[index],
-            });
+        let cells = self.library_cells.lent();
+        if let Some(cell) = first_difference(&call.cells, &self.cells, cells) {
+            return Err(Difference::Cell(cell));
         }
-        let bytes = &self.library_buffer[GUARD_BYTES..bytes_end];
-        if self.buffer != bytes {
-            let index = first_difference(&self.buffer, bytes);
-            return Err(Difference::Byte {
-                index,
-                before: call.buffer[index],
-                reference: self.buffer[index],
-                library: bytes[index],
-            });
+        let bytes = self.library_buffer.lent();
+        if let Some(byte) = first_difference(&call.buffer, &self.buffer, bytes) {
+            return Err(Difference::Byte(byte));
         }
-        self.no_stray(call, cells_end, bytes_end)?;
+        self.no_stray(call).map_err(Difference::Stray)?;
         self.as_promised(call, reference)?;
         Ok(reference)
     }
@@ -156,18 +133,8 @@ impl Bench {
         self.cells.extend_from_slice(&call.cells);
         self.buffer.clear();
         self.buffer.extend_from_slice(&call.buffer);
-        self.library_cells.clear();
-        self.library_cells
-            .extend_from_slice(&[GUARD_CELL; GUARD_CELLS]);
-        self.library_cells.extend_from_slice(&call.cells);
-        self.library_cells
-            .extend_from_slice(&[GUARD_CELL; GUARD_CELLS]);
-        self.library_buffer.clear();
-        self.library_buffer
-            .extend_from_slice(&[GUARD_BYTE; GUARD_BYTES]);
-        self.library_buffer.extend_from_slice(&call.buffer);
-        self.library_buffer
-            .extend_from_slice(&[GUARD_BYTE; GUARD_BYTES]);
+        self.library_cells.lay(&call.cells);
+        self.library_buffer.lay(&call.buffer);
         self.program.clear();
         self.program.extend_from_slice(&call.program);
         self.image.clear();
@@ -177,27 +144,18 @@ impl Bench {
     }
 
     /// The library wrote to nothing but its cells and its buffer.
-    fn no_stray(&self, call: &Call, cells_end: usize, bytes_end: usize) -> Result<(), Difference> {
-        let good_cell = |cell: &u32| *cell == GUARD_CELL;
-        let good_byte = |byte: &u8| *byte == GUARD_BYTE;
-        let stray = if self.program != call.program {
-            "the program"
-        } else if self.image != call.image {
-            "the image that came in"
-        } else if self.requests != call.requests {
-            "the requests"
-        } else if !self.library_cells[..GUARD_CELLS].iter().all(good_cell) {
-            "memory before the cells"
-        } else if !self.library_cells[cells_end..].iter().all(good_cell) {
-            "memory behind the cells"
-        } else if !self.library_buffer[..GUARD_BYTES].iter().all(good_byte) {
-            "memory before the buffer"
-        } else if !self.library_buffer[bytes_end..].iter().all(good_byte) {
-            "memory behind the buffer"
-        } else {
-            return Ok(());
-        };
-        Err(Difference::Stray(stray))
+    fn no_stray(&self, call: &Call) -> Result<(), String> {
+        for (name, kept) in [
+            ("the program", self.program == call.program),
+            ("the image that came in", self.image == call.image),
+            ("the requests", self.requests == call.requests),
+        ] {
+            if !kept {
+                return Err(name.to_string());
+            }
+        }
+        self.library_cells.untouched("the cells")?;
+        self.library_buffer.untouched("the buffer")
     }
 
     /// What 01 says of every answer: a refusal changes nothing; otherwise the steps
@@ -229,7 +187,21 @@ impl Bench {
     }
 }
 
-/// Where two slices of equal length differ first.
-fn first_difference<T: PartialEq>(a: &[T], b: &[T]) -> usize {
-    a.iter().zip(b).take_while(|(a, b)| a == b).count()
+/// Where two slices of equal length differ first, and what was there before.
+pub fn first_difference<T: Copy + PartialEq>(
+    before: &[T],
+    reference: &[T],
+    library: &[T],
+) -> Option<Unlike<T>> {
+    if reference == library {
+        return None;
+    }
+    let pairs = reference.iter().zip(library);
+    let index = pairs.take_while(|(a, b)| a == b).count();
+    Some(Unlike {
+        index,
+        before: before[index],
+        reference: reference[index],
+        library: library[index],
+    })
 }

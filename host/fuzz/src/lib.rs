@@ -10,6 +10,7 @@ pub mod call;
 pub mod compare;
 pub mod coverage;
 pub mod damage;
+pub mod guarded;
 pub mod image;
 pub mod listing;
 pub mod program;

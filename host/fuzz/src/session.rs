@@ -293,6 +293,6 @@ mod tests {
         assert_eq!(found.difference, again.difference);
         let (call, difference) = shrink(&found.input, sides).expect("a difference");
         assert_eq!(call.limit, 3);
-        assert!(matches!(difference, Difference::Byte { index: 32, .. }));
+        assert!(matches!(difference, Difference::Byte(byte) if byte.index == 32));
     }
 }

@@ -4,6 +4,8 @@
 mod coverage;
 mod generate;
 
+use crate::compare::{first_difference, Unlike};
+use crate::guarded::Guarded;
 use crate::random::Random;
 use crate::session::{Options, CURRENT_CASE, CURRENT_IS_LISTING};
 use crate::words::{self, word_at, NAMES};
@@ -48,10 +50,6 @@ impl Input {
     }
 }
 
-/// Bytes before and behind the lent ones, which nobody may touch.
-const GUARD_BYTES: usize = 64;
-const GUARD_BYTE: u8 = 0xA5;
-
 /// What differs after a listing.
 #[derive(Clone, Debug, PartialEq, Eq)]
 pub enum Difference {
@@ -66,14 +64,9 @@ pub enum Difference {
         library: String,
     },
     /// A byte that is of no line.
-    Byte {
-        index: usize,
-        before: u8,
-        reference: u8,
-        library: u8,
-    },
+    Byte(Unlike<u8>),
     /// The library wrote to memory that was lent to be read, or not lent at all.
-    Stray(&'static str),
+    Stray(String),
     /// Both sides answer alike, and not as the papers say.
     Both(String),
 }
@@ -93,15 +86,7 @@ impl fmt::Display for Difference {
                 f,
                 "line {number} of word {word:X}:\n  reference {reference:?}\n  library   {library:?}"
             ),
-            Difference::Byte {
-                index,
-                before,
-                reference,
-                library,
-            } => write!(
-                f,
-                "text byte {index}, of no line: before {before:02X}, reference {reference:02X}, library {library:02X}"
-            ),
+            Difference::Byte(byte) => write!(f, "text byte {}, of no line: {byte}", byte.index),
             Difference::Stray(place) => write!(f, "the library wrote to {place}"),
             Difference::Both(what) => write!(f, "both sides: {what}"),
         }
@@ -114,7 +99,7 @@ pub struct Bench {
     /// What the reference leaves.
     text: Vec<u8>,
     /// The library's, between guards.
-    library_text: Vec<u8>,
+    library_text: Guarded<u8>,
     /// The library's copy of what it may only read.
     program: Vec<u8>,
 }
@@ -123,55 +108,34 @@ impl Bench {
     /// Calls both sides and compares the answers and the whole texts.
     pub fn compare(&mut self, input: &Input, sides: Sides) -> Result<u32, Difference> {
         self.text.clone_from(&input.text);
-        self.library_text.clear();
-        self.library_text
-            .extend_from_slice(&[GUARD_BYTE; GUARD_BYTES]);
-        self.library_text.extend_from_slice(&input.text);
-        self.library_text
-            .extend_from_slice(&[GUARD_BYTE; GUARD_BYTES]);
+        self.library_text.lay(&input.text);
         self.program.clone_from(&input.program);
 
         let reference = (sides.reference)(&input.program, input.wide, &mut self.text);
-        let end = GUARD_BYTES + input.text.len();
-        let library = (sides.library)(
-            &self.program,
-            input.wide,
-            &mut self.library_text[GUARD_BYTES..end],
-        );
+        let library = (sides.library)(&self.program, input.wide, self.library_text.lent_mut());
         if reference != library {
             return Err(Difference::Answer { reference, library });
         }
-        let library_text = &self.library_text[GUARD_BYTES..end];
-        if self.text != library_text {
-            return Err(self.text_difference(input, library_text, reference));
+        let library_text = self.library_text.lent();
+        if let Some(byte) = first_difference(&input.text, &self.text, library_text) {
+            return Err(self.text_difference(input, byte, reference));
         }
-        let good = |byte: &u8| *byte == GUARD_BYTE;
         if self.program != input.program {
-            return Err(Difference::Stray("the program"));
+            return Err(Difference::Stray("the program".to_string()));
         }
-        if !self.library_text[..GUARD_BYTES].iter().all(good) {
-            return Err(Difference::Stray("memory before the text"));
-        }
-        if !self.library_text[end..].iter().all(good) {
-            return Err(Difference::Stray("memory behind the text"));
-        }
+        self.library_text
+            .untouched("the text")
+            .map_err(Difference::Stray)?;
         self.as_promised(input, reference)
             .map_err(Difference::Both)?;
         Ok(reference)
     }
 
-    /// Where the texts differ first.
-    fn text_difference(&self, input: &Input, library: &[u8], answer: u32) -> Difference {
-        let same = |(a, b): &(&u8, &u8)| a == b;
-        let index = self.text.iter().zip(library).take_while(same).count();
-        let number = index / LINE;
+    /// The line of the byte at which the texts differ first, or that byte.
+    fn text_difference(&self, input: &Input, byte: Unlike<u8>, answer: u32) -> Difference {
+        let number = byte.index / LINE;
         if answer != 0 || number >= input.words() {
-            return Difference::Byte {
-                index,
-                before: input.text[index],
-                reference: self.text[index],
-                library: library[index],
-            };
+            return Difference::Byte(byte);
         }
         let line = |text: &[u8]| {
             String::from_utf8_lossy(&text[number * LINE..number * LINE + LINE]).into_owned()
@@ -180,7 +144,7 @@ impl Bench {
             number,
             word: input_word(input, number),
             reference: line(&self.text),
-            library: line(library),
+            library: line(self.library_text.lent()),
         }
     }
 
