@@ -87,7 +87,7 @@ struct coffee_answer coffee_run(
  */
 uint32_t coffee_reset(uint8_t *buffer, size_t buffer_bytes);
 
-/* Prints a program, a line of COFFEE_LINE bytes for each word, to the front of `text`; its further bytes stay as they are.
+/* Writes the listing of a program, a line of COFFEE_LINE bytes for each word, to the front of `text`; its further bytes stay as they are.
  *
  * program   bytes, high byte of a word first
  * wide      0: 16-bit words; any other number: 32-bit words
@@ -98,7 +98,8 @@ uint32_t coffee_reset(uint8_t *buffer, size_t buffer_bytes);
  *   8             the word, hexadecimal: 8 digits or 4
  *   6             its condition and condition register, as `egt C7`; blank without a condition
  *   8             the operation's name, or `?` where it has no form in this width; then there are no operands
- *   13            its operands in the manual's order (002 section 6.2), single blanks between them: R0 to R31, C0 to C7, decimal numbers
+ *   13            its operands in the manual's order (002 section 6.2), single blanks between them: R0 to R31, C0 to C7, decimal numbers,
+ *                 with a minus where they are negative
  * 16-bit words have registers R24 to R31, no condition and no C0.
  *
  * Answers 0, or the refusal, asked in this order:

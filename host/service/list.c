@@ -34,6 +34,7 @@ static bool print_lines(const char *path, const struct bytes *program, size_t wo
     uint32_t refusal;
     bool done;
 
+    /* One more, so that malloc gives memory for an empty program too. */
     lines.at = malloc(lines.len + 1);
     if (lines.at == NULL)
         return complain_of_errno(path);

@@ -227,7 +227,7 @@ impl Coverage {
         let missing = self.short_words.iter().filter(|&&met| !met).count();
         need(
             u64::from(missing == 0),
-            format!("{missing} of the 16-bit words listed"),
+            format!("every 16-bit word listed ({missing} are missing)"),
         );
         for (place, (_, number)) in WIDTHS.into_iter().enumerate() {
             need(
