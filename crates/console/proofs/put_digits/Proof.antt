@@ -27,14 +27,14 @@ loop-again : tie.Need-loop-again Inv-loop μ-loop
 loop-again c =
     let args = c .before .before .before .before .args in
     let at-loop = c .before .before .loop in
-    let more = digit-more (at-loop .line) (args .at) (args .base) (at-loop .i) (at-loop .rest) (c .before .loop-test .taken) (omega arith) in
+    let more = digit-more (at-loop .line) (args .at) (args .base) (at-loop .i) (at-loop .rest) (omega arith) (omega arith) in
     (omega arith, (simp length-set (at-loop .inv .1 .0), cc))
 
 returns : tie.Need-returns Inv-loop μ-loop
 returns c =
     let args = c .before .before .before .args in
     let at-loop = c .before .loop in
-    sym (digits-done (at-loop .line) (args .at) (args .base) (at-loop .i) (at-loop .rest) (c .loop-test .left)) ∙ at-loop .inv .1 .1
+    sym (digits-done (at-loop .line) (args .at) (args .base) (at-loop .i) (at-loop .rest) (omega arith)) ∙ at-loop .inv .1 .1
 
 pub put-digits-spec : {M : Type 1} → statement M
 put-digits-spec =
