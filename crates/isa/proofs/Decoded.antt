@@ -31,11 +31,15 @@ register-below w32 fs word h = fields-short 5 fs word h
 register-below w16 [] word h = omega arith
 register-below w16 (f ∷ fs) word h = let l = fields-short 3 (f ∷ fs) word h in omega arith
 
--- one that is there is 24 to 31 in 16-bit words
+-- one that is there is 24 or more in 16-bit words
+pub register-there : (f : Field) (fs : List Field) (word : ℕ) → 24 ≤ registerOf w16 (f ∷ fs) word
+unfolding registerOf
+register-there f fs word = omega arith
+
 register-high : (fs : List Field) (word : ℕ) → (registerOf w16 fs word ≡ 0) ⊎ (24 ≤ registerOf w16 fs word)
 unfolding registerOf
 register-high [] word = inl refl
-register-high (f ∷ fs) word = inr (omega arith)
+register-high (f ∷ fs) word = inr (register-there f fs word)
 
 immediate-below : (i : Immediate) (word : ℕ) → immediateFits i ≡ true → mag (immediateOf i word) < 2 ^ 24
 unfolding immediateFits immediateOf if_then_else_

@@ -22,7 +22,7 @@ use Rattle.isa.specs.Computed.{instructions}
 use Rattle.isa.specs.Theorems.{between, FormIs, BranchNames, SignedIs, Narrow, All, NarrowShown, BitFieldShown}
 use Rattle.isa.proofs.Table.{values, agree, by-number}
 use Rattle.isa.proofs.Rules.{not-between, unavailable-is}
-use Rattle.isa.proofs.Decoded.{in-range}
+use Rattle.isa.proofs.Decoded.{register-there, in-range}
 
 pub form-is : FormIs
 unfolding hasForm if_then_else_
@@ -73,11 +73,10 @@ rows-present : (n : ℕ) → allPresent (layoutOf w16 (properties (operationOf n
 unfolding instructions values there present allPresent
 rows-present = by-number (λ o. allPresent (layoutOf w16 (properties o .form)) (shownRoles w16 o)) (λ n. true) refl (λ n h. refl)
 
--- a register that is there is 24 or more
 there-high : (fs : List Field) (word : ℕ) → there fs ≡ true → 24 ≤ registerOf w16 fs word
-unfolding there registerOf
+unfolding there
 there-high [] word e = let z : _≡_ {A = ℕ} 0 1 = cc in absurd (omega arith)
-there-high (f ∷ fs) word e = omega arith
+there-high (f ∷ fs) word e = register-there f fs word
 
 module _ (word : ℕ) where
   abbrev l : Layout

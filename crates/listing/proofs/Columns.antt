@@ -44,11 +44,11 @@ padded-again n t h =
     let e : n - length (padded n t) ≡ 0 = omega (arith, length-padded n t h) in
     ap (λ (k : ℕ). padded n t ++ replicate k blank) e ∙ append-nil (padded n t)
 
--- past a column and the blank after it
-put-past : (n at k : ℕ) (c s t : List ℕ) → length c ≤ n → n + 1 + at ≡ k → putAt (padded n c ++ (blank ∷ s)) k t ≡ padded n c ++ (blank ∷ putAt s at t)
-put-past n at k c s t h e =
+-- what is put past a column and the blank after it
+within : (n at k : ℕ) (c s t after : List ℕ) → length c ≤ n → n + 1 + at ≡ k → putAt s at t ≡ after → putAt (padded n c ++ (blank ∷ s)) k t ≡ padded n c ++ (blank ∷ after)
+within n at k c s t after h e f =
     putAt-skip (padded n c) (blank ∷ s) t (1 + at) k (omega (arith, length-padded n c h))
-    ∙ ap (λ (l : List ℕ). padded n c ++ l) (putAt-skip (blank ∷ []) s t at (1 + at) refl)
+    ∙ ap (λ (l : List ℕ). padded n c ++ l) (putAt-skip (blank ∷ []) s t at (1 + at) refl ∙ ap (λ (l : List ℕ). blank ∷ l) f)
 
 -- ---- the line, from the right
 
@@ -102,25 +102,18 @@ pub put-address : (a : List ℕ) → length a ≤ 8 → putAt (first [] [] [] []
 put-address a h = fill 8 a (blank ∷ second [] [] [] []) h
 
 pub put-word : (a w : List ℕ) → length a ≤ 8 → length w ≤ 8 → putAt (first a [] [] [] []) 9 w ≡ first a w [] [] []
-put-word a w h k =
-    put-past 8 0 9 a (second [] [] [] []) w h refl
-    ∙ ap (λ (s : List ℕ). padded 8 a ++ (blank ∷ s)) (fill 8 w (blank ∷ third [] [] []) k)
+put-word a w h k = within 8 0 9 a (second [] [] [] []) w (second w [] [] []) h refl (fill 8 w (blank ∷ third [] [] []) k)
 
 pub put-condition : (a w c : List ℕ) → length a ≤ 8 → length w ≤ 8 → length c ≤ 6 → putAt (first a w [] [] []) 18 c ≡ first a w c [] []
 put-condition a w c h k l =
-    put-past 8 9 18 a (second w [] [] []) c h refl
-    ∙ ap (λ (s : List ℕ). padded 8 a ++ (blank ∷ s))
-    (put-past 8 0 9 w (third [] [] []) c k refl
-    ∙ ap (λ (s : List ℕ). padded 8 w ++ (blank ∷ s)) (fill 6 c (blank ∷ fourth [] []) l))
+    within 8 9 18 a (second w [] [] []) c (second w c [] []) h refl
+    (within 8 0 9 w (third [] [] []) c (third c [] []) k refl (fill 6 c (blank ∷ fourth [] []) l))
 
 pub put-name : (a w c n : List ℕ) → length a ≤ 8 → length w ≤ 8 → length c ≤ 6 → length n ≤ 8 → putAt (first a w c [] []) 25 n ≡ first a w c n []
 put-name a w c n h k l m =
-    put-past 8 16 25 a (second w c [] []) n h refl
-    ∙ ap (λ (s : List ℕ). padded 8 a ++ (blank ∷ s))
-    (put-past 8 7 16 w (third c [] []) n k refl
-    ∙ ap (λ (s : List ℕ). padded 8 w ++ (blank ∷ s))
-    (put-past 6 0 7 c (fourth [] []) n l refl
-    ∙ ap (λ (s : List ℕ). padded 6 c ++ (blank ∷ s)) (fill 8 n (blank ∷ fifth []) m)))
+    within 8 16 25 a (second w c [] []) n (second w c n []) h refl
+    (within 8 7 16 w (third c [] []) n (third c n []) k refl
+    (within 6 0 7 c (fourth [] []) n (fourth n []) l refl (fill 8 n (blank ∷ fifth []) m)))
 
 -- texts with blanks between them, and with a blank before each
 pub spaced-joined : (t : List ℕ) (ts : List (List ℕ)) → spaced (t ∷ ts) ≡ blank ∷ joined (t ∷ ts)
@@ -132,14 +125,10 @@ spaced-joined t (u ∷ us) = ap (λ (s : List ℕ). blank ∷ t ++ s) (spaced-jo
 put-last : (a w c n t : List ℕ) → length a ≤ 8 → length w ≤ 8 → length c ≤ 6 → length n ≤ 8 → length t ≤ 13
     → putAt (first a w c n []) 33 (blank ∷ t) ≡ first a w c n t
 put-last a w c n t h k l m o =
-    put-past 8 24 33 a (second w c n []) (blank ∷ t) h refl
-    ∙ ap (λ (s : List ℕ). padded 8 a ++ (blank ∷ s))
-    (put-past 8 15 24 w (third c n []) (blank ∷ t) k refl
-    ∙ ap (λ (s : List ℕ). padded 8 w ++ (blank ∷ s))
-    (put-past 6 8 15 c (fourth n []) (blank ∷ t) l refl
-    ∙ ap (λ (s : List ℕ). padded 6 c ++ (blank ∷ s))
-    (putAt-skip (padded 8 n) (blank ∷ fifth []) (blank ∷ t) 0 8 (omega (arith, length-padded 8 n m))
-    ∙ ap (λ (s : List ℕ). padded 8 n ++ s) (fill-after 13 t (newline ∷ []) o))))
+    within 8 24 33 a (second w c n []) (blank ∷ t) (second w c n t) h refl
+    (within 8 15 24 w (third c n []) (blank ∷ t) (third c n t) k refl
+    (within 6 8 15 c (fourth n []) (blank ∷ t) (fourth n t) l refl
+    (putAt-skip (padded 8 n) (blank ∷ fifth []) (blank ∷ t) 0 8 (omega (arith, length-padded 8 n m)) ∙ ap (λ (s : List ℕ). padded 8 n ++ s) (fill-after 13 t (newline ∷ []) o))))
 
 pub put-operands : (a w c n : List ℕ) (ts : List (List ℕ)) → length a ≤ 8 → length w ≤ 8 → length c ≤ 6 → length n ≤ 8 → length (spaced ts) ≤ 14
     → putAt (first a w c n []) 33 (spaced ts) ≡ first a w c n (joined ts)

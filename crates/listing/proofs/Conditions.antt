@@ -18,7 +18,7 @@ use Rattle.isa.specs.Format.{Creg}
 use Rattle.isa.specs.Shown.{shownValue}
 use Rattle.operands.specs.Letters.{roleOf}
 use Rattle.console.specs.Digits.{blank}
-use Rattle.listing.specs.Line.{integerText, prefixOf, operandText, joined, conditionText}
+use Rattle.listing.specs.Line.{integerText, prefixOf, operandText, joined, conditionText, CONDITION-COLUMN}
 use Rattle.listing.specs.Parts.{conditionName, Placed, placed, put}
 use Rattle.listing.proofs.Texts.{length-digit}
 use Rattle.listing.proofs.Names.{conditionNames, condition-at}
@@ -49,20 +49,20 @@ module _ (i : Instruction) (h : i .creg < 8) where
   length-register = omega (arith, ap length register-is, length-creg)
 
   -- what is written of a conditional instruction
-  pub condition-put : (line copied after : List ℕ) (n next : ℕ) → i .conditional ≡ true → i .condition < 8 → 18 ≤ length line
-      → n ≡ length (conditionName (i .condition)) → copied ≡ putAt line 18 (take n (drop (i .condition * 3) conditionNames))
-      → placed next after ≡ put (register (i .creg)) (18 + n) copied → after ≡ putAt line 18 (conditionText i)
+  pub condition-put : (line copied after : List ℕ) (n next : ℕ) → i .conditional ≡ true → i .condition < 8 → CONDITION-COLUMN ≤ length line
+      → n ≡ length (conditionName (i .condition)) → copied ≡ putAt line CONDITION-COLUMN (take n (drop (i .condition * 3) conditionNames))
+      → placed next after ≡ put (register (i .creg)) (CONDITION-COLUMN + n) copied → after ≡ putAt line CONDITION-COLUMN (conditionText i)
   condition-put line copied after n next t k l e f g =
       let name = conditionName (i .condition) in
-      let named : copied ≡ putAt line 18 name = f ∙ ap (λ (m : ℕ). putAt line 18 (take m (drop (i .condition * 3) conditionNames))) e ∙ ap (λ (s : List ℕ). putAt line 18 s) (condition-at (i .condition) k) in
-      let told : after ≡ putAt copied (18 + n) (register (i .creg)) = ap (λ (p : Placed). p .line) g in
+      let named : copied ≡ putAt line CONDITION-COLUMN name = f ∙ ap (λ (m : ℕ). putAt line CONDITION-COLUMN (take m (drop (i .condition * 3) conditionNames))) e ∙ ap (λ (s : List ℕ). putAt line CONDITION-COLUMN s) (condition-at (i .condition) k) in
+      let told : after ≡ putAt copied (CONDITION-COLUMN + n) (register (i .creg)) = ap (λ (p : Placed). p .line) g in
       told
-      ∙ ap (λ (s : List ℕ). putAt copied (18 + n) s) register-is
-      ∙ ap (λ (m : ℕ). putAt copied (18 + m) (blank ∷ operandText i Creg)) e
-      ∙ ap (λ (s : List ℕ). putAt s (18 + length name) (blank ∷ operandText i Creg)) named
-      ∙ putAt-append line 18 name (blank ∷ operandText i Creg) l
-      ∙ ap (λ (s : List ℕ). putAt line 18 s) (sym (text-conditional i t))
+      ∙ ap (λ (s : List ℕ). putAt copied (CONDITION-COLUMN + n) s) register-is
+      ∙ ap (λ (m : ℕ). putAt copied (CONDITION-COLUMN + m) (blank ∷ operandText i Creg)) e
+      ∙ ap (λ (s : List ℕ). putAt s (CONDITION-COLUMN + length name) (blank ∷ operandText i Creg)) named
+      ∙ putAt-append line CONDITION-COLUMN name (blank ∷ operandText i Creg) l
+      ∙ ap (λ (s : List ℕ). putAt line CONDITION-COLUMN s) (sym (text-conditional i t))
 
 -- and of another one: nothing
-pub condition-none : (line : List ℕ) (i : Instruction) → i .conditional ≡ false → line ≡ putAt line 18 (conditionText i)
-condition-none line i t = sym (ap (λ (s : List ℕ). putAt line 18 s) (text-unconditional i t) ∙ putAt-nothing line 18)
+pub condition-none : (line : List ℕ) (i : Instruction) → i .conditional ≡ false → line ≡ putAt line CONDITION-COLUMN (conditionText i)
+condition-none line i t = sym (ap (λ (s : List ℕ). putAt line CONDITION-COLUMN s) (text-unconditional i t) ∙ putAt-nothing line CONDITION-COLUMN)

@@ -1,7 +1,7 @@
 -- A line, from its parts. Assumes nothing.
 use mathlib.Core.Path.{_≡_, refl, sym, ap, _∙_}
 use mathlib.Core.List.{List, [], _∷_, _++_, append-nil}
-use Prim.Native.Nat.{ℕ, _+_, _*_, _≤_, _<_}
+use Prim.Native.Nat.{ℕ, _+_, _-_, _*_, _≤_, _<_}
 use native.Mathlib.Omega.{arith}
 use lib.ListN.{length, length-append, drop-of-length-le}
 use Rattle.word.specs.Choice.{if_then_else_}
@@ -16,7 +16,7 @@ use Rattle.isa.specs.declared.Instruction.{Instruction}
 use Rattle.isa.proofs.Decoded.{in-range}
 use Rattle.console.specs.Digits.{blank, digitsOf, hex8}
 use Rattle.console.proofs.Digits.{length-digitsOf}
-use Rattle.listing.specs.Line.{operandText, joined, shownTexts, operandsText, nameText, conditionText, padded, columns, wordLine}
+use Rattle.listing.specs.Line.{operandText, joined, shownTexts, operandsText, nameText, conditionText, WORD-COLUMN, CONDITION-COLUMN, NAME-COLUMN, OPERANDS-COLUMN, padded, columns, wordLine}
 use Rattle.listing.specs.Parts.{mnemonicOf, conditionName, spaced}
 use Rattle.listing.proofs.Names.{length-padded, short, condition-short}
 use Rattle.listing.proofs.Conditions.{text-conditional, text-unconditional, length-creg}
@@ -59,19 +59,19 @@ length-empty = refl
 
 -- its front
 pub front-put : (width : Width) (address word : ℕ) (line l₀ l₁ l₂ : List ℕ) → length line ≡ 48
-    → l₀ ≡ putAt line 0 (columns [] [] [] [] []) → l₁ ≡ putAt l₀ 0 (hex8 address) → l₂ ≡ putAt l₁ 9 (wordText width word)
+    → l₀ ≡ putAt line 0 (columns [] [] [] [] []) → l₁ ≡ putAt l₀ 0 (hex8 address) → l₂ ≡ putAt l₁ WORD-COLUMN (wordText width word)
     → l₂ ≡ columns (hex8 address) (wordText width word) [] [] []
 front-put width address word line l₀ l₁ l₂ n e₀ e₁ e₂ =
     let a = hex8 address in
     let w = wordText width word in
     let c₀ : l₀ ≡ first [] [] [] [] [] = e₀ ∙ cleared line (columns [] [] [] [] []) (omega (arith, length-empty)) ∙ from-right [] [] [] [] [] in
     let c₁ : l₁ ≡ first a [] [] [] [] = e₁ ∙ ap (λ (s : List ℕ). putAt s 0 a) c₀ ∙ put-address a (address-fits address) in
-    e₂ ∙ ap (λ (s : List ℕ). putAt s 9 w) c₁ ∙ put-word a w (address-fits address) (word-fits width word) ∙ sym (from-right a w [] [] [])
+    e₂ ∙ ap (λ (s : List ℕ). putAt s WORD-COLUMN w) c₁ ∙ put-word a w (address-fits address) (word-fits width word) ∙ sym (from-right a w [] [] [])
 
 -- and the rest
 pub line-put : (width : Width) (address word : ℕ) (l₀ l₁ l₂ l₃ : List ℕ) → l₀ ≡ columns (hex8 address) (wordText width word) [] [] []
-    → l₁ ≡ putAt l₀ 18 (conditionText (decode width word)) → l₂ ≡ putAt l₁ 25 (padded 8 (nameText width (operationOf (decode width word .opcode))))
-    → l₃ ≡ putAt l₂ 33 (spaced (shownTexts width (decode width word))) → l₃ ≡ wordLine width address word
+    → l₁ ≡ putAt l₀ CONDITION-COLUMN (conditionText (decode width word)) → l₂ ≡ putAt l₁ NAME-COLUMN (padded 8 (nameText width (operationOf (decode width word .opcode))))
+    → l₃ ≡ putAt l₂ (OPERANDS-COLUMN - 1) (spaced (shownTexts width (decode width word))) → l₃ ≡ wordLine width address word
 unfolding wordLine operandsText
 line-put width address word l₀ l₁ l₂ l₃ e₀ e₁ e₂ e₃ =
     let i = decode width word in
@@ -85,9 +85,9 @@ line-put width address word l₀ l₁ l₂ l₃ e₀ e₁ e₂ e₃ =
     let hc = condition-fits i (in-range width word .creg) in
     let hn = name-fits width (i .opcode) in
     let hp : length p ≤ 8 = omega (arith, length-padded 8 n hn) in
-    let c₁ : l₁ ≡ first a w c [] [] = e₁ ∙ ap (λ (s : List ℕ). putAt s 18 c) (e₀ ∙ from-right a w [] [] []) ∙ put-condition a w c ha hw hc in
-    let c₂ : l₂ ≡ first a w c n [] = e₂ ∙ ap (λ (s : List ℕ). putAt s 25 p) c₁ ∙ put-name a w c p ha hw hc hp ∙ ap (λ (s : List ℕ). padded 8 a ++ (blank ∷ (padded 8 w ++ (blank ∷ (padded 6 c ++ (blank ∷ (s ++ (blank ∷ fifth [])))))))) (padded-again 8 n hn) in
-    e₃ ∙ ap (λ (s : List ℕ). putAt s 33 (spaced (shownTexts width i))) c₂
+    let c₁ : l₁ ≡ first a w c [] [] = e₁ ∙ ap (λ (s : List ℕ). putAt s CONDITION-COLUMN c) (e₀ ∙ from-right a w [] [] []) ∙ put-condition a w c ha hw hc in
+    let c₂ : l₂ ≡ first a w c n [] = e₂ ∙ ap (λ (s : List ℕ). putAt s NAME-COLUMN p) c₁ ∙ put-name a w c p ha hw hc hp ∙ ap (λ (s : List ℕ). padded 8 a ++ (blank ∷ (padded 8 w ++ (blank ∷ (padded 6 c ++ (blank ∷ (s ++ (blank ∷ fifth [])))))))) (padded-again 8 n hn) in
+    e₃ ∙ ap (λ (s : List ℕ). putAt s (OPERANDS-COLUMN - 1) (spaced (shownTexts width i))) c₂
     ∙ put-operands a w c n (shownTexts width i) ha hw hc hn (operands-fit width word)
     ∙ sym (from-right a w c n (joined (shownTexts width i)))
 

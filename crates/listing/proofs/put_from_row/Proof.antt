@@ -6,6 +6,7 @@ use native.Mathlib.Omega.{arith}
 use lib.ListN.{length, take, drop}
 use borrow.Author.Needs.{needs}
 use Rattle.codec.specs.Number.{putAt}
+use Rattle.listing.specs.Line.{NAME-COLUMN}
 use Rattle.listing.proofs.Names.{row, length-row, mnemonic-at}
 use Rattle.listing.proofs.put_from_row.Statement.{statement}
 use Rattle.listing.proofs.put_from_row.Tie as tie
@@ -21,8 +22,8 @@ returns c =
     let start = c .before .before .before .before .before .before in
     let args = start .args in
     c .before .before .copy .ensures
-    ∙ ap (λ (r : List ℕ). putAt (args .line .now) 25 (take 8 (drop (args .op % 8 * 8) r))) (start .pre .1)
-    ∙ ap (λ (t : List ℕ). putAt (args .line .now) 25 t) (mnemonic-at (args .op))
+    ∙ ap (λ (r : List ℕ). putAt (args .line .now) NAME-COLUMN (take 8 (drop (args .op % 8 * 8) r))) (start .pre .1)
+    ∙ ap (λ (t : List ℕ). putAt (args .line .now) NAME-COLUMN t) (mnemonic-at (args .op))
 
 pub put-from-row-spec : {M : Type 1} → statement M
 put-from-row-spec =

@@ -7,6 +7,7 @@ use Rattle.codec.specs.Number.{putAt}
 use Rattle.isa.specs.Operation.{widthBy}
 use Rattle.isa.proofs.Decoded.{bytes-most}
 use Rattle.console.specs.Digits.{digitsOf}
+use Rattle.listing.specs.Line.{WORD-COLUMN}
 use Rattle.listing.specs.Computed.{listings}
 use Rattle.listing.proofs.Lines.{front-put}
 use Rattle.listing.proofs.put_front.Statement.{statement}
@@ -27,7 +28,7 @@ returns c =
     let l₂ = c .before .before .put-digits2 in
     let n = c .before .before .before .word-bytes in
     front-put (widthBy (args .wide)) (args .address) (args .word) (args .line .now) (l₀ .last .0) (l₁ .last .0) (l₂ .last .0) (start .pre) (l₀ .ensures) (l₁ .ensures)
-    (l₂ .ensures ∙ ap (λ (k : ℕ). putAt (l₁ .last .0) 9 (digitsOf 16 (2 * k) (args .word))) (n .ensures))
+    (l₂ .ensures ∙ ap (λ (k : ℕ). putAt (l₁ .last .0) WORD-COLUMN (digitsOf 16 (2 * k) (args .word))) (n .ensures))
 
 pub put-front-spec : {M : Type 1} → statement M
 put-front-spec =

@@ -1,5 +1,6 @@
 -- `listing::put_line` meets its contract: the parts of the line in their columns. Assumes nothing.
 use mathlib.Core.Path.{ap, _∙_}
+use Prim.Native.Nat.{_-_}
 use native.Mathlib.Omega.{arith}
 use borrow.Author.Needs.{needs}
 use Rattle.codec.specs.Number.{putAt}
@@ -7,7 +8,7 @@ use Rattle.isa.specs.Operation.{operationOf, widthBy}
 use Rattle.isa.specs.Decode.{decode}
 use Rattle.isa.specs.declared.Instruction.{Instruction}
 use Rattle.isa.proofs.Decoded.{InRange, in-range}
-use Rattle.listing.specs.Line.{shownTexts, nameText, conditionText, padded}
+use Rattle.listing.specs.Line.{shownTexts, nameText, conditionText, CONDITION-COLUMN, NAME-COLUMN, OPERANDS-COLUMN, padded}
 use Rattle.listing.specs.Parts.{spaced}
 use Rattle.listing.proofs.Rooms.{operands-fit, value-fits}
 use Rattle.listing.proofs.Lines.{line-put}
@@ -49,9 +50,9 @@ returns c =
     let l₃ = c .before .before .put-operands in
     line-put width (args .address) (args .word) (l₀ .last .0) (l₁ .last .0) (l₂ .last .0) (l₃ .last .0)
     (l₀ .ensures)
-    (l₁ .ensures ∙ ap (λ (i : Instruction). putAt (l₀ .last .0) 18 (conditionText i)) i)
-    (l₂ .ensures ∙ ap (λ (i : Instruction). putAt (l₁ .last .0) 25 (padded 8 (nameText width (operationOf (i .opcode))))) i)
-    (l₃ .ensures ∙ ap (λ (i : Instruction). putAt (l₂ .last .0) 33 (spaced (shownTexts width i))) i)
+    (l₁ .ensures ∙ ap (λ (i : Instruction). putAt (l₀ .last .0) CONDITION-COLUMN (conditionText i)) i)
+    (l₂ .ensures ∙ ap (λ (i : Instruction). putAt (l₁ .last .0) NAME-COLUMN (padded 8 (nameText width (operationOf (i .opcode))))) i)
+    (l₃ .ensures ∙ ap (λ (i : Instruction). putAt (l₂ .last .0) (OPERANDS-COLUMN - 1) (spaced (shownTexts width i))) i)
 
 pub put-line-spec : {M : Type 1} → statement M
 put-line-spec =

@@ -10,6 +10,7 @@ use Rattle.codec.proofs.Laws.{putAt-nothing}
 use Rattle.isa.specs.Operation.{operationOf, widthBy}
 use Rattle.isa.specs.Shown.{shownRoles}
 use Rattle.operands.specs.Letters.{roleOf, letterAt}
+use Rattle.listing.specs.Line.{OPERANDS-COLUMN}
 use Rattle.listing.specs.Parts.{Placed}
 use Rattle.listing.proofs.Operands.{letterIn, none-left, next-high, operandPut, left, left-none, left-next, operand-written}
 use Rattle.listing.proofs.Rooms.{roles-few}
@@ -19,7 +20,7 @@ use Rattle.listing.proofs.put_operands.Tie as tie
 abbrev Inv-loop : tie.InvT-loop
 Inv-loop line₀ i wide at₀ k₀ line at k =
     let rs = shownRoles (widthBy wide) (operationOf (i .opcode)) in
-    (k ≤ 4) × ((length line ≡ length line₀) × ((at + length (left i rs k) ≤ 47) × (putAt line at (left i rs k) ≡ putAt line₀ 33 (left i rs 0))))
+    (k ≤ 4) × ((length line ≡ length line₀) × ((at + length (left i rs k) ≤ 47) × (putAt line at (left i rs k) ≡ putAt line₀ (OPERANDS-COLUMN - 1) (left i rs 0))))
 
 abbrev μ-loop : tie.MeasureT-loop
 μ-loop line₀ i wide at₀ k₀ line at k = 4 - k
@@ -74,7 +75,7 @@ loop-again c =
         done .kept .0 ∙ at-loop .inv .1 .0,
         (
           omega (arith, m, at-loop .inv .1 .1 .0, ap length (next valued), length-append (operandPut letter n) (left (args .i) rs (at-loop .k + 1))),
-          operand-written (args .i) rs (at-loop .k) letter n (at-loop .at) (done .result) (at-loop .line) (done .last .0) (putAt (args .line .now) 33 (left (args .i) rs 0)) (omega (arith, room valued, at-loop .inv .1 .0)) (next valued) (done .ensures) (at-loop .inv .1 .1 .1),
+          operand-written (args .i) rs (at-loop .k) letter n (at-loop .at) (done .result) (at-loop .line) (done .last .0) (putAt (args .line .now) (OPERANDS-COLUMN - 1) (left (args .i) rs 0)) (omega (arith, room valued, at-loop .inv .1 .0)) (next valued) (done .ensures) (at-loop .inv .1 .1 .1),
         ),
       ),
     )
