@@ -2,11 +2,13 @@
 use mathlib.Core.Path.{_≡_, refl, sym, ap, _∙_}
 use mathlib.Core.List.{List, [], _∷_, _++_, append-assoc}
 use Prim.Native.Nat.{ℕ, zero, suc, _+_, _*_, _/_, _%_, _^_, _≤_, _<_}
+use native.Mathlib.Nat.{zero-add}
 use native.Mathlib.Omega.{arith}
 use native.Mathlib.Numerals.{add-one, unary-clauses}
 use lib.ListN.{length, take, drop, getD, set, length-append, length-take, length-drop, List·getD-append}
 use lib.Seq.{sets-eq, drop-drop, take-suc, take-append-seam, take-append-add, drop-append-add, length-take-le, paste-zero}
 use lib.Pow.{shr-shr}
+use borrow.Rule.Slice.PartMut.{putMid}
 use Rattle.codec.specs.Number.{numberOf, numberAt, lowFirstAt, reversed, bytesOfNumber, numbersOf, bytesOf, putAt, over}
 
 -- every element of a list is below a bound
@@ -184,6 +186,15 @@ putAt-skip front s t at k e =
     ∙ ap (λ (l : List ℕ). l ++ t ++ drop (length front + at + length t) (front ++ s)) (take-append-add front s at)
     ∙ ap (λ (l : List ℕ). (front ++ take at s) ++ t ++ l) (ap (λ (k : ℕ). drop k (front ++ s)) d ∙ drop-append-add front s (at + length t))
     ∙ simp append-assoc
+
+-- at the front, it is laid over
+pub put-over : (t s : List ℕ) → putAt s 0 t ≡ over t s
+put-over t s = ap (λ (k : ℕ). t ++ drop k s) (zero-add (length t))
+
+-- a part that was lent on
+pub part-put : (xs ys : List ℕ) (a k : ℕ) → length ys ≡ k → putMid a k xs ys ≡ putAt xs a ys
+part-put xs ys a k e =
+    sym (append-assoc (take a xs) ys (drop k (drop a xs))) ∙ ap (λ (s : List ℕ). (take a xs ++ ys) ++ s) (drop-drop k a xs ∙ ap (λ (k : ℕ). drop (a + k) xs) (sym e))
 
 -- ---- one turn of a loop
 

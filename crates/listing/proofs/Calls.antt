@@ -1,17 +1,16 @@
--- The listing call: its questions, and the lines one next-word the other. Assumes nothing.
+-- The listing call: its questions, and the lines one after the other. Assumes nothing.
 use mathlib.Core.Path.{_≡_, sym, ap, _∙_}
 use mathlib.Core.Logic.{_≢_}
-use mathlib.Core.List.{List, [], _++_, append-assoc}
+use mathlib.Core.List.{List, [], _++_}
 use Prim.Native.Nat.{ℕ, suc, _+_, _-_, _*_, _/_, _%_, _≤_, _<_}
-use native.Mathlib.Nat.{zero-add, mul-zero}
+use native.Mathlib.Nat.{mul-zero}
 use native.Mathlib.Omega.{arith}
-use lib.ListN.{length, take, drop}
-use lib.Seq.{drop-drop}
+use lib.ListN.{length}
 use borrow.Rule.Slice.PartMut.{putMid}
 use borrow.Author.Tests.{le-leb, lt-leb, eq-eqb, ne-eqb}
 use Rattle.word.specs.Choice.{if_then_else_}
 use Rattle.codec.specs.Number.{putAt, over}
-use Rattle.codec.proofs.Laws.{length-putAt, putAt-append}
+use Rattle.codec.proofs.Laws.{length-putAt, putAt-append, part-put}
 use Rattle.isa.specs.Operation.{Width, w16, w32}
 use Rattle.isa.specs.Decode.{wordBytes, wordAt}
 use Rattle.machine.specs.Machine.{MOST-MEMORY}
@@ -50,7 +49,7 @@ unfolding wordBytes
 inside w16 size n h = omega arith
 inside w32 size n h = omega arith
 
--- the one next-word it
+-- where the one after it begins
 pub next-word : (width : Width) (n : ℕ) → wordBytes width * n + wordBytes width ≡ wordBytes width * (n + 1)
 unfolding wordBytes
 next-word w16 n = omega arith
@@ -93,15 +92,6 @@ module _ (width : Width) (program : List ℕ) where
       let e : words - words ≡ 0 = omega arith in
       ap (linesFrom width program (wordBytes width * words)) e
 
--- at the front of a text
-pub put-over : (t s : List ℕ) → putAt s 0 t ≡ over t s
-put-over t s = ap (λ (k : ℕ). t ++ drop k s) (zero-add (length t))
-
--- a part of a text that was lent on
-part-put : (xs ys : List ℕ) (a k : ℕ) → length ys ≡ k → putMid a k xs ys ≡ putAt xs a ys
-part-put xs ys a k e =
-    sym (append-assoc (take a xs) ys (drop k (drop a xs))) ∙ ap (λ (s : List ℕ). (take a xs ++ ys) ++ s) (drop-drop k a xs ∙ ap (λ (k : ℕ). drop (a + k) xs) (sym e))
-
 -- line n, written to its part of the text
 module _ (width : Width) (program : List ℕ) (n : ℕ) (text part : List ℕ) (room : 48 * n + 48 ≤ length text) (e : part ≡ lineAt width program n) where
   -- the text then
@@ -117,7 +107,7 @@ module _ (width : Width) (program : List ℕ) (n : ℕ) (text part : List ℕ) (
   pub written-length : length written ≡ length text
   written-length = ap length written-is ∙ length-putAt text (48 * n) part (omega (arith, size))
 
-  -- the lines next-word it are left
+  -- the lines after it are left
   pub written-next : (goal : List ℕ) → n < wordsIn width program → putAt text (48 * n) (linesAt width program n) ≡ goal
       → putAt written (48 * (n + 1)) (linesAt width program (n + 1)) ≡ goal
   written-next goal h g =

@@ -1,11 +1,11 @@
 -- The operands of an instruction in a line, one after the other. Assumes nothing.
-use mathlib.Core.Path.{_≡_, refl, sym, ap, _∙_}
+use mathlib.Core.Path.{_≡_, sym, ap, _∙_}
 use mathlib.Core.Logic.{_≢_}
 use mathlib.Core.List.{List, [], _∷_, _++_, map}
-use Prim.Native.Nat.{ℕ, zero, suc, _+_, _^_, _≤_, _<_}
+use Prim.Native.Nat.{ℕ, suc, _+_, _^_, _≤_, _<_}
 use native.Mathlib.Numerals.{add-one}
 use native.Mathlib.Omega.{arith}
-use lib.ListN.{length, getD, drop}
+use lib.ListN.{length, drop}
 use lib.Signed.{mag}
 use Rattle.word.specs.Word.{signedOf, wordOf}
 use Rattle.word.proofs.Integers.{signed-word}
@@ -14,39 +14,11 @@ use Rattle.codec.proofs.Laws.{putAt-append}
 use Rattle.isa.specs.Format.{Role}
 use Rattle.isa.specs.Shown.{shownValue}
 use Rattle.isa.specs.declared.Instruction.{Instruction}
-use Rattle.operands.specs.Letters.{letterOf, roleOf}
-use Rattle.operands.proofs.Roles.{role-letter, letter-high}
+use Rattle.operands.specs.Letters.{letterIn, roleOf}
+use Rattle.operands.proofs.Roles.{next-role}
 use Rattle.console.specs.Digits.{blank}
 use Rattle.listing.specs.Line.{integerText, prefixOf, operandText}
 use Rattle.listing.specs.Parts.{spaced, Placed, placed, put}
-
--- ---- letters of operands
-
--- the letter of operand k of some roles
-abbrev pub letterIn : List Role → (k : ℕ) → ℕ
-letterIn rs k = getD (map letterOf rs) k 32
-
--- a blank: no role is left
-pub none-left : (rs : List Role) (k : ℕ) → letterIn rs k ≡ 32 → drop k rs ≡ []
-none-left [] zero e = refl
-none-left [] (suc k) e = refl
-none-left (r ∷ rs) zero e = absurd (omega (arith, letter-high r))
-none-left (r ∷ rs) (suc k) e = none-left rs k e
-
--- another letter: it is that of the next one
-pub next-role : (rs : List Role) (k : ℕ) → letterIn rs k ≢ 32 → drop k rs ≡ roleOf (letterIn rs k) ∷ drop (suc k) rs
-next-role [] zero d = absurd (d refl)
-next-role [] (suc k) d = absurd (d refl)
-next-role (r ∷ rs) zero d = ap (λ (s : Role). s ∷ rs) (sym (role-letter r))
-next-role (r ∷ rs) (suc k) d = next-role rs k d
-
-pub next-high : (rs : List Role) (k : ℕ) → letterIn rs k ≢ 32 → 48 ≤ letterIn rs k
-next-high [] zero d = absurd (d refl)
-next-high [] (suc k) d = absurd (d refl)
-next-high (r ∷ rs) zero d = letter-high r
-next-high (r ∷ rs) (suc k) d = next-high rs k d
-
--- ---- their texts, in a line that is being written
 
 -- the text of an operand with a blank before it, as `put_operand` writes it
 abbrev pub operandPut : (letter n : ℕ) → List ℕ

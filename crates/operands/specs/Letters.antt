@@ -30,9 +30,13 @@ roleOf b =
     else if eqb b 108 then Length
     else Position
 
--- the letter of operand k, from 0 on; a blank where there is none
+-- the letter of operand k of some, from 0 on; a blank where there is none
+abbrev pub letterIn : List Role → (k : ℕ) → ℕ
+letterIn rs k = getD (map letterOf rs) k 32
+
+-- of those that are shown of an operation
 unfoldable pub letterAt : Width → Operation → (k : ℕ) → ℕ
-letterAt width o k = getD (map letterOf (shownRoles width o)) k 32
+letterAt width o k = letterIn (shownRoles width o) k
 
 -- the table of a width, four letters to an operation: the letters of `count` places from place n on
 unfoldable pub lettersFrom : Width → (n count : ℕ) → List ℕ

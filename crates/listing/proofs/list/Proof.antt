@@ -6,14 +6,14 @@ use native.Mathlib.Omega.{arith}
 use lib.ListN.{length, length-take, length-drop}
 use borrow.Author.Needs.{needs}
 use Rattle.codec.specs.Number.{putAt, over}
-use Rattle.codec.proofs.Laws.{putAt-nothing}
+use Rattle.codec.proofs.Laws.{putAt-nothing, put-over}
 use Rattle.isa.specs.Operation.{widthBy}
 use Rattle.isa.specs.Decode.{wordAt}
 use Rattle.isa.proofs.Decoded.{bytes-positive}
 use Rattle.machine.specs.Machine.{MOST-MEMORY}
 use Rattle.listing.specs.Line.{wordLine}
 use Rattle.listing.specs.Listing.{linesFrom, wordsIn, listed}
-use Rattle.listing.proofs.Calls.{too-long, not-whole, too-short, listable, inside, words-le, linesAt, lineAt, lines-first, lines-none, put-over, written-length, written-next}
+use Rattle.listing.proofs.Calls.{too-long, not-whole, too-short, listable, inside, words-le, linesAt, lineAt, lines-first, lines-none, written-length, written-next}
 use Rattle.listing.proofs.list.Statement.{statement}
 use Rattle.listing.proofs.list.Tie as tie
 

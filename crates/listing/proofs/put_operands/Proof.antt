@@ -9,10 +9,11 @@ use Rattle.codec.specs.Number.{putAt}
 use Rattle.codec.proofs.Laws.{putAt-nothing}
 use Rattle.isa.specs.Operation.{operationOf, widthBy}
 use Rattle.isa.specs.Shown.{shownRoles}
-use Rattle.operands.specs.Letters.{roleOf, letterAt}
+use Rattle.operands.specs.Letters.{roleOf, letterIn, letterAt}
+use Rattle.operands.proofs.Roles.{none-left, next-high}
 use Rattle.listing.specs.Line.{OPERANDS-COLUMN}
 use Rattle.listing.specs.Parts.{Placed}
-use Rattle.listing.proofs.Operands.{letterIn, none-left, next-high, operandPut, left, left-none, left-next, operand-written}
+use Rattle.listing.proofs.Operands.{operandPut, left, left-none, left-next, operand-written}
 use Rattle.listing.proofs.Rooms.{roles-few}
 use Rattle.listing.proofs.put_operands.Statement.{statement}
 use Rattle.listing.proofs.put_operands.Tie as tie
