@@ -1,7 +1,8 @@
 /* A COFFEE RISC core that is run in steps: the C interface.
  *
  * Link with libcoffee.a, which `rt staticlib coffee` proves and writes to target/staticlib. Each function is proved equal to a definition:
- * crates/emulator/specs/Run.antt (runCall), crates/emulator/specs/Reset.antt (resetCall) and crates/listing/specs/Listing.antt (listingCall).
+ * crates/emulator/specs/Run.antt (runCall), crates/emulator/specs/Reset.antt (resetCall), crates/listing/specs/Listing.antt (listingCall) and
+ * crates/encoder/specs/Encode.antt (encodeOf).
  *
  * A slice is a pointer and then a count of elements; a slice of 0 elements may have a null pointer. A slice that is written (not const) must
  * overlap no other slice of the same call. Nothing is kept between calls, no memory is allocated, and nothing else is read or written, so
@@ -21,7 +22,7 @@ extern "C" {
 
 /* The version of this header and of the library that goes with it. The first number is that of the shared library's name: it changes when a
  * program has to be compiled anew. */
-#define COFFEE_VERSION "1.1.0"
+#define COFFEE_VERSION "1.2.0"
 
 /* Most bytes of program memory, and most cells of data memory. */
 #define COFFEE_MEMORY_MAX 65536
@@ -39,6 +40,9 @@ extern "C" {
 
 /* Bytes of a line of a listing: 47 characters and a newline. */
 #define COFFEE_LINE 48
+
+/* An answer of 64 bits that is a refusal is this and the refusal's number. */
+#define COFFEE_REFUSED (UINT64_C(1) << 32)
 
 /* What a run call answers. */
 struct coffee_answer {
@@ -108,6 +112,26 @@ uint32_t coffee_reset(uint8_t *buffer, size_t buffer_bytes);
  *   17  text shorter than COFFEE_LINE bytes for each word
  */
 uint32_t coffee_listing(const uint8_t *program, size_t program_bytes, uint32_t wide, uint8_t *text, size_t text_bytes);
+
+/* Makes an instruction word from what a listing shows of it.
+ *
+ * operation    its number, 0 to 63
+ * wide         0: 16-bit words; any other number: 32-bit words
+ * conditional  0: without a condition, and creg and condition are ignored; any other number: with one
+ * creg         the condition register of the condition, 0 to 7
+ * condition    the number of the condition, 0 to 7: c, egt, elt, eq, gt, lt, ne, nc
+ * a, b, c, d   the operands in the order in which a listing shows them, registers by their numbers (24 to 31 in 16-bit words); 0 for each
+ *              that the operation does not have. cmp, cmpi and branches of 32-bit words have their condition register as the first
+ *
+ * Answers the word, whose unused bits are 0, or COFFEE_REFUSED + the refusal, asked in this order:
+ *   18  the operation has no form in this width, or a condition is given and it has no conditional form there
+ *   19  the condition register, the condition or an operand does not fit the bits that it has in the word, or an operand that the
+ *       operation does not have is not 0
+ */
+uint64_t coffee_encode(
+    uint32_t operation, uint32_t wide,
+    uint32_t conditional, uint32_t creg, uint32_t condition,
+    int32_t a, int32_t b, int32_t c, int32_t d);
 
 #ifdef __cplusplus
 }
