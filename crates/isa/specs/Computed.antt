@@ -6,7 +6,8 @@ use Rattle.isa.specs.Condition.{conditioning}
 use Rattle.isa.specs.Format.{formats}
 use Rattle.isa.specs.Decode.{decoding}
 use Rattle.isa.specs.Shown.{showing}
+use Rattle.isa.specs.Used.{bitsUsed}
 
 unfoldable pub instructions : Unit {0}
-unfolding words spelling table conditioning formats decoding showing
+unfolding words spelling table conditioning formats decoding showing bitsUsed
 instructions = tt

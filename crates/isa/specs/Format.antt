@@ -1,8 +1,9 @@
 -- Where the fields of an instruction word stand (01 "Instruction words"; exbfi: 02 wish 1), and which operands a listing shows (002 section 6.2).
 -- Assumes nothing.
-use mathlib.Core.Bool.{Bool, true, false}
+use mathlib.Core.Bool.{Bool, true, false, _&&_, _||_}
 use mathlib.Core.List.{List, [], _∷_}
-use Prim.Native.Nat.{ℕ, _+_, _-_, _*_, _^_}
+use Prim.Native.Nat.{ℕ, _+_, _-_, _*_, _/_, _%_, _^_}
+use lib.Dec.{leb}
 use lib.ListN.{take, drop}
 use Rattle.word.specs.Word.{Field, bits_to_, fieldOf}
 use Rattle.isa.specs.Operation.{Width, w16, w32, Form, NoOperands, ThreeRegisters, ReversedRegisters, TwoRegisters, Destination, Source, CompareRegisters, CompareImmediate, SignedImmediate, UnsignedImmediate, Count, BitField, Memory, Halfword, Jump, Branch, LowBits}
@@ -18,6 +19,34 @@ fieldsWidth (f ∷ fs) = f .width + fieldsWidth fs
 unfoldable pub fieldsOf : List Field → (word : ℕ) → ℕ
 fieldsOf [] word = 0
 fieldsOf (f ∷ fs) word = fieldOf f word * 2 ^ fieldsWidth fs + fieldsOf fs word
+
+-- the word with a number in the pieces, its lowest bits in the last one, and zeros elsewhere
+unfoldable pub placedIn : List Field → (n : ℕ) → ℕ
+placedIn [] n = 0
+placedIn (f ∷ fs) n = n / 2 ^ fieldsWidth fs % 2 ^ f .width * 2 ^ f .place + placedIn fs n
+
+-- a word with zeros outside the pieces
+unfoldable pub keptIn : List Field → (word : ℕ) → ℕ
+keptIn [] word = 0
+keptIn (f ∷ fs) word = fieldOf f word * 2 ^ f .place + keptIn fs word
+
+-- all pieces lie below bit k
+unfoldable pub lieBelow : (k : ℕ) → List Field → Bool
+lieBelow k [] = true
+lieBelow k (f ∷ fs) = leb (f .place + f .width) k && lieBelow k fs
+
+-- two share no bit
+unfoldable pub disjoint : Field → Field → Bool
+disjoint f g = leb (f .place + f .width) (g .place) || leb (g .place + g .width) (f .place)
+
+unfoldable pub disjointFrom : Field → List Field → Bool
+disjointFrom f [] = true
+disjointFrom f (g ∷ gs) = disjoint f g && disjointFrom f gs
+
+-- no two of a list share a bit
+unfoldable pub separate : List Field → Bool
+separate [] = true
+separate (f ∷ fs) = disjointFrom f fs && separate fs
 
 -- ---- fields of every word of a width
 
@@ -148,5 +177,5 @@ operandFields width form Position = drop 1 (layoutOf width form .immediate .fiel
 
 -- to unfold all of these
 unfoldable pub formats : Unit {0}
-unfolding fieldsWidth fieldsOf operationField conditionalField cregField conditionField layoutOf operandFields
+unfolding fieldsWidth fieldsOf placedIn keptIn lieBelow disjoint disjointFrom separate operationField conditionalField cregField conditionField layoutOf operandFields
 formats = tt

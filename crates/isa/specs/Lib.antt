@@ -5,5 +5,6 @@ pub mod Condition
 pub mod Format
 pub mod Decode
 pub mod Shown
+pub mod Used
 pub mod Theorems
 pub mod Computed

@@ -60,7 +60,7 @@ pub fn opcode(word: u32, wide: bool) -> u32
 }
 
 // Whether an operation may be conditional: bit 25 of its 32-bit words is not ignored.
-fn is_conditional(op: u32) -> bool
+pub fn is_conditional(op: u32) -> bool
     ensures { λ r. ⌜ r ≡ properties (operationOf op) .conditional ⌝ }
 {
     (1 <= op) & (op <= 31) | (38 <= op) & (op <= 39) | (op == 48) | (58 <= op) & (op <= 62)

@@ -1,0 +1,2 @@
+-- Laws of writing words.
+pub mod Pieces

@@ -1,0 +1,239 @@
+-- Numbers written into pieces of a word that share no bit are read back, whatever their places and widths. Assumes nothing.
+use mathlib.Core.Path.{_≡_, refl, sym, ap, _∙_, subst}
+use mathlib.Core.Bool.{Bool, true, false, _&&_, _||_}
+use mathlib.Core.List.{List, [], _∷_, _++_}
+use Prim.Native.Nat.{ℕ, zero, suc, _+_, _-_, _*_, _/_, _%_, _^_, _≤_, _<_}
+use native.Mathlib.Nat.{add-mul-div-right, add-mul-mod-self-right, mul-add-mod-self-right, mod-lt, mod-eq-of-lt, div-lt-iff-lt-mul, mul-assoc, add-comm, zero-div, zero-mod}
+use native.Mathlib.Omega.{arith}
+use lib.Dec.{leb}
+use lib.Pow.{pow-pos, pow-add, shr-shr, split, high, low, mod-pow-add}
+use borrow.Author.Tests.{leb-true}
+use Rattle.word.specs.Word.{Field, fieldOf, wordOf}
+use Rattle.word.proofs.Tests.{either, and-parts}
+use Rattle.word.proofs.Bounds.{field-below}
+use Rattle.isa.specs.Format.{fieldsWidth, fieldsOf, placedIn, keptIn, lieBelow, disjoint, disjointFrom, separate}
+use Rattle.isa.proofs.Fields.{fields-below}
+use Rattle.encoder.specs.Encode.{Part, written}
+use Rattle.encoder.specs.Theorems.{piecesOf, AllHold, WrittenRead, WrittenBelow}
+
+-- ---- one piece of n bits at place p: v is put into a word w that has zeros there
+
+module _ (p n v w : ℕ) (empty : w / 2 ^ p % 2 ^ n ≡ 0) (fits : v < 2 ^ n) where
+  up : (v * 2 ^ p + w) / 2 ^ p ≡ w / 2 ^ p / 2 ^ n * 2 ^ n + v
+  up = ap (λ (u : ℕ). u / 2 ^ p) (add-comm (v * 2 ^ p) w) ∙ add-mul-div-right w v (pow-pos p) ∙ ap (λ (u : ℕ). u + v) (let s = split (w / 2 ^ p) n in omega arith)
+
+  -- it is read back
+  same : (v * 2 ^ p + w) / 2 ^ p % 2 ^ n ≡ v
+  same = rw up (low (w / 2 ^ p / 2 ^ n) n fits)
+
+  higher : (k : ℕ) → (v * 2 ^ p + w) / 2 ^ (p + (n + k)) ≡ w / 2 ^ (p + (n + k))
+  higher k =
+      let x = v * 2 ^ p + w in
+      let e : x / 2 ^ p / 2 ^ n ≡ w / 2 ^ p / 2 ^ n = rw up (high (w / 2 ^ p / 2 ^ n) n fits) in
+      sym (shr-shr x p (n + k)) ∙ sym (shr-shr (x / 2 ^ p) n k) ∙ ap (λ (u : ℕ). u / 2 ^ k) e ∙ shr-shr (w / 2 ^ p) n k ∙ shr-shr w p (n + k)
+
+  -- what lies above is as it was
+  above : (q : ℕ) → p + n ≤ q → (v * 2 ^ p + w) / 2 ^ q ≡ w / 2 ^ q
+  above q h =
+      let e : p + (n + (q - (p + n))) ≡ q = omega arith in
+      subst (λ (m : ℕ). (v * 2 ^ p + w) / 2 ^ m ≡ w / 2 ^ m) e (higher (q - (p + n)))
+
+lower : (k q m v w : ℕ) → (v * 2 ^ (k + m + q) + w) / 2 ^ q % 2 ^ m ≡ w / 2 ^ q % 2 ^ m
+lower k q m v w =
+    let d : v * 2 ^ (k + m + q) ≡ v * 2 ^ k * 2 ^ m * 2 ^ q = rw (pow-add 2 (k + m) q, pow-add 2 k m) (simp mul-assoc) in
+    rw (d, add-comm (v * 2 ^ k * 2 ^ m * 2 ^ q) w, add-mul-div-right w (v * 2 ^ k * 2 ^ m) (pow-pos q)) (add-mul-mod-self-right (w / 2 ^ q) (v * 2 ^ k) (2 ^ m))
+
+-- what lies below is as it was
+below : (p q m v w : ℕ) → q + m ≤ p → (v * 2 ^ p + w) / 2 ^ q % 2 ^ m ≡ w / 2 ^ q % 2 ^ m
+below p q m v w h =
+    let e : p - (q + m) + m + q ≡ p = omega arith in
+    subst (λ (x : ℕ). (v * 2 ^ x + w) / 2 ^ q % 2 ^ m ≡ w / 2 ^ q % 2 ^ m) e (lower (p - (q + m)) q m v w)
+
+-- ---- tests of pieces
+
+disjoint-either : {C : Type 0} (f g : Field) → disjoint f g ≡ true → (f .place + f .width ≤ g .place → C) → (g .place + g .width ≤ f .place → C) → C
+unfolding disjoint
+disjoint-either f g t first second =
+    either (leb (f .place + f .width) (g .place)) (λ e. first (leb-true _ _ e)) (λ e. second (leb-true _ _ (rw e at t)))
+
+-- a piece that shares no bit with one that is put is as it was
+module _ (f g : Field) (v w : ℕ) (empty : fieldOf g w ≡ 0) (fits : v < 2 ^ g .width) where
+  under : f .place + f .width ≤ g .place → fieldOf f (v * 2 ^ g .place + w) ≡ fieldOf f w
+  unfolding fieldOf
+  under h = below (g .place) (f .place) (f .width) v w h
+
+  over : g .place + g .width ≤ f .place → fieldOf f (v * 2 ^ g .place + w) ≡ fieldOf f w
+  unfolding fieldOf
+  over h = ap (λ (u : ℕ). u % 2 ^ f .width) (above (g .place) (g .width) v w empty fits (f .place) h)
+
+-- ---- pieces with what goes into them
+
+abbrev Filled : Type 0
+Filled = Field × ℕ
+
+unfoldable sumOf : List Filled → ℕ
+sumOf [] = 0
+sumOf (x ∷ xs) = x .1 * 2 ^ x .0 .place + sumOf xs
+
+unfoldable places : List Filled → List Field
+places [] = []
+places (x ∷ xs) = x .0 ∷ places xs
+
+unfoldable Fit : List Filled → Type 0
+Fit [] = Unit {0}
+Fit (x ∷ xs) = (x .1 < 2 ^ x .0 .width) × Fit xs
+
+unfoldable Reads : List Filled → (word : ℕ) → Type 0
+Reads [] word = Unit {0}
+Reads (x ∷ xs) word = (fieldOf (x .0) word ≡ x .1) × Reads xs word
+
+nothing : (f : Field) → fieldOf f 0 ≡ 0
+unfolding fieldOf
+nothing f = rw (zero-div (2 ^ f .place)) (zero-mod (2 ^ f .width))
+
+-- a piece disjoint from all of them is empty
+clear : (f : Field) (xs : List Filled) → disjointFrom f (places xs) ≡ true → separate (places xs) ≡ true → Fit xs → fieldOf f (sumOf xs) ≡ 0
+unfolding sumOf places Fit disjointFrom separate
+clear f [] t s h = nothing f
+clear f (x ∷ xs) t s h =
+    let t′ = and-parts _ _ t in
+    let s′ = and-parts _ _ s in
+    let empty = clear (x .0) xs (s′ .0) (s′ .1) (h .1) in
+    disjoint-either f (x .0) (t′ .0) (under f (x .0) (x .1) (sumOf xs) empty (h .0)) (over f (x .0) (x .1) (sumOf xs) empty (h .0)) ∙ clear f xs (t′ .1) (s′ .1) (h .1)
+
+-- those that are disjoint from one that is put are as they were
+others : (g : Field) (v w : ℕ) (ys : List Filled) → fieldOf g w ≡ 0 → v < 2 ^ g .width → disjointFrom g (places ys) ≡ true → Reads ys w
+    → Reads ys (v * 2 ^ g .place + w)
+unfolding places Reads disjointFrom
+others g v w [] e h t r = tt
+others g v w (y ∷ ys) e h t r =
+    let t′ = and-parts _ _ t in
+    (disjoint-either g (y .0) (t′ .0) (over (y .0) g v w e h) (under (y .0) g v w e h) ∙ r .0, others g v w ys e h (t′ .1) (r .1))
+
+-- each is read back
+all-read : (xs : List Filled) → separate (places xs) ≡ true → Fit xs → Reads xs (sumOf xs)
+unfolding sumOf places Fit Reads separate fieldOf
+all-read [] s h = tt
+all-read (x ∷ xs) s h =
+    let s′ = and-parts _ _ s in
+    let empty = clear (x .0) xs (s′ .0) (s′ .1) (h .1) in
+    (same (x .0 .place) (x .0 .width) (x .1) (sumOf xs) empty (h .0), others (x .0) (x .1) (sumOf xs) xs empty (h .0) (s′ .0) (all-read xs (s′ .1) (h .1)))
+
+-- the sum lies below bit k where all pieces do
+none-above : (k : ℕ) (xs : List Filled) → lieBelow k (places xs) ≡ true → separate (places xs) ≡ true → Fit xs → sumOf xs / 2 ^ k ≡ 0
+unfolding sumOf places Fit lieBelow separate fieldOf
+none-above k [] t s h = zero-div (2 ^ k)
+none-above k (x ∷ xs) t s h =
+    let t′ = and-parts _ _ t in
+    let s′ = and-parts _ _ s in
+    above (x .0 .place) (x .0 .width) (x .1) (sumOf xs) (clear (x .0) xs (s′ .0) (s′ .1) (h .1)) (h .0) k (leb-true _ _ (t′ .0))
+    ∙ none-above k xs (t′ .1) (s′ .1) (h .1)
+
+-- ---- a number in pieces, before others
+
+unfoldable spread : List Field → (n : ℕ) → List Filled → List Filled
+spread [] n xs = xs
+spread (f ∷ fs) n xs = (f, n / 2 ^ fieldsWidth fs % 2 ^ f .width) ∷ spread fs n xs
+
+spread-places : (fs : List Field) (n : ℕ) (xs : List Filled) → places (spread fs n xs) ≡ fs ++ places xs
+unfolding spread places
+spread-places [] n xs = refl
+spread-places (f ∷ fs) n xs = ap (λ (l : List Field). f ∷ l) (spread-places fs n xs)
+
+spread-fits : (fs : List Field) (n : ℕ) (xs : List Filled) → Fit xs → Fit (spread fs n xs)
+unfolding spread Fit
+spread-fits [] n xs h = h
+spread-fits (f ∷ fs) n xs h = (mod-lt (n / 2 ^ fieldsWidth fs) (pow-pos (f .width)), spread-fits fs n xs h)
+
+spread-sum : (fs : List Field) (n : ℕ) (xs : List Filled) → sumOf (spread fs n xs) ≡ placedIn fs n + sumOf xs
+unfolding spread sumOf placedIn
+spread-sum [] n xs = omega arith
+spread-sum (f ∷ fs) n xs = let r = spread-sum fs n xs in omega arith
+
+-- where the pieces are read back, so is the number
+spread-read : (fs : List Field) (n : ℕ) (xs : List Filled) (word : ℕ) → Reads (spread fs n xs) word
+    → (fieldsOf fs word ≡ n % 2 ^ fieldsWidth fs) × Reads xs word
+unfolding spread Reads fieldsOf fieldsWidth
+spread-read [] n xs word r = (omega arith, r)
+spread-read (f ∷ fs) n xs word r =
+    let rest = spread-read fs n xs word (r .1) in
+    let e : fieldOf f word * 2 ^ fieldsWidth fs + fieldsOf fs word ≡ n / 2 ^ fieldsWidth fs % 2 ^ f .width * 2 ^ fieldsWidth fs + n % 2 ^ fieldsWidth fs = cc (rest .0, r .0) in
+    (e ∙ sym (mod-pow-add n (f .width) (fieldsWidth fs)), rest .1)
+
+-- ---- parts
+
+unfoldable filled : List Part → List Filled
+filled [] = []
+filled (p ∷ ps) = spread (p .fields) (wordOf 32 (p .number)) (filled ps)
+
+filled-places : (ps : List Part) → places (filled ps) ≡ piecesOf ps
+unfolding filled places piecesOf
+filled-places [] = refl
+filled-places (p ∷ ps) = spread-places (p .fields) (wordOf 32 (p .number)) (filled ps) ∙ ap (λ (l : List Field). p .fields ++ l) (filled-places ps)
+
+filled-fits : (ps : List Part) → Fit (filled ps)
+unfolding filled Fit
+filled-fits [] = tt
+filled-fits (p ∷ ps) = spread-fits (p .fields) (wordOf 32 (p .number)) (filled ps) (filled-fits ps)
+
+filled-sum : (ps : List Part) → sumOf (filled ps) ≡ written ps
+unfolding filled sumOf written
+filled-sum [] = refl
+filled-sum (p ∷ ps) = spread-sum (p .fields) (wordOf 32 (p .number)) (filled ps) ∙ ap (λ (x : ℕ). placedIn (p .fields) (wordOf 32 (p .number)) + x) (filled-sum ps)
+
+filled-hold : (ps : List Part) (word : ℕ) → Reads (filled ps) word → AllHold ps word
+unfolding filled Reads AllHold
+filled-hold [] word r = tt
+filled-hold (p ∷ ps) word r =
+    let h = spread-read (p .fields) (wordOf 32 (p .number)) (filled ps) word r in
+    (h .0, filled-hold ps word (h .1))
+
+separate-filled : (ps : List Part) → separate (piecesOf ps) ≡ true → separate (places (filled ps)) ≡ true
+separate-filled ps t = ap separate (filled-places ps) ∙ t
+
+pub written-read : WrittenRead
+written-read ps t = subst (AllHold ps) (filled-sum ps) (filled-hold ps (sumOf (filled ps)) (all-read (filled ps) (separate-filled ps t) (filled-fits ps)))
+
+-- no quotient is left of a word below 2 ^ k
+no-quotient : (k word : ℕ) → word / 2 ^ k ≡ 0 → word < 2 ^ k
+no-quotient k word e =
+    let h : word / 2 ^ k < 1 = omega arith in
+    let g = div-lt-iff-lt-mul (pow-pos k) .0 h in
+    omega arith
+
+pub written-below : WrittenBelow
+written-below k ps l t =
+    no-quotient k (written ps)
+    (ap (λ (x : ℕ). x / 2 ^ k) (sym (filled-sum ps))
+    ∙ none-above k (filled ps) (ap (lieBelow k) (filled-places ps) ∙ l) (separate-filled ps t) (filled-fits ps))
+
+-- ---- what pieces hold, put back
+
+-- numbers with the same lowest bits are put alike
+placed-more : (fs : List Field) (a b : ℕ) → placedIn fs (a * 2 ^ fieldsWidth fs + b) ≡ placedIn fs b
+unfolding placedIn fieldsWidth
+placed-more [] a b = refl
+placed-more (f ∷ fs) a b =
+    let w = fieldsWidth fs in
+    let e : a * 2 ^ (f .width + w) + b ≡ a * 2 ^ f .width * 2 ^ w + b = rw (pow-add 2 (f .width) w) (simp mul-assoc) in
+    let q : (a * 2 ^ f .width * 2 ^ w + b) / 2 ^ w ≡ b / 2 ^ w + a * 2 ^ f .width = ap (λ (u : ℕ). u / 2 ^ w) (add-comm (a * 2 ^ f .width * 2 ^ w) b) ∙ add-mul-div-right b (a * 2 ^ f .width) (pow-pos w) in
+    let top : (a * 2 ^ (f .width + w) + b) / 2 ^ w % 2 ^ f .width ≡ b / 2 ^ w % 2 ^ f .width = rw (e, q) (add-mul-mod-self-right (b / 2 ^ w) a (2 ^ f .width)) in
+    let rest : placedIn fs (a * 2 ^ (f .width + w) + b) ≡ placedIn fs b = rw e (placed-more fs (a * 2 ^ f .width) b) in
+    cc (top, rest)
+
+pub placed-low : (fs : List Field) (n : ℕ) → placedIn fs n ≡ placedIn fs (n % 2 ^ fieldsWidth fs)
+placed-low fs n = ap (placedIn fs) (sym (split n (fieldsWidth fs))) ∙ placed-more fs (n / 2 ^ fieldsWidth fs) (n % 2 ^ fieldsWidth fs)
+
+pub placed-held : (fs : List Field) (word : ℕ) → placedIn fs (fieldsOf fs word) ≡ keptIn fs word
+unfolding placedIn keptIn fieldsOf
+placed-held [] word = refl
+placed-held (f ∷ fs) word =
+    let w = fieldsWidth fs in
+    let top : (fieldOf f word * 2 ^ w + fieldsOf fs word) / 2 ^ w % 2 ^ f .width ≡ fieldOf f word = rw (high (fieldOf f word) w (fields-below fs word)) (mod-eq-of-lt (field-below f word)) in
+    let rest : placedIn fs (fieldOf f word * 2 ^ w + fieldsOf fs word) ≡ keptIn fs word = placed-more fs (fieldOf f word) (fieldsOf fs word) ∙ placed-held fs word in
+    cc (top, rest)
+
+pub kept-append : (fs gs : List Field) (word : ℕ) → keptIn (fs ++ gs) word ≡ keptIn fs word + keptIn gs word
+unfolding keptIn
+kept-append [] gs word = omega arith
+kept-append (f ∷ fs) gs word = omega (arith, kept-append fs gs word)

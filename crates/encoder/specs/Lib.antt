@@ -1,0 +1,4 @@
+-- Instruction words made from what a listing shows of them.
+pub mod Encode
+pub mod Theorems
+pub mod Computed
