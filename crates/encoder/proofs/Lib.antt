@@ -1,2 +1,4 @@
 -- Laws of writing words.
 pub mod Pieces
+pub mod Values
+pub mod Operands

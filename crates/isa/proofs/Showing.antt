@@ -113,7 +113,7 @@ unfolding decode assembled operandsOf
 bit-field word e = ap (λ (n : ℕ). immediateOf (layoutOf w32 (properties (operationOf n) .form) .immediate) word) e ∙ pieces word
 
 -- the two parts of such a number
-parts : (x y : ℕ) → x < 64 → y < 32 → (fieldOf (bits 10 to 5) (wordOf 32 (pos (x * 32 + y))) ≡ x) × (fieldOf (bits 4 to 0) (wordOf 32 (pos (x * 32 + y))) ≡ y)
+pub parts : (x y : ℕ) → x < 64 → y < 32 → (fieldOf (bits 10 to 5) (wordOf 32 (pos (x * 32 + y))) ≡ x) × (fieldOf (bits 4 to 0) (wordOf 32 (pos (x * 32 + y))) ≡ y)
 unfolding fieldOf modZ
 parts x y h k = (omega arith, omega arith)
 
