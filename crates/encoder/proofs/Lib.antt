@@ -2,3 +2,5 @@
 pub mod Pieces
 pub mod Values
 pub mod Operands
+pub mod Choices
+pub mod Theorems

@@ -1,18 +1,20 @@
 -- Numbers that fit so many bits, and their bits, whatever the number of bits and the least number. Assumes nothing.
 use mathlib.Core.Path.{_≡_, refl, sym, ap, _∙_, subst}
-use mathlib.Core.Bool.{true, true≢false}
+use mathlib.Core.Bool.{true, _&&_, true≢false}
 use Prim.Native.Nat.{ℕ, zero, suc, _+_, _-_, _*_, _/_, _%_, _^_, _≤_, _<_}
-use native.Mathlib.Nat.{add-mod-mod, add-mod-right, mul-add-mod-self-right, mod-eq-of-lt, mod-lt}
+use native.Mathlib.Nat.{add-zero, add-mod-mod, add-mod-right, mul-add-mod-self-right, mod-eq-of-lt, mod-lt}
 use native.Mathlib.Omega.{arith}
 use lib.IntN.{ℤ, pos, negsuc, negℤ, negℤ-negℤ, subℕ, _+ℤ_, _-ℤ_, -ℤ-+ℤ-cancel}
 use lib.Pow.{pow-pos, pow-mono, split, low, high-ones, mod-mod-pow}
 use lib.Signed.{mag}
-use borrow.Author.Tests.{lt-ltb, ltb-true}
+use lib.Dec.{ltb, leb}
+use borrow.Author.Tests.{ltb-true, ltb-false, lt-ltb, le-ltb, le-leb, lt-leb}
 use Rattle.word.specs.Word.{signedOf, modZ, wordOf}
-use Rattle.word.proofs.Integers.{double, signed-either, sub-above, sub-either}
+use Rattle.word.proofs.Tests.{either}
+use Rattle.word.proofs.Integers.{double, signed-either, sub-below, sub-above, sub-either}
 use Rattle.isa.specs.Used.{Natural, Signed, High, leastOf}
 use Rattle.encoder.specs.Encode.{isBelow, fits}
-use Rattle.encoder.specs.Theorems.{FitsOne}
+use Rattle.encoder.specs.Theorems.{FitsOne, RangesAre}
 
 -- ---- the bits of a number say which of those that fit it is
 
@@ -66,9 +68,14 @@ pub record Held (k : ℕ) (least z : ℤ) (n : ℕ) : Type 0 where
   pub bits : wordOf 32 z % 2 ^ k ≡ n
 
 -- a natural number's word
-natural-bits : (k n : ℕ) → k ≤ 32 → n < 2 ^ k → wordOf 32 (pos n) % 2 ^ k ≡ n
+pub natural-bits : (k n : ℕ) → k ≤ 32 → n < 2 ^ k → wordOf 32 (pos n) % 2 ^ k ≡ n
 unfolding modZ
 natural-bits k n h b = low-bits k n h ∙ mod-eq-of-lt b
+
+-- one that fits is below 2 ^ k
+pub natural-below : (k n : ℕ) → fits k (pos 0) (pos n) ≡ true → n < 2 ^ k
+unfolding fits isBelow
+natural-below k n e = let b = ltb-true (n + 0) (2 ^ k) e in omega arith
 
 pub natural-held : (k n : ℕ) → k ≤ 32 → n < 2 ^ k → Held k (leastOf Natural k) (pos n) n
 unfolding fits isBelow leastOf
@@ -107,3 +114,35 @@ signed-held k n p h b =
       fit = rw (negℤ-negℤ (pos half)) (ap (isBelow (2 ^ k)) (sub-above half (suc (2 ^ k - suc n)) (omega arith)) ∙ lt-ltb (half - suc (2 ^ k - suc n)) (2 ^ k) (omega arith));
       bits = negative-bits k (2 ^ k - suc n) h (omega arith) ∙ omega arith;
     })
+
+-- ---- which numbers fit
+
+pub ranges-are : RangesAre
+unfolding fits isBelow leastOf
+ranges-are k n =
+    record {
+      natural = ap (λ (m : ℕ). ltb m (2 ^ k)) (add-zero n);
+      naturalBelow = ap (isBelow (2 ^ k)) (sub-below 0 (suc n) (omega arith));
+      signed = λ p. rw (negℤ-negℤ (pos (2 ^ (k - 1)))) (same-test (n + 2 ^ (k - 1)) (2 ^ k) n (2 ^ (k - 1)) (let d = double k p in λ h. omega arith) (let d = double k p in λ h. omega arith));
+      signedBelow = λ p. rw (negℤ-negℤ (pos (2 ^ (k - 1)))) (below-zero k p);
+      high =
+        sub-either (λ (z : ℤ). isBelow (2 ^ k) z ≡ leb 24 n && ltb n (24 + 2 ^ k)) n 24
+        (λ h. rw (lt-leb 24 n h))
+        (λ h. rw (le-leb 24 n h) (same-test (n - 24) (2 ^ k) n (24 + 2 ^ k) (λ l. omega arith) (λ l. omega arith)));
+      highBelow = refl;
+    }
+  where
+    same-test : (a b c d : ℕ) → (a < b → c < d) → (c < d → a < b) → ltb a b ≡ ltb c d
+    same-test a b c d f g =
+        either (ltb a b) (λ t. t ∙ sym (lt-ltb c d (f (ltb-true a b t)))) (λ t. t ∙ sym (le-ltb c d (not-lt c d (λ l. let h = g l in let m = ltb-false a b t in omega arith))))
+      where
+        not-lt : (c d : ℕ) → (c < d → ⊥) → d ≤ c
+        not-lt c d n = either (ltb c d) (λ t. absurd (n (ltb-true c d t))) (λ t. ltb-false c d t)
+
+    below-zero : (k : ℕ) → 0 < k → isBelow (2 ^ k) (subℕ (2 ^ (k - 1)) (suc n)) ≡ ltb n (2 ^ (k - 1))
+    below-zero k p =
+        let half = 2 ^ (k - 1) in
+        let d = double k p in
+        sub-either (λ (z : ℤ). isBelow (2 ^ k) z ≡ ltb n half) half (suc n)
+        (λ h. sym (le-ltb n half (omega arith)))
+        (λ h. lt-ltb (half - suc n) (2 ^ k) (omega arith) ∙ sym (lt-ltb n half (omega arith)))

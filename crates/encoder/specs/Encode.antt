@@ -68,7 +68,7 @@ pub record Part : Type 0 where
   pub least : ℤ
   pub number : ℤ
 
-abbrev natural : List Field → (n : ℕ) → Part
+abbrev pub natural : List Field → (n : ℕ) → Part
 natural fs n = record { fields = fs; least = pos 0; number = pos n }
 
 -- the condition's: a conditional bit where the operation may be conditional; register and number of a condition that is given

@@ -1,18 +1,18 @@
 -- What is proved of writing words: the statements, each with the sentence of 02 wish 7 that it says. Assumes nothing.
 use mathlib.Core.Path.{_≡_}
-use mathlib.Core.Bool.{Bool, true, false, _&&_, _||_, not}
+use mathlib.Core.Bool.{Bool, true, false, not, _&&_, _||_}
 use mathlib.Core.List.{List, [], _∷_, _++_}
-use Prim.Native.Nat.{ℕ, _+_, _*_, _/_, _%_, _^_, _≤_, _<_}
-use lib.Dec.{leb, ltb}
-use lib.IntN.{ℤ}
-use Rattle.word.specs.Choice.{if_then_else_}
-use Rattle.word.specs.Word.{Field, wordOf}
-use Rattle.isa.specs.Operation.{operationOf, Width}
+use Prim.Native.Nat.{ℕ, _+_, _-_, _*_, _%_, _^_, _≤_, _<_}
+use lib.Dec.{leb, ltb, eqb}
+use lib.IntN.{ℤ, pos, negsuc}
+use Rattle.word.specs.Word.{Field, bitAt, wordOf}
+use Rattle.isa.specs.Operation.{operationOf, Width, widthBy}
 use Rattle.isa.specs.Format.{fieldsWidth, fieldsOf, lieBelow, separate}
 use Rattle.isa.specs.Decode.{wordBytes, decode}
 use Rattle.isa.specs.Shown.{hasForm}
-use Rattle.isa.specs.Used.{usedFields, cleared}
-use Rattle.encoder.specs.Encode.{Choice, choiceOf, Part, fits, written, Encodes, encodeOf}
+use Rattle.isa.specs.Used.{Natural, Signed, High, leastOf, usedFields, cleared}
+use Rattle.isa.specs.Theorems.{between}
+use Rattle.encoder.specs.Encode.{Choice, choiceOf, Part, fits, written, given, chosenForm, Encodes, encodeOf}
 
 -- ---- "For every field the fit is shown from its place and width, not field by field"
 
@@ -37,3 +37,69 @@ WrittenBelow = (k : ℕ) (ps : List Part) → lieBelow k (piecesOf ps) ≡ true 
 -- of the numbers that fit k bits only one has given bits
 abbrev pub FitsOne : Type 0
 FitsOne = (k : ℕ) (least y z : ℤ) → k ≤ 32 → fits k least y ≡ true → fits k least z ≡ true → wordOf 32 y % 2 ^ k ≡ wordOf 32 z % 2 ^ k → y ≡ z
+
+-- which numbers fit, by the reading of their bits; negsuc n is -(n + 1). "Registers of 16-bit words are given as 24 to 31"
+pub record Ranges (k n : ℕ) : Type 0 where
+  pub natural : fits k (leastOf Natural k) (pos n) ≡ ltb n (2 ^ k)
+  pub naturalBelow : fits k (leastOf Natural k) (negsuc n) ≡ false
+  pub signed : 0 < k → fits k (leastOf Signed k) (pos n) ≡ ltb n (2 ^ (k - 1))
+  pub signedBelow : 0 < k → fits k (leastOf Signed k) (negsuc n) ≡ ltb n (2 ^ (k - 1))
+  pub high : fits k (leastOf High k) (pos n) ≡ leb 24 n && ltb n (24 + 2 ^ k)
+  pub highBelow : fits k (leastOf High k) (negsuc n) ≡ false
+
+abbrev pub RangesAre : Type 0
+RangesAre = (k n : ℕ) → Ranges k n
+
+-- ---- the two ways between choices and words
+
+-- "reading that word finds the operation, condition and operands it was made from"; it is a word of its width, and "Ignored bits are 0"
+pub record ReadBack (width : Width) (c : Choice) (word : ℕ) : Type 0 where
+  pub choice : choiceOf width word ≡ c
+  pub size : word < 2 ^ (8 * wordBytes width)
+  pub ignored : cleared width word ≡ word
+
+abbrev pub EncodeDecode : Type 0
+EncodeDecode = (width : Width) (c : Choice) (word : ℕ) → encodeOf width c ≡ Encodes word → ReadBack width c word
+
+-- the operation of a word has a form in its width
+abbrev pub wordHasForm : Width → (word : ℕ) → Bool
+wordHasForm width word = hasForm width (operationOf (decode width word .opcode))
+
+-- "A word that came in with other ignored bits is written with zeros": every choice that a listing shows has a word, and it is this
+abbrev pub DecodeEncode : Type 0
+DecodeEncode = (width : Width) (word : ℕ) → wordHasForm width word ≡ true → encodeOf width (choiceOf width word) ≡ Encodes (cleared width word)
+
+-- "so each such choice has one written word": two words that are read as the same choice, with their ignored bits 0, are one
+abbrev pub OneWord : Type 0
+OneWord = (width : Width) (word other : ℕ) → wordHasForm width word ≡ true → choiceOf width word ≡ choiceOf width other → cleared width word ≡ word
+    → cleared width other ≡ other → word ≡ other
+
+-- "and a second writing alters nothing"
+pub record WrittenAgain (width : Width) (word : ℕ) : Type 0 where
+  pub choice : choiceOf width (cleared width word) ≡ choiceOf width word
+  pub again : encodeOf width (choiceOf width (cleared width word)) ≡ Encodes (cleared width word)
+  pub ignored : cleared width (cleared width word) ≡ cleared width word
+
+abbrev pub SecondWriting : Type 0
+SecondWriting = (width : Width) (word : ℕ) → wordHasForm width word ≡ true → WrittenAgain width word
+
+-- bit n is one of the pieces'
+unfoldable pub isUsed : (n : ℕ) → List Field → Bool
+isUsed n [] = false
+isUsed n (f ∷ fs) = (leb (f .place) n && ltb n (f .place + f .width)) || isUsed n fs
+
+-- the bits of a word with its ignored bits 0
+abbrev pub ClearedBit : Type 0
+ClearedBit = (width : Width) (word n : ℕ)
+    → let i = decode width word in
+      bitAt n (cleared width word) ≡ isUsed n (usedFields width (operationOf (i .opcode)) (i .conditional)) && bitAt n word
+
+-- ---- refusals
+
+-- "18 when the operation has no such form in that width, or no conditional form and a condition is given": by 01's and 02's numbers
+abbrev pub ChosenFormIs : Type 0
+ChosenFormIs = (wide : Bool) (c : Choice)
+    → let n = c .operation in
+      chosenForm (widthBy wide) c
+      ≡ (ltb n 64 && not ((between 34 35 n || leb 63 n) && not wide))
+      && (not (given (c .guard)) || wide && (((between 1 31 n || between 38 39 n) || eqb n 48) || between 58 62 n))
