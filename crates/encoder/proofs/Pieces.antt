@@ -1,20 +1,20 @@
 -- Numbers written into pieces of a word that share no bit are read back, whatever their places and widths. Assumes nothing.
 use mathlib.Core.Path.{_≡_, refl, sym, ap, _∙_, subst}
-use mathlib.Core.Bool.{Bool, true, false, _&&_, _||_}
+use mathlib.Core.Bool.{Bool, true, false, _&&_, _||_, true≢false}
 use mathlib.Core.List.{List, [], _∷_, _++_}
 use Prim.Native.Nat.{ℕ, zero, suc, _+_, _-_, _*_, _/_, _%_, _^_, _≤_, _<_}
 use native.Mathlib.Nat.{add-mul-div-right, add-mul-mod-self-right, mul-add-mod-self-right, mod-lt, mod-eq-of-lt, div-lt-iff-lt-mul, mul-assoc, add-comm, zero-div, zero-mod}
 use native.Mathlib.Omega.{arith}
-use lib.Dec.{leb}
-use lib.Pow.{pow-pos, pow-add, shr-shr, split, high, low, mod-pow-add}
-use borrow.Author.Tests.{leb-true}
-use Rattle.word.specs.Word.{Field, fieldOf, wordOf}
-use Rattle.word.proofs.Tests.{either, and-parts}
+use lib.Dec.{leb, ltb, eqb}
+use lib.Pow.{pow-pos, pow-add, shr-shr, split, high, low, mod-pow-add, mod-mod-pow, field}
+use borrow.Author.Tests.{ltb-true, ltb-false, leb-true, leb-false, le-leb}
+use Rattle.word.specs.Word.{Field, fieldOf, bitAt, wordOf}
+use Rattle.word.proofs.Tests.{either, and-parts, and-both, or-parts}
 use Rattle.word.proofs.Bounds.{field-below}
 use Rattle.isa.specs.Format.{fieldsWidth, fieldsOf, placedIn, keptIn, lieBelow, disjoint, disjointFrom, separate}
 use Rattle.isa.proofs.Fields.{fields-below}
 use Rattle.encoder.specs.Encode.{Part, written}
-use Rattle.encoder.specs.Theorems.{piecesOf, AllHold, WrittenRead, WrittenBelow}
+use Rattle.encoder.specs.Theorems.{piecesOf, AllHold, WrittenRead, WrittenBelow, isUsed}
 
 -- ---- one piece of n bits at place p: v is put into a word w that has zeros there
 
@@ -237,3 +237,79 @@ pub kept-append : (fs gs : List Field) (word : ℕ) → keptIn (fs ++ gs) word �
 unfolding keptIn
 kept-append [] gs word = omega arith
 kept-append (f ∷ fs) gs word = omega (arith, kept-append fs gs word)
+
+-- ---- the bits that are kept
+
+-- what each piece holds in a word
+unfoldable heldIn : List Field → (word : ℕ) → List Filled
+heldIn [] word = []
+heldIn (f ∷ fs) word = (f, fieldOf f word) ∷ heldIn fs word
+
+held-places : (fs : List Field) (word : ℕ) → places (heldIn fs word) ≡ fs
+unfolding heldIn places
+held-places [] word = refl
+held-places (f ∷ fs) word = ap (λ (l : List Field). f ∷ l) (held-places fs word)
+
+held-fits : (fs : List Field) (word : ℕ) → Fit (heldIn fs word)
+unfolding heldIn Fit
+held-fits [] word = tt
+held-fits (f ∷ fs) word = (field-below f word, held-fits fs word)
+
+held-sum : (fs : List Field) (word : ℕ) → sumOf (heldIn fs word) ≡ keptIn fs word
+unfolding heldIn sumOf keptIn
+held-sum [] word = refl
+held-sum (f ∷ fs) word = ap (λ (x : ℕ). fieldOf f word * 2 ^ f .place + x) (held-sum fs word)
+
+-- a bit of a piece, by its number in the piece
+bit-in : (word p k n : ℕ) → p ≤ n → n < p + k → word / 2 ^ n % 2 ≡ word / 2 ^ p % 2 ^ k / 2 ^ (n - p) % 2
+bit-in word p k n l h =
+    let m = n - p in
+    let j = k - m in
+    let w = word / 2 ^ p in
+    let place : p + m ≡ n = omega arith in
+    let size : j + m ≡ k = omega arith in
+    let one : j - 1 + 1 ≡ j = omega arith in
+    let low-bit : w / 2 ^ m % 2 ^ j % 2 ≡ w / 2 ^ m % 2 = subst (λ (i : ℕ). w / 2 ^ m % 2 ^ i % 2 ≡ w / 2 ^ m % 2) one (mod-mod-pow (w / 2 ^ m) (j - 1) 1) in
+    let piece : w % 2 ^ k / 2 ^ m ≡ w / 2 ^ m % 2 ^ j = subst (λ (i : ℕ). w % 2 ^ i / 2 ^ m ≡ w / 2 ^ m % 2 ^ j) size (field w j m) in
+    sym (ap (λ (x : ℕ). x % 2) piece ∙ low-bit ∙ ap (λ (x : ℕ). x % 2) (shr-shr word p m) ∙ ap (λ (i : ℕ). word / 2 ^ i % 2) place)
+
+module _ (n word other : ℕ) where
+  -- a bit of one of the pieces that two words agree on
+  used-bit : (fs : List Field) → isUsed n fs ≡ true → Reads (heldIn fs word) other → bitAt n other ≡ bitAt n word
+  unfolding isUsed heldIn Reads fieldOf
+  used-bit [] e r = absurd (true≢false (sym e))
+  used-bit (f ∷ fs) e r =
+      either (leb (f .place) n && ltb n (f .place + f .width))
+      (λ t.
+      let u = and-parts (leb (f .place) n) (ltb n (f .place + f .width)) t in
+      let l : f .place ≤ n = leb-true _ _ (u .0) in
+      let h : n < f .place + f .width = ltb-true _ _ (u .1) in
+      ap (λ (x : ℕ). eqb x 1)
+      (bit-in other (f .place) (f .width) n l h ∙ ap (λ (x : ℕ). x / 2 ^ (n - f .place) % 2) (r .0) ∙ sym (bit-in word (f .place) (f .width) n l h)))
+      (λ t. used-bit fs (rw t at e) (r .1))
+
+-- a bit of none of them
+bit-apart : (n : ℕ) (fs : List Field) → isUsed n fs ≡ false → disjointFrom (record { place = n; width = 1 }) fs ≡ true
+unfolding isUsed disjointFrom disjoint
+bit-apart n [] e = refl
+bit-apart n (f ∷ fs) e =
+    let t = or-parts (leb (f .place) n && ltb n (f .place + f .width)) (isUsed n fs) e in
+    and-both (disjoint (record { place = n; width = 1 }) f) (disjointFrom (record { place = n; width = 1 }) fs)
+    (either (leb (n + 1) (f .place))
+    (λ a. rw a)
+    (λ a.
+    let b : f .place ≤ n = omega (arith, leb-false (n + 1) (f .place) a) in
+    let c : ltb n (f .place + f .width) ≡ false = sym (ap (λ (x : Bool). x && ltb n (f .place + f .width)) (le-leb (f .place) n b)) ∙ t .0 in
+    rw a (le-leb (f .place + f .width) n (ltb-false n (f .place + f .width) c))))
+    (bit-apart n fs (t .1))
+
+pub kept-bit : (fs : List Field) (word n : ℕ) → separate fs ≡ true → bitAt n (keptIn fs word) ≡ isUsed n fs && bitAt n word
+unfolding fieldOf
+kept-bit fs word n s =
+    let held = heldIn fs word in
+    let apart : separate (places held) ≡ true = ap separate (held-places fs word) ∙ s in
+    either (isUsed n fs)
+    (λ t. rw t (used-bit n word (keptIn fs word) fs t (subst (Reads held) (held-sum fs word) (all-read held apart (held-fits fs word)))))
+    (λ t.
+    let none = clear (record { place = n; width = 1 }) held (ap (disjointFrom (record { place = n; width = 1 })) (held-places fs word) ∙ bit-apart n fs t) apart (held-fits fs word) in
+    rw t (ap (λ (x : ℕ). eqb x 1) (ap (λ (w : ℕ). w / 2 ^ n % 2) (sym (held-sum fs word)) ∙ none)))

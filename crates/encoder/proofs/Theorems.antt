@@ -1,6 +1,6 @@
 -- What is written is read as what it was made from, and what is read is written with its ignored bits 0. Assumes nothing.
 use mathlib.Core.Path.{_≡_, refl, sym, ap, _∙_, subst}
-use mathlib.Core.Bool.{Bool, true, false, not, _&&_, _||_, true≢false, and-false}
+use mathlib.Core.Bool.{Bool, true, false, not, _&&_, _||_, true≢false, and-true, and-false}
 use mathlib.Core.List.{List, [], _∷_, _++_}
 use mathlib.Core.Option.{Option, none, some}
 use Prim.Native.Nat.{ℕ, _+_, _*_, _%_, _^_, _≤_, _<_}
@@ -11,17 +11,20 @@ use borrow.Author.Tests.{ltb-true, lt-ltb}
 use Rattle.word.specs.Choice.{if_then_else_}
 use Rattle.word.specs.Word.{Field, modZ, wordOf}
 use Rattle.word.proofs.Tests.{either, and-parts, and-both, if-true, if-false}
-use Rattle.isa.specs.Operation.{Operation, operationOf, Width, w16, w32, properties}
+use Rattle.isa.specs.Operation.{Operation, operationOf, Width, w16, w32, widthBy, properties}
 use Rattle.isa.specs.Format.{fieldsWidth, fieldsOf, keptIn, lieBelow, separate, operationField, conditionalField, cregField, conditionField}
 use Rattle.isa.specs.Decode.{wordBytes, opcodeOf, assembled, decode}
 use Rattle.isa.specs.Shown.{hasForm}
 use Rattle.isa.specs.Used.{shownRole, shownFields, leastOf, shownReading, usedFields, cleared}
 use Rattle.isa.specs.declared.Instruction.{Instruction}
+use Rattle.isa.specs.Theorems.{between}
+use Rattle.isa.proofs.Rules as rules
+use Rattle.isa.proofs.Showing.{form-is}
 use Rattle.isa.proofs.Rows.{rows-sound}
 use Rattle.isa.proofs.Decoded.{opcode-below}
 use Rattle.encoder.specs.Encode.{Guard, Choice, guardOf, valueFor, valueAt, choiceOf, Part, natural, guardParts, operandPart, partsOf, fits, allFit, written, given, conditionalForm, chosenForm, Encoding, Encodes, RefusedWith, encodeOf}
-use Rattle.encoder.specs.Theorems.{piecesOf, AllHold, ReadBack, EncodeDecode, wordHasForm, DecodeEncode, OneWord, WrittenAgain, SecondWriting}
-use Rattle.encoder.proofs.Pieces.{written-read, written-below}
+use Rattle.encoder.specs.Theorems.{piecesOf, AllHold, ReadBack, EncodeDecode, wordHasForm, DecodeEncode, OneWord, WrittenAgain, SecondWriting, ClearedBit, ChosenFormIs}
+use Rattle.encoder.proofs.Pieces.{written-read, written-below, kept-bit}
 use Rattle.encoder.proofs.Values.{Held, fits-one, natural-bits, natural-below}
 use Rattle.encoder.proofs.Operands.{operand-held}
 use Rattle.encoder.proofs.Choices.{held-fit, held-written, choice-held, pieces-used}
@@ -274,3 +277,21 @@ second-writing width word f =
     let e = decode-encode width word f in
     let r = encode-decode width (choiceOf width word) (cleared width word) e in
     record { choice = r .choice; again = ap (encodeOf width) (r .choice) ∙ e; ignored = r .ignored }
+
+pub cleared-bit : ClearedBit
+unfolding cleared
+cleared-bit width word n =
+    let i = decode width word in
+    kept-bit (usedFields width (operationOf (i .opcode)) (i .conditional)) word n (rows-sound width (i .opcode) .used (i .conditional) .1)
+
+-- ---- 18, by numbers
+
+-- a conditional form, by width
+conditional-form : (wide : Bool) (n : ℕ) → conditionalForm (widthBy wide) (operationOf n) ≡ wide && (((between 1 31 n || between 38 39 n) || eqb n 48) || between 58 62 n)
+unfolding conditionalForm widthBy conditionalField fieldsWidth
+conditional-form true n = and-true (properties (operationOf n) .conditional) ∙ rules.conditional-is n
+conditional-form false n = and-false (properties (operationOf n) .conditional)
+
+pub chosen-form-is : ChosenFormIs
+unfolding chosenForm
+chosen-form-is wide c = rw (form-is wide (c .operation), conditional-form wide (c .operation))
