@@ -83,10 +83,13 @@ module _ (width : Width) (word : ℕ) where
       → AllHeld (guardParts width o (if c then some (record { creg = fieldsOf (cregField width) word; condition = fieldsOf (conditionField width) word }) else none)) word
   unfolding AllHeld guardParts if_then_else_
   guard-held true e =
-      let one : bit ≡ 1 = eqb-true bit 1 (and-parts _ _ e .0) in
-      (subst (λ (n : ℕ). Held (fieldsWidth (conditionalField width)) (pos 0) (pos n) bit) one (field-held (conditionalField width) word (omega (arith, short width .conditional))),
-      (field-held (cregField width) word (short width .creg),
-      (field-held (conditionField width) word (short width .condition), tt)))
+      let one : bit ≡ 1 = eqb-true bit 1 (and-parts _ _ e .0) in (
+        subst (λ (n : ℕ). Held (fieldsWidth (conditionalField width)) (pos 0) (pos n) bit) one (field-held (conditionalField width) word (omega (arith, short width .conditional))),
+        (
+          field-held (cregField width) word (short width .creg),
+          (field-held (conditionField width) word (short width .condition), tt),
+        ),
+      )
   guard-held false e =
       either (properties o .conditional)
       (λ t.
@@ -101,10 +104,11 @@ module _ (width : Width) (word : ℕ) where
 
   pub choice-held : AllHeld (partsOf width (choiceOf width word)) word
   unfolding AllHeld partsOf choiceOf guardOf decode assembled opcodeOf
-  choice-held =
-      (field-held (operationField width) word (short width .operation),
-      held-append (guardParts width o (guardOf (decode width word))) _ word (guard-held (eqb bit 1 && properties o .conditional) refl)
-      (operand-held width word 0, (operand-held width word 1, (operand-held width word 2, (operand-held width word 3, tt)))))
+  choice-held = (
+    field-held (operationField width) word (short width .operation),
+    held-append (guardParts width o (guardOf (decode width word))) _ word (guard-held (eqb bit 1 && properties o .conditional) refl)
+        (operand-held width word 0, (operand-held width word 1, (operand-held width word 2, (operand-held width word 3, tt)))),
+  )
 
 -- ---- the pieces of a choice's parts
 

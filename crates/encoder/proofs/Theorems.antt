@@ -227,10 +227,10 @@ module _ (width : Width) (c : Choice) (form : chosenForm width c ≡ true) (fit 
   unfolding decode assembled
   value-back k z hold e =
       let held = subst
-        (λ (n : ℕ).
-        let fs = shownFields width (operationOf n) k in
-        Held (fieldsWidth fs) (leastOf (shownReading width (operationOf n) k) (fieldsWidth fs)) (valueIn n k) (fieldsOf fs word))
-        opcode-back (operand-held width word k)
+      (λ (n : ℕ).
+      let fs = shownFields width (operationOf n) k in
+      Held (fieldsWidth fs) (leastOf (shownReading width (operationOf n) k) (fieldsWidth fs)) (valueIn n k) (fieldsOf fs word))
+      opcode-back (operand-held width word k)
       in
       ap (λ (n : ℕ). valueIn n k) opcode-back ∙ fits-one _ _ (valueIn (c .operation) k) z (held .short) (held .fit) e (held .bits ∙ hold)
 

@@ -54,7 +54,7 @@ fits-one k least y z h p q e =
     let b = offset k least z q in
     let l = wordOf 32 least in
     let bits : (x : ℤ) (n : ℕ) → x ≡ pos n +ℤ least → wordOf 32 x % 2 ^ k ≡ (l + n) % 2 ^ k =
-      λ x n t. ap (λ (v : ℤ). wordOf 32 v % 2 ^ k) t ∙ ap (λ (v : ℕ). v % 2 ^ k) (word-sum n least) ∙ low-bits k (l + n) h
+    λ x n t. ap (λ (v : ℤ). wordOf 32 v % 2 ^ k) t ∙ ap (λ (v : ℕ). v % 2 ^ k) (word-sum n least) ∙ low-bits k (l + n) h
     in
     let s : (l + mag (y -ℤ least)) % 2 ^ k ≡ (l + mag (z -ℤ least)) % 2 ^ k = sym (bits y _ (a .0)) ∙ e ∙ bits z _ (b .0) in
     let t : mag (y -ℤ least) ≡ mag (z -ℤ least) = sym (second k l _ (a .1)) ∙ ap (λ (v : ℕ). (2 ^ k - l % 2 ^ k + v) % 2 ^ k) s ∙ second k l _ (b .1) in
@@ -126,9 +126,9 @@ ranges-are k n =
       signed = λ p. rw (negℤ-negℤ (pos (2 ^ (k - 1)))) (same-test (n + 2 ^ (k - 1)) (2 ^ k) n (2 ^ (k - 1)) (let d = double k p in λ h. omega arith) (let d = double k p in λ h. omega arith));
       signedBelow = λ p. rw (negℤ-negℤ (pos (2 ^ (k - 1)))) (below-zero k p);
       high =
-        sub-either (λ (z : ℤ). isBelow (2 ^ k) z ≡ leb 24 n && ltb n (24 + 2 ^ k)) n 24
-        (λ h. rw (lt-leb 24 n h))
-        (λ h. rw (le-leb 24 n h) (same-test (n - 24) (2 ^ k) n (24 + 2 ^ k) (λ l. omega arith) (λ l. omega arith)));
+          sub-either (λ (z : ℤ). isBelow (2 ^ k) z ≡ leb 24 n && ltb n (24 + 2 ^ k)) n 24
+          (λ h. rw (lt-leb 24 n h))
+          (λ h. rw (le-leb 24 n h) (same-test (n - 24) (2 ^ k) n (24 + 2 ^ k) (λ l. omega arith) (λ l. omega arith)));
       highBelow = refl;
     }
   where

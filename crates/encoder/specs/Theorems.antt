@@ -92,7 +92,7 @@ isUsed n (f ∷ fs) = (leb (f .place) n && ltb n (f .place + f .width)) || isUse
 abbrev pub ClearedBit : Type 0
 ClearedBit = (width : Width) (word n : ℕ)
     → let i = decode width word in
-      bitAt n (cleared width word) ≡ isUsed n (usedFields width (operationOf (i .opcode)) (i .conditional)) && bitAt n word
+    bitAt n (cleared width word) ≡ isUsed n (usedFields width (operationOf (i .opcode)) (i .conditional)) && bitAt n word
 
 -- ---- refusals
 
@@ -100,6 +100,6 @@ ClearedBit = (width : Width) (word n : ℕ)
 abbrev pub ChosenFormIs : Type 0
 ChosenFormIs = (wide : Bool) (c : Choice)
     → let n = c .operation in
-      chosenForm (widthBy wide) c
-      ≡ (ltb n 64 && not ((between 34 35 n || leb 63 n) && not wide))
-      && (not (given (c .guard)) || wide && (((between 1 31 n || between 38 39 n) || eqb n 48) || between 58 62 n))
+    chosenForm (widthBy wide) c
+    ≡ (ltb n 64 && not ((between 34 35 n || leb 63 n) && not wide))
+    && (not (given (c .guard)) || wide && (((between 1 31 n || between 38 39 n) || eqb n 48) || between 58 62 n))

@@ -1,30 +1,45 @@
--- The tables of letters. Assumes nothing.
-use mathlib.Core.Path.{_≡_}
+-- Tables with four entries for each operation. Assumes nothing.
+use mathlib.Core.Path.{_≡_, refl, sym, ap, _∙_}
+use mathlib.Core.List.{List, [], _∷_, map}
 use Prim.Native.Nat.{ℕ, zero, suc, _+_, _*_, _/_, _%_, _<_}
 use native.Mathlib.Omega.{arith}
 use native.Mathlib.Nat.{add-zero}
-use lib.ListN.{length, getD}
-use Rattle.isa.specs.Operation.{operationOf, Width}
-use Rattle.operands.specs.Letters.{letterAt, lettersFrom, letters}
+use lib.ListN.{getD}
+use Rattle.isa.specs.Operation.{Operation, operationOf}
+use Rattle.operands.specs.Table.{entryIn}
 
-length-letters : (width : Width) (n count : ℕ) → length (lettersFrom width n count) ≡ count
-unfolding lettersFrom
-length-letters width n zero = omega arith
-length-letters width n (suc count) = omega (arith, length-letters width (suc n) count)
+-- the values of f at `count` places from place n on: operand n % 4 of operation n / 4
+unfoldable pub valuesFrom : (Operation → ℕ → ℕ) → (n count : ℕ) → List ℕ
+valuesFrom f n zero = []
+valuesFrom f n (suc count) = f (operationOf (n / 4)) (n % 4) ∷ valuesFrom f (suc n) count
 
--- the letter at a place
-at-place : (width : Width) (n count j : ℕ) → j < count → getD (lettersFrom width n count) j 0 ≡ letterAt width (operationOf ((n + j) / 4)) ((n + j) % 4)
-unfolding lettersFrom
-at-place width n zero j h = absurd (omega arith)
-at-place width n (suc count) zero h = rw (add-zero n)
-at-place width n (suc count) (suc j) h = let e : n + suc j ≡ suc n + j = omega arith in rw e (at-place width (suc n) count j (omega arith))
+-- the value at a place
+at-place : (f : Operation → ℕ → ℕ) (n count j d : ℕ) → j < count → getD (valuesFrom f n count) j d ≡ f (operationOf ((n + j) / 4)) ((n + j) % 4)
+unfolding valuesFrom
+at-place f n zero j d h = absurd (omega arith)
+at-place f n (suc count) zero d h = rw (add-zero n)
+at-place f n (suc count) (suc j) d h = let e : n + suc j ≡ suc n + j = omega arith in rw e (at-place f (suc n) count j d (omega arith))
 
--- a table has 256 letters, and operand k of operation op stands in row op
-pub table-length : (width : Width) → length (letters width) ≡ 256
-table-length width = length-letters width 0 256
-
-pub table-letter : (width : Width) (op k : ℕ) → op < 64 → k < 4 → getD (letters width) (4 * op + k) 0 ≡ letterAt width (operationOf op) k
-table-letter width op k h l =
+at-operand : (f : Operation → ℕ → ℕ) (op k d : ℕ) → op < 64 → k < 4 → getD (valuesFrom f 0 256) (4 * op + k) d ≡ f (operationOf op) k
+at-operand f op k d h l =
     let row : (0 + (4 * op + k)) / 4 ≡ op = omega arith in
     let place : (0 + (4 * op + k)) % 4 ≡ k = omega arith in
-    rw (row, place) at (at-place width 0 256 (4 * op + k) (omega arith))
+    rw (row, place) at (at-place f 0 256 (4 * op + k) d (omega arith))
+
+at-mapped : (g : ℕ → ℕ) (xs : List ℕ) (j d : ℕ) → getD (map g xs) j (g d) ≡ g (getD xs j d)
+at-mapped g [] j d = refl
+at-mapped g (x ∷ xs) zero d = refl
+at-mapped g (x ∷ xs) (suc j) d = at-mapped g xs j d
+
+-- an entry of a table of 256 of which g gives the values of f: that of operand k of operation op
+pub entry-is : (f : Operation → ℕ → ℕ) (g : ℕ → ℕ) (op k : ℕ) {r : ℕ} (table : List ℕ) → op < 64 → k < 4 → r ≡ g (entryIn table op k)
+    → map g table ≡ valuesFrom f 0 256 → r ≡ f (operationOf op) k
+unfolding entryIn
+entry-is f g op k table h l e t =
+    e ∙ sym (at-mapped g table (4 * op + k) 0) ∙ ap (λ (xs : List ℕ). getD xs (4 * op + k) (g 0)) t ∙ at-operand f op k (g 0) h l
+
+-- a function that has one value at all of them
+pub constant-is : (f : Operation → ℕ → ℕ) (r op k : ℕ) → op < 64 → k < 4 → valuesFrom f 0 256 ≡ valuesFrom (λ o k. r) 0 256 → r ≡ f (operationOf op) k
+constant-is f r op k h l t =
+    let n = 4 * op + k in
+    sym (at-place (λ o k. r) 0 256 n 0 (omega arith)) ∙ ap (λ (xs : List ℕ). getD xs n 0) (sym t) ∙ at-operand f op k 0 h l

@@ -1,11 +1,11 @@
 -- What an operand is to the operation, as one character: 0 dreg, 1 sreg1, 2 sreg2, c creg, i the immediate, l and p its length and position.
 -- Assumes nothing.
-use mathlib.Core.List.{List, [], _∷_, map}
-use Prim.Native.Nat.{ℕ, zero, suc, _/_, _%_}
+use mathlib.Core.List.{List, map}
+use Prim.Native.Nat.{ℕ}
 use lib.Dec.{eqb}
 use lib.ListN.{getD}
 use Rattle.word.specs.Choice.{if_then_else_}
-use Rattle.isa.specs.Operation.{Operation, operationOf, Width}
+use Rattle.isa.specs.Operation.{Operation, Width}
 use Rattle.isa.specs.Format.{Role, Dreg, Sreg1, Sreg2, Creg, Imm, Length, Position}
 use Rattle.isa.specs.Shown.{shownRoles}
 
@@ -38,16 +38,7 @@ letterIn rs k = getD (map letterOf rs) k 32
 unfoldable pub letterAt : Width → Operation → (k : ℕ) → ℕ
 letterAt width o k = letterIn (shownRoles width o) k
 
--- the table of a width, four letters to an operation: the letters of `count` places from place n on
-unfoldable pub lettersFrom : Width → (n count : ℕ) → List ℕ
-lettersFrom width n zero = []
-lettersFrom width n (suc count) = letterAt width (operationOf (n / 4)) (n % 4) ∷ lettersFrom width (suc n) count
-
--- all of it
-abbrev pub letters : Width → List ℕ
-letters width = lettersFrom width 0 256
-
 -- to unfold all of these
 unfoldable pub lettering : Unit {0}
-unfolding letterOf roleOf letterAt lettersFrom
+unfolding letterOf roleOf letterAt
 lettering = tt

@@ -1,18 +1,41 @@
 // The operands of an instruction that a listing shows: what each is to the operation, as a letter, and its value.
 ghost use mathlib.Core.Path.{_≡_};
-ghost use Prim.Native.Nat.{_<_};
+ghost use Prim.Native.Nat.{_%_, _<_};
+ghost use lib.ListN.{length};
 ghost use Rattle.word.specs.Word.{wordOf};
 ghost use Rattle.isa.specs.Operation.{operationOf, widthBy};
 ghost use Rattle.isa.specs.Shown.{shownValue};
-ghost use Rattle.operands.specs.Letters.{roleOf, letterAt, letters};
+ghost use Rattle.operands.specs.Letters.{roleOf, letterAt};
+ghost use Rattle.operands.specs.Slots.{slotAt};
+ghost use Rattle.operands.specs.Table.{entryIn};
 use isa::Instruction;
 
-// A letter of the table of a width, which has four to an operation.
-fn letter_in(table: &[u8], op: u32, wide: bool, k: usize) -> u8
-    requires { ⌜ (now table ≡ letters (widthBy wide)) × (op < 64) × (k < 4) ⌝ }
-    ensures { λ r. ⌜ r ≡ letterAt (widthBy wide) (operationOf op) k ⌝ }
+// Where an operand that is shown stands in a word, in at most two pieces, and how its bits are read.
+pub struct Slot {
+    // The piece with the lowest bits: where it begins and how many bits it is; an operand that is absent has none.
+    pub place: u32,
+    pub width: u32,
+    // The piece above it in the number: the same; not every operand has one.
+    pub upper: u32,
+    pub extra: u32,
+    // s signed, h a register from 24 on, a blank from 0 on.
+    pub reading: u8,
+}
+
+// The entry of operand k of an operation in a table with four for each operation.
+fn entry(table: &[u8], op: u32, k: usize) -> u8
+    requires { ⌜ (length (now table) ≡ 256) × (op < 64) × (k < 4) ⌝ }
+    ensures { λ r. ⌜ r ≡ entryIn (now (table .entry)) op k ⌝ }
 {
     table[4 * op as usize + k]
+}
+
+// The same of a table of numbers: a blank is 0, A is 1, Z is 26.
+fn number(table: &[u8], op: u32, k: usize) -> u32
+    requires { ⌜ (length (now table) ≡ 256) × (op < 64) × (k < 4) ⌝ }
+    ensures { λ r. ⌜ r ≡ entryIn (now (table .entry)) op k % 32 ⌝ }
+{
+    entry(table, op, k) as u32 % 32
 }
 
 // What operand k of operation op is, k from 0 on: 0 dreg, 1 sreg1, 2 sreg2, c creg, i the immediate, l and p its length and position;
@@ -22,19 +45,73 @@ pub fn letter(op: u32, wide: bool, k: usize) -> u8
     ensures { λ r. ⌜ r ≡ letterAt (widthBy wide) (operationOf op) k ⌝ }
 {
     if wide {
-        letter_in(
+        entry(
             b"    012 012 012 012 012 012 012 012 012 012 012 012 012 012 012 012 012 01i 01i 01i 01i 01i 01i 01i 01i 01i 01i 01i 01  01  0   c12 c1i 0i  0i  i   i   1   1   ci  ci  ci  ci  ci  ci  ci  ci              i           i   i   0   1   012 021 01i 01i 012 01lp",
             op,
-            wide,
             k,
         )
     } else {
-        letter_in(
+        entry(
             b"    01  01  01  01  01  01  01  01  01  01  01  01  01  01  01  01  01  0i  0i  0i  0i  0i  0i  0i  0i  0i  01i 01i 01  01  0   12  1i          i   i   1   1   i   i   i   i   i   i   i   i               i           i   i   0   1   01  01  0i  0i  01      ",
             op,
-            wide,
             k,
         )
+    }
+}
+
+// Where operand k of operation op stands, k from 0 on. 16-bit words have no field in two pieces.
+pub fn slot_at(op: u32, wide: bool, k: usize) -> Slot
+    requires { ⌜ (op < 64) × (k < 4) ⌝ }
+    ensures { λ r. ⌜ r ≡ slotAt (widthBy wide) (operationOf op) k ⌝ }
+{
+    if wide {
+        Slot {
+            place: number(
+                b"    JE  JE  JE  JE  JE  JE  JE  JE  JE  JE  JE  JE  JE  JE  JE  JE  JE  JE  JE  JE  JE  JE  JE  JE  JE  JE  JE  JE  JE  JE  J   VE  VE  P   P           E   E   V   V   V   V   V   V   V   V                                   J   E   JE  J E JE  JE  JE  JES ",
+                op,
+                k,
+            ),
+            width: number(
+                b"    EEE EEE EEE EEE EEE EEE EEE EEE EEE EEE EEE EEE EEE EEE EEE EEE EEE EEE EEE EEE EEE EEE EEE EEE EEE EEE EEE EEE EE  EE  E   CEE CEE EP  EP  Y   Y   E   E   CV  CV  CV  CV  CV  CV  CV  CV              B           A   E   E   E   EEE EEE EEB EEA EEE EEFE",
+                op,
+                k,
+            ),
+            upper: number(
+                b"                                                                          O   O   O   O   O                   O   O                   O                                                                                                                         ",
+                op,
+                k,
+            ),
+            extra: number(
+                b"                                                                          D   D   D   D   D                   D   D                   D                                                                                                                         ",
+                op,
+                k,
+            ),
+            reading: entry(
+                b"                                                                          s               s                   s   s                   s         s   s            s   s   s   s   s   s   s   s                                                                  ",
+                op,
+                k,
+            ),
+        }
+    } else {
+        Slot {
+            place: number(
+                b"     C   C   C   C   C   C   C   C   C   C   C   C   C   C   C   C   C   C   C   C   C   C   C   C   C   C   CF  CF  C   C      C    C                  C   C                                                                       C    C   C   C   C   C      ",
+                op,
+                k,
+            ),
+            width: number(
+                b"    CC  CC  CC  CC  CC  CC  CC  CC  CC  CC  CC  CC  CC  CC  CC  CC  CC  CG  CG  CG  CG  CG  CE  CE  CE  CE  CCD CCD CC  CC  C   CC  CG          J   J   C   C   J   J   J   J   J   J   J   J               B           A   E   C   C   CC  CC  CB  CA  CC      ",
+                op,
+                k,
+            ),
+            upper: 0,
+            extra: 0,
+            reading: entry(
+                b"    hh  hh  hh  hh  hh  hh  hh  hh  hh  hh  hh  hh  hh  hh  hh  hh  hh  hs  h   h   h   hs  h   h   h   h   hhs hhs hh  hh  h   hh  hs          s   s   h   h   s   s   s   s   s   s   s   s                                   h   h   hh  hh  h   h   hh      ",
+                op,
+                k,
+            ),
+        }
     }
 }
 
