@@ -19,7 +19,7 @@ use Rattle.isa.specs.Format.{fieldsWidth, fieldsOf, placedIn, keptIn, operation
 use Rattle.isa.specs.Decode.{opcodeOf, assembled, decode}
 use Rattle.isa.specs.Used.{shownFields, leastOf, guardFields, usedFields}
 use Rattle.isa.proofs.Fields.{fields-below}
-use Rattle.encoder.specs.Encode.{Guard, Choice, guardOf, choiceOf, Part, guardParts, partsOf, fits, allFit, written, given}
+use Rattle.encoder.specs.Encode.{Guard, Choice, guardBy, guardOf, choiceOf, Part, guardParts, partsOf, fits, allFit, written, given}
 use Rattle.encoder.specs.Theorems.{piecesOf}
 use Rattle.encoder.proofs.Pieces.{placed-low, placed-held, kept-append}
 use Rattle.encoder.proofs.Values.{Held, natural-held}
@@ -80,8 +80,8 @@ module _ (width : Width) (word : ℕ) where
 
   -- the conditional bit, where the operation may be conditional
   guard-held : (c : Bool) → eqb bit 1 && properties o .conditional ≡ c
-      → AllHeld (guardParts width o (if c then some (record { creg = fieldsOf (cregField width) word; condition = fieldsOf (conditionField width) word }) else none)) word
-  unfolding AllHeld guardParts if_then_else_
+      → AllHeld (guardParts width o (guardBy c (fieldsOf (cregField width) word) (fieldsOf (conditionField width) word))) word
+  unfolding AllHeld guardParts guardBy if_then_else_
   guard-held true e =
       let one : bit ≡ 1 = eqb-true bit 1 (and-parts _ _ e .0) in (
         subst (λ (n : ℕ). Held (fieldsWidth (conditionalField width)) (pos 0) (pos n) bit) one (field-held (conditionalField width) word (omega (arith, short width .conditional))),

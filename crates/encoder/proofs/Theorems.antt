@@ -22,7 +22,7 @@ use Rattle.isa.proofs.Rules as rules
 use Rattle.isa.proofs.Showing.{form-is}
 use Rattle.isa.proofs.Rows.{rows-sound}
 use Rattle.isa.proofs.Decoded.{opcode-below}
-use Rattle.encoder.specs.Encode.{Guard, Choice, guardOf, valueFor, valueAt, choiceOf, Part, natural, guardParts, operandPart, partsOf, fits, allFit, written, given, conditionalForm, chosenForm, Encoding, Encodes, RefusedWith, encodeOf}
+use Rattle.encoder.specs.Encode.{Guard, Choice, guardBy, guardOf, valueFor, valueAt, choiceOf, Part, natural, guardParts, operandPart, partsOf, fits, allFit, written, given, conditionalForm, chosenForm, Encoding, Encodes, RefusedWith, encodeOf}
 use Rattle.encoder.specs.Theorems.{piecesOf, AllHold, ReadBack, EncodeDecode, wordHasForm, DecodeEncode, OneWord, WrittenAgain, SecondWriting, ClearedBit, ChosenFormIs}
 use Rattle.encoder.proofs.Pieces.{written-read, written-below, kept-bit}
 use Rattle.encoder.proofs.Values.{Held, fits-one, natural-bits, natural-below}
@@ -32,7 +32,7 @@ use Rattle.encoder.proofs.Choices.{held-fit, held-written, choice-held,
 -- ---- a choice that is accepted
 
 record Accepted (width : Width) (c : Choice) (word : ℕ) : Type 0 where
-  form : chosenForm width c ≡ true
+  form : chosenForm width (c .operation) (given (c .guard)) ≡ true
   fit : allFit (partsOf width c) ≡ true
   same : written (partsOf width c) ≡ word
 
@@ -51,14 +51,14 @@ encodes-one e = ap wordIn e
 accepted : (width : Width) (c : Choice) (word : ℕ) → encodeOf width c ≡ Encodes word → Accepted width c word
 unfolding encodeOf if_then_else_ isWord
 accepted width c word e =
-    either (chosenForm width c)
+    either (chosenForm width (c .operation) (given (c .guard)))
     (λ t.
     either (allFit (partsOf width c))
     (λ u. record { form = t; fit = u; same = encodes-one (rw (t, u) at e) })
     (λ u. absurd (true≢false (sym (ap isWord (rw (t, u) at e))))))
     (λ t. absurd (true≢false (sym (ap isWord (rw t at e)))))
 
-encode-word : (width : Width) (c : Choice) → chosenForm width c ≡ true → allFit (partsOf width c) ≡ true → encodeOf width c ≡ Encodes (written (partsOf width c))
+encode-word : (width : Width) (c : Choice) → chosenForm width (c .operation) (given (c .guard)) ≡ true → allFit (partsOf width c) ≡ true → encodeOf width c ≡ Encodes (written (partsOf width c))
 unfolding encodeOf if_then_else_
 encode-word width c t u = rw (t, u)
 
@@ -73,7 +73,7 @@ conditional-is width o e = and-parts _ _ e .0
 -- ---- what is read is written
 
 given-is : (i : Instruction) → given (guardOf i) ≡ i .conditional
-unfolding given guardOf if_then_else_
+unfolding given guardOf guardBy if_then_else_
 given-is i = either (i .conditional) (λ t. rw t) (λ t. rw t)
 
 -- a word that is conditional has a conditional form
@@ -84,7 +84,7 @@ read-conditional w32 word e =
     let p = properties (operationOf (opcodeOf w32 word)) .conditional in
     and-both p true (and-parts (eqb (fieldsOf (conditionalField w32) word) 1) p e .1) refl
 
-read-form : (width : Width) (word : ℕ) → hasForm width (operationOf (decode width word .opcode)) ≡ true → chosenForm width (choiceOf width word) ≡ true
+read-form : (width : Width) (word : ℕ) → hasForm width (operationOf (decode width word .opcode)) ≡ true → chosenForm width (choiceOf width word .operation) (given (choiceOf width word .guard)) ≡ true
 unfolding chosenForm choiceOf decode assembled
 read-form width word e =
     and-both _ _ (and-both _ _ (lt-ltb _ 64 (opcode-below width word)) e)
@@ -138,8 +138,7 @@ operation-bits w32 = refl
 
 -- the condition that a word is read as, of an operation
 abbrev guardIn : Width → Operation → (word : ℕ) → Option Guard
-guardIn width o word =
-    if eqb (fieldsOf (conditionalField width) word) 1 && properties o .conditional then some (record { creg = fieldsOf (cregField width) word; condition = fieldsOf (conditionField width) word }) else none
+guardIn width o word = guardBy (eqb (fieldsOf (conditionalField width) word) 1 && properties o .conditional) (fieldsOf (cregField width) word) (fieldsOf (conditionField width) word)
 
 no-fields : (word : ℕ) → fieldsOf [] word ≡ 0
 unfolding fieldsOf
@@ -147,7 +146,7 @@ no-fields word = refl
 
 guard-back : (width : Width) (o : Operation) (g : Option Guard) (word : ℕ) → (given g ≡ true → conditionalForm width o ≡ true)
     → AllHold (guardParts width o g) word → allFit (guardParts width o g) ≡ true → guardIn width o word ≡ g
-unfolding AllHold guardParts allFit given conditionalForm if_then_else_ fieldsWidth conditionalField cregField conditionField modZ
+unfolding AllHold guardBy guardParts allFit given conditionalForm if_then_else_ fieldsWidth conditionalField cregField conditionField modZ
 guard-back w16 o none word f h e = if-false _ _ none (ap (λ (n : ℕ). eqb n 1 && properties o .conditional) (no-fields word))
 guard-back w32 o none word f h e =
     either (properties o .conditional)
@@ -169,7 +168,8 @@ same-choice : (c d : Choice) → c .operation ≡ d .operation → c .guard ≡ 
     → c .fourth ≡ d .fourth → c ≡ d
 same-choice c d o g p q r s = λ i. record { operation = o i; guard = g i; first = p i; second = q i; third = r i; fourth = s i }
 
-module _ (width : Width) (c : Choice) (form : chosenForm width c ≡ true) (fit : allFit (partsOf width c) ≡ true) where
+-- a choice of a form that there is
+module _ (width : Width) (c : Choice) (form : chosenForm width (c .operation) (given (c .guard)) ≡ true) where
   abbrev o : Operation
   o = operationOf (c .operation)
 
@@ -178,10 +178,6 @@ module _ (width : Width) (c : Choice) (form : chosenForm width c ≡ true) (fit 
 
   operands : List Part
   operands = operandPart width o 0 (c .first) ∷ operandPart width o 1 (c .second) ∷ operandPart width o 2 (c .third) ∷ operandPart width o 3 (c .fourth) ∷ []
-
-  operation-small : c .operation < 64
-  unfolding chosenForm
-  operation-small = ltb-true _ 64 (and-parts _ _ (and-parts _ _ form .0) .0)
 
   conditional : given (c .guard) ≡ true → conditionalForm width o ≡ true
   unfolding chosenForm
@@ -199,55 +195,56 @@ module _ (width : Width) (c : Choice) (form : chosenForm width c ≡ true) (fit 
   holds : AllHold (partsOf width c) word
   holds = written-read (partsOf width c) apart
 
-  size : word < 2 ^ (8 * wordBytes width)
+  pub size : word < 2 ^ (8 * wordBytes width)
   size = written-below (8 * wordBytes width) (partsOf width c) (ap (lieBelow (8 * wordBytes width)) pieces ∙ rows .0) apart
 
   parted : AllHold (guardParts width o (c .guard)) word × AllHold operands word
   unfolding AllHold partsOf operands
   parted = hold-append (guardParts width o (c .guard)) operands word (holds .1)
 
-  fitting : (allFit (guardParts width o (c .guard)) ≡ true) × (allFit operands ≡ true)
-  unfolding partsOf operands
-  fitting = fit-append (guardParts width o (c .guard)) operands (fit-parts (natural (operationField width) (c .operation)) (guardParts width o (c .guard) ++ operands) fit .1)
+  module _ (fit : allFit (partsOf width c) ≡ true) where
+    fitting : (allFit (guardParts width o (c .guard)) ≡ true) × (allFit operands ≡ true)
+    unfolding partsOf operands
+    fitting = fit-append (guardParts width o (c .guard)) operands (fit-parts (natural (operationField width) (c .operation)) (guardParts width o (c .guard) ++ operands) fit .1)
 
-  opcode-back : opcodeOf width word ≡ c .operation
-  unfolding opcodeOf AllHold partsOf operands
-  opcode-back =
-      natural-back (fieldsWidth (operationField width)) (c .operation) (fieldsOf (operationField width) word) (omega (arith, operation-bits width))
-      (fit-parts (natural (operationField width) (c .operation)) (guardParts width o (c .guard) ++ operands) fit .0)
-      (holds .0)
+    opcode-back : opcodeOf width word ≡ c .operation
+    unfolding opcodeOf AllHold partsOf operands
+    opcode-back =
+        natural-back (fieldsWidth (operationField width)) (c .operation) (fieldsOf (operationField width) word) (omega (arith, operation-bits width))
+        (fit-parts (natural (operationField width) (c .operation)) (guardParts width o (c .guard) ++ operands) fit .0)
+        (holds .0)
 
-  -- what operand k is read as
-  abbrev valueIn : (n k : ℕ) → ℤ
-  valueIn n k = valueFor (decode width word) (shownRole width (operationOf n) k)
+    -- what operand k is read as
+    abbrev valueIn : (n k : ℕ) → ℤ
+    valueIn n k = valueFor (decode width word) (shownRole width (operationOf n) k)
 
-  -- a part that is written and fits is read back
-  value-back : (k : ℕ) (z : ℤ) → let p = operandPart width o k z in
-      fieldsOf (p .fields) word ≡ wordOf 32 z % 2 ^ fieldsWidth (p .fields) → fits (fieldsWidth (p .fields)) (p .least) z ≡ true → valueAt width (decode width word) k ≡ z
-  unfolding decode assembled
-  value-back k z hold e =
-      let held = subst
-      (λ (n : ℕ).
-      let fs = shownFields width (operationOf n) k in
-      Held (fieldsWidth fs) (leastOf (shownReading width (operationOf n) k) (fieldsWidth fs)) (valueIn n k) (fieldsOf fs word))
-      opcode-back (operand-held width word k)
-      in
-      ap (λ (n : ℕ). valueIn n k) opcode-back ∙ fits-one _ _ (valueIn (c .operation) k) z (held .short) (held .fit) e (held .bits ∙ hold)
+    -- a part that is written and fits is read back
+    value-back : (k : ℕ) (z : ℤ) → let p = operandPart width o k z in
+        fieldsOf (p .fields) word ≡ wordOf 32 z % 2 ^ fieldsWidth (p .fields) → fits (fieldsWidth (p .fields)) (p .least) z ≡ true → valueAt width (decode width word) k ≡ z
+    unfolding decode assembled
+    value-back k z hold e =
+        let held = subst
+        (λ (n : ℕ).
+        let fs = shownFields width (operationOf n) k in
+        Held (fieldsWidth fs) (leastOf (shownReading width (operationOf n) k) (fieldsWidth fs)) (valueIn n k) (fieldsOf fs word))
+        opcode-back (operand-held width word k)
+        in
+        ap (λ (n : ℕ). valueIn n k) opcode-back ∙ fits-one _ _ (valueIn (c .operation) k) z (held .short) (held .fit) e (held .bits ∙ hold)
 
-  choice-back : choiceOf width word ≡ c
-  unfolding choiceOf guardOf decode assembled AllHold operands
-  choice-back =
-      let h = parted .1 in
-      let e = fit-parts (operandPart width o 0 (c .first)) _ (fitting .1) in
-      let e′ = fit-parts (operandPart width o 1 (c .second)) _ (e .1) in
-      let e″ = fit-parts (operandPart width o 2 (c .third)) _ (e′ .1) in
-      let e‴ = fit-parts (operandPart width o 3 (c .fourth)) _ (e″ .1) in
-      same-choice (choiceOf width word) c opcode-back
-      (ap (λ (n : ℕ). guardIn width (operationOf n) word) opcode-back ∙ guard-back width o (c .guard) word conditional (parted .0) (fitting .0))
-      (value-back 0 (c .first) (h .0) (e .0))
-      (value-back 1 (c .second) (h .1 .0) (e′ .0))
-      (value-back 2 (c .third) (h .1 .1 .0) (e″ .0))
-      (value-back 3 (c .fourth) (h .1 .1 .1 .0) (e‴ .0))
+    choice-back : choiceOf width word ≡ c
+    unfolding choiceOf guardOf guardBy decode assembled AllHold operands
+    choice-back =
+        let h = parted .1 in
+        let e = fit-parts (operandPart width o 0 (c .first)) _ (fitting .1) in
+        let e′ = fit-parts (operandPart width o 1 (c .second)) _ (e .1) in
+        let e″ = fit-parts (operandPart width o 2 (c .third)) _ (e′ .1) in
+        let e‴ = fit-parts (operandPart width o 3 (c .fourth)) _ (e″ .1) in
+        same-choice (choiceOf width word) c opcode-back
+        (ap (λ (n : ℕ). guardIn width (operationOf n) word) opcode-back ∙ guard-back width o (c .guard) word conditional (parted .0) (fitting .0))
+        (value-back 0 (c .first) (h .0) (e .0))
+        (value-back 1 (c .second) (h .1 .0) (e′ .0))
+        (value-back 2 (c .third) (h .1 .1 .0) (e″ .0))
+        (value-back 3 (c .fourth) (h .1 .1 .1 .0) (e‴ .0))
 
 -- the operation of a word by its choice
 form-by : (width : Width) (word : ℕ) (c : Choice) → choiceOf width word ≡ c → hasForm width (operationOf (c .operation)) ≡ true → wordHasForm width word ≡ true
@@ -262,7 +259,7 @@ encode-decode width c word e =
     let f = form-by width word c back (and-parts (ltb (c .operation) 64) (hasForm width (operationOf (c .operation))) (and-parts _ _ (a .form) .0) .1) in
     record {
       choice = back;
-      size = subst (λ (w : ℕ). w < 2 ^ (8 * wordBytes width)) (a .same) (size width c (a .form) (a .fit));
+      size = subst (λ (w : ℕ). w < 2 ^ (8 * wordBytes width)) (a .same) (size width c (a .form));
       ignored = encodes-one (sym (decode-encode width word f) ∙ ap (encodeOf width) back ∙ e);
     }
 
@@ -294,4 +291,4 @@ conditional-form false n = and-false (properties (operationOf n) .conditional)
 
 pub chosen-form-is : ChosenFormIs
 unfolding chosenForm
-chosen-form-is wide c = rw (form-is wide (c .operation), conditional-form wide (c .operation))
+chosen-form-is wide n conditional = rw (form-is wide n, conditional-form wide n)

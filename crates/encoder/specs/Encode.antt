@@ -33,11 +33,18 @@ pub record Choice : Type 0 where
   pub third : ℤ
   pub fourth : ℤ
 
+-- a choice in numbers; without a condition, creg and condition are no part of it
+unfoldable pub guardBy : (conditional : Bool) (creg condition : ℕ) → Option Guard
+guardBy conditional creg condition = if conditional then some (record { creg = creg; condition = condition }) else none
+
+abbrev pub chosen : (operation : ℕ) (conditional : Bool) (creg condition : ℕ) (a b c d : ℤ) → Choice
+chosen n conditional creg condition a b c d = record { operation = n; guard = guardBy conditional creg condition; first = a; second = b; third = c; fourth = d }
+
 -- ---- the choice that a word is read as
 
 -- the condition of an instruction that is conditional
 unfoldable pub guardOf : Instruction → Option Guard
-guardOf i = if i .conditional then some (record { creg = i .creg; condition = i .condition }) else none
+guardOf i = guardBy (i .conditional) (i .creg) (i .condition)
 
 -- the value of an operand, where there is one
 unfoldable pub valueFor : Instruction → Option Role → ℤ
@@ -123,11 +130,9 @@ given (some g) = true
 unfoldable pub conditionalForm : Width → Operation → Bool
 conditionalForm width o = properties o .conditional && leb 1 (fieldsWidth (conditionalField width))
 
--- an operation that has this form in this width, with or without a condition
-unfoldable pub chosenForm : Width → Choice → Bool
-chosenForm width c =
-    let o = operationOf (c .operation) in
-    (ltb (c .operation) 64 && hasForm width o) && (not (given (c .guard)) || conditionalForm width o)
+-- an operation, by its number, has this form in this width, with or without a condition
+unfoldable pub chosenForm : Width → (operation : ℕ) (conditional : Bool) → Bool
+chosenForm width n conditional = (ltb n 64 && hasForm width (operationOf n)) && (not conditional || conditionalForm width (operationOf n))
 
 -- what is answered
 pub data Encoding : Type 0 where
@@ -143,11 +148,11 @@ encodingOf (Refusal n) = RefusedWith n
 -- part of the condition does not fit the bits used, or an operand has none and is not 0"
 unfoldable pub encodeOf : Width → Choice → Encoding
 encodeOf width c =
-    if not (chosenForm width c) then RefusedWith 18
+    if not (chosenForm width (c .operation) (given (c .guard))) then RefusedWith 18
     else if not (allFit (partsOf width c)) then RefusedWith 19
     else Encodes (written (partsOf width c))
 
 -- to unfold all of these
 unfoldable pub encoding : Unit {0}
-unfolding guardOf valueFor choiceOf guardParts partsOf isBelow fits allFit written given conditionalForm chosenForm encodingOf encodeOf
+unfolding guardBy guardOf valueFor choiceOf guardParts partsOf isBelow fits allFit written given conditionalForm chosenForm encodingOf encodeOf
 encoding = tt

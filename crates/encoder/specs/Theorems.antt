@@ -12,7 +12,7 @@ use Rattle.isa.specs.Decode.{wordBytes, decode}
 use Rattle.isa.specs.Shown.{hasForm}
 use Rattle.isa.specs.Used.{Natural, Signed, High, leastOf, usedFields, cleared}
 use Rattle.isa.specs.Theorems.{between}
-use Rattle.encoder.specs.Encode.{Choice, choiceOf, Part, fits, written, given, chosenForm, Encodes, encodeOf}
+use Rattle.encoder.specs.Encode.{Choice, choiceOf, Part, fits, written, chosenForm, Encodes, encodeOf}
 
 -- ---- "For every field the fit is shown from its place and width, not field by field"
 
@@ -98,8 +98,7 @@ ClearedBit = (width : Width) (word n : ℕ)
 
 -- "18 when the operation has no such form in that width, or no conditional form and a condition is given": by 01's and 02's numbers
 abbrev pub ChosenFormIs : Type 0
-ChosenFormIs = (wide : Bool) (c : Choice)
-    → let n = c .operation in
-    chosenForm (widthBy wide) c
+ChosenFormIs = (wide : Bool) (n : ℕ) (conditional : Bool)
+    → chosenForm (widthBy wide) n conditional
     ≡ (ltb n 64 && not ((between 34 35 n || leb 63 n) && not wide))
-    && (not (given (c .guard)) || wide && (((between 1 31 n || between 38 39 n) || eqb n 48) || between 58 62 n))
+    && (not conditional || wide && (((between 1 31 n || between 38 39 n) || eqb n 48) || between 58 62 n))
