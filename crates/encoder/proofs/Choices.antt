@@ -21,7 +21,7 @@ use Rattle.isa.specs.Used.{shownFields, leastOf, guardFields, usedFields}
 use Rattle.isa.proofs.Fields.{fields-below}
 use Rattle.encoder.specs.Encode.{Guard, Choice, guardBy, guardOf, choiceOf, Part, guardParts, partsOf, fits, allFit, written, given}
 use Rattle.encoder.specs.Theorems.{piecesOf}
-use Rattle.encoder.proofs.Pieces.{placed-low, placed-held, kept-append}
+use Rattle.encoder.proofs.Pieces.{append-none, placed-low, placed-held, kept-append}
 use Rattle.encoder.proofs.Values.{Held, natural-held}
 use Rattle.encoder.proofs.Operands.{operand-held}
 
@@ -111,10 +111,6 @@ module _ (width : Width) (word : ℕ) where
   )
 
 -- ---- the pieces of a choice's parts
-
-append-none : {A : Type 0} (xs : List A) → xs ++ [] ≡ xs
-append-none [] = refl
-append-none (x ∷ xs) = ap (λ (l : List _). x ∷ l) (append-none xs)
 
 -- a condition is given only where the operation may be conditional
 guard-pieces : (width : Width) (o : Operation) (g : Option Guard) (ps : List Part) → (given g ≡ true → properties o .conditional ≡ true)

@@ -4,3 +4,4 @@ pub mod Values
 pub mod Operands
 pub mod Choices
 pub mod Theorems
+pub mod Slots

@@ -66,6 +66,10 @@ module _ (f g : Field) (v w : ℕ) (empty : fieldOf g w ≡ 0) (fits : v < 2 ^ g
   unfolding fieldOf
   over h = ap (λ (u : ℕ). u % 2 ^ f .width) (above (g .place) (g .width) v w empty fits (f .place) h)
 
+pub append-none : {A : Type 0} (xs : List A) → xs ++ [] ≡ xs
+append-none [] = refl
+append-none (x ∷ xs) = ap (λ (l : List _). x ∷ l) (append-none xs)
+
 -- ---- pieces with what goes into them
 
 abbrev Filled : Type 0
@@ -206,6 +210,16 @@ written-below k ps l t =
     no-quotient k (written ps)
     (ap (λ (x : ℕ). x / 2 ^ k) (sym (filled-sum ps))
     ∙ none-above k (filled ps) (ap (lieBelow k) (filled-places ps) ∙ l) (separate-filled ps t) (filled-fits ps))
+
+pub placed-below : (k : ℕ) (fs : List Field) (n : ℕ) → lieBelow k fs ≡ true → separate fs ≡ true → placedIn fs n < 2 ^ k
+unfolding sumOf places Fit
+placed-below k fs n l s =
+    let filled = spread fs n [] in
+    let pieces : places filled ≡ fs = spread-places fs n [] ∙ append-none fs in
+    let sum = spread-sum fs n [] in
+    let e = none-above k filled (ap (lieBelow k) pieces ∙ l) (ap separate pieces ∙ s) (spread-fits fs n [] tt) in
+    let b = no-quotient k (sumOf filled) e in
+    omega arith
 
 -- ---- what pieces hold, put back
 

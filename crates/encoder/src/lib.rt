@@ -1,4 +1,13 @@
 // Instruction words made from what a listing shows of them.
+ghost use mathlib.Core.Path.{_≡_};
+ghost use mathlib.Core.Bool.{true};
+ghost use Prim.Native.Nat.{_+_, _*_, _%_, _^_, _<_, _≤_};
+ghost use Rattle.word.specs.Choice.{if_then_else_};
+ghost use Rattle.word.specs.Word.{signedOf};
+ghost use Rattle.isa.specs.Operation.{operationOf, widthBy};
+ghost use Rattle.isa.specs.Format.{fieldsWidth, placedIn};
+ghost use Rattle.isa.specs.Used.{shownFields, leastOf, shownReading};
+ghost use Rattle.encoder.specs.Encode.{chosen, partsOf, fits, allFit, written, chosenForm, encodingOf, encodeOf};
 
 // What is answered.
 pub enum Encoded {
@@ -6,4 +15,136 @@ pub enum Encoded {
     Word(u32),
     // The number of the refusal.
     Refusal(u32),
+}
+
+// ---- operands, in two's complement
+
+// Whether a number fits the bits of operand k.
+fn operand_fits(op: u32, wide: bool, k: usize, n: u32) -> bool
+    requires { ⌜ (op < 64) × (k < 4) ⌝ }
+    ensures { λ r. ⌜ r ≡ fits (fieldsWidth (shownFields (widthBy wide) (operationOf op) k)) (leastOf (shownReading (widthBy wide) (operationOf op) k) (fieldsWidth (shownFields (widthBy wide) (operationOf op) k))) (signedOf 32 n) ⌝ }
+{
+    let s = operands::slot_at(op, wide, k);
+    let bits = s.width + s.extra;
+    let reading = s.reading;
+    match reading {
+        b's' => {
+            let half = 1 << (bits - 1);
+            (n < half) | (n > 0xFFFF_FFFF - half)
+        }
+        b'h' => (24 <= n) & (n < 24 + (1 << bits)),
+        _ => n < 1 << bits,
+    }
+}
+
+// The `width` lowest bits of a number, from bit `place` of a word up.
+fn put(n: u32, width: u32, place: u32) -> u32
+    requires { ⌜ (place < 32) × (width < 32) × (place + width ≤ 32) ⌝ }
+    ensures { λ r. ⌜ r ≡ n % 2 ^ width * 2 ^ place ⌝ }
+{
+    n % (1 << width) << place
+}
+
+// The bits of operand k of a word, where it is a number.
+fn operand_bits(op: u32, wide: bool, k: usize, n: u32) -> u32
+    requires { ⌜ (op < 64) × (k < 4) ⌝ }
+    ensures { λ r. ⌜ r ≡ placedIn (shownFields (widthBy wide) (operationOf op) k) n ⌝ }
+{
+    let s = operands::slot_at(op, wide, k);
+    put(n >> s.width, s.extra, s.upper) + put(n, s.width, s.place)
+}
+
+// ---- words
+
+// Whether an operation has this form in this width, with or without a condition.
+fn has_form(operation: u32, wide: bool, conditional: bool) -> bool
+    ensures { λ r. ⌜ r ≡ chosenForm (widthBy wide) operation conditional ⌝ }
+{
+    (operation < 64)
+        & (isa::unavailability(operation, wide, false) == 0)
+        & (!conditional | wide & isa::is_conditional(operation))
+}
+
+// Whether the condition and all operands fit.
+fn all_fit(
+    op: u32,
+    wide: bool,
+    conditional: bool,
+    creg: u32,
+    condition: u32,
+    a: u32,
+    b: u32,
+    c: u32,
+    d: u32,
+) -> bool
+    requires { ⌜ chosenForm (widthBy wide) op conditional ≡ true ⌝ }
+    ensures { λ r. ⌜ r ≡ allFit (partsOf (widthBy wide) (chosen op conditional creg condition (signedOf 32 a) (signedOf 32 b) (signedOf 32 c) (signedOf 32 d))) ⌝ }
+{
+    (!conditional | (creg < 8) & (condition < 8))
+        & operand_fits(op, wide, 0, a)
+        & operand_fits(op, wide, 1, b)
+        & operand_fits(op, wide, 2, c)
+        & operand_fits(op, wide, 3, d)
+}
+
+// The bits of a condition of 32-bit words; without one there are none.
+fn guard_bits(conditional: bool, creg: u32, condition: u32) -> u32
+    ensures { λ r. ⌜ r ≡ if_then_else_ conditional (2 ^ 25 + creg % 2 ^ 3 * 2 ^ 22 + condition % 2 ^ 3 * 2 ^ 19) 0 ⌝ }
+{
+    if conditional {
+        0x0200_0000 + put(creg, 3, 22) + put(condition, 3, 19)
+    } else {
+        0
+    }
+}
+
+// The word of a choice.
+fn word_of(
+    op: u32,
+    wide: bool,
+    conditional: bool,
+    creg: u32,
+    condition: u32,
+    a: u32,
+    b: u32,
+    c: u32,
+    d: u32,
+) -> u32
+    requires { ⌜ chosenForm (widthBy wide) op conditional ≡ true ⌝ }
+    ensures { λ r. ⌜ r ≡ written (partsOf (widthBy wide) (chosen op conditional creg condition (signedOf 32 a) (signedOf 32 b) (signedOf 32 c) (signedOf 32 d))) ⌝ }
+{
+    put(op, 6, if wide { 26 } else { 10 })
+        + guard_bits(conditional, creg, condition)
+        + operand_bits(op, wide, 0, a)
+        + operand_bits(op, wide, 1, b)
+        + operand_bits(op, wide, 2, c)
+        + operand_bits(op, wide, 3, d)
+}
+
+// The word of an operation with the operands in the order in which a listing shows them, and with a condition where `conditional` says so; or
+// the refusal, 18 or 19.
+pub fn encode(
+    operation: u32,
+    wide: bool,
+    conditional: bool,
+    creg: u32,
+    condition: u32,
+    a: i32,
+    b: i32,
+    c: i32,
+    d: i32,
+) -> Encoded
+    ensures { λ r. ⌜ encodingOf r ≡ encodeOf (widthBy wide) (chosen operation conditional creg condition a b c d) ⌝ }
+{
+    let a = word::word(a);
+    let b = word::word(b);
+    let c = word::word(c);
+    let d = word::word(d);
+    if !has_form(operation, wide, conditional) {
+        Encoded::Refusal(18)
+    } else if !all_fit(operation, wide, conditional, creg, condition, a, b, c, d) {
+        Encoded::Refusal(19)
+    } else {
+        Encoded::Word(word_of(operation, wide, conditional, creg, condition, a, b, c, d))
+    }
 }

@@ -1,0 +1,152 @@
+-- What the code has of an operand's fields: two pieces at most, short, inside the word; and its tests of numbers. Assumes nothing.
+use mathlib.Core.Path.{_≡_, refl, sym, ap, _∙_}
+use mathlib.Core.Bool.{Bool, true, false, not, _&&_, _||_, true≢false, or-false}
+use mathlib.Core.List.{List, [], _∷_}
+use Prim.Native.Nat.{ℕ, suc, _+_, _-_, _*_, _/_, _%_, _^_, _≤_, _<_}
+use native.Mathlib.Nat.{add-zero, div-one, mod-one}
+use native.Mathlib.Omega.{arith}
+use lib.Dec.{leb, ltb, eqb}
+use lib.IntN.{ℤ}
+use lib.ListN.{length}
+use lib.Pow.{pow-mono}
+use borrow.Author.Tests.{ltb-true, ltb-false, leb-true, lt-ltb, le-ltb, le-leb}
+use Rattle.word.specs.Word.{Field, bitOf, signedOf}
+use Rattle.word.proofs.Tests.{either, and-parts}
+use Rattle.word.proofs.Integers.{double, signed-either}
+use Rattle.isa.specs.Operation.{Operation, operationOf, Width, w16, w32}
+use Rattle.isa.specs.Format.{fieldsWidth, placedIn, lieBelow, separate}
+use Rattle.isa.specs.Used.{shownFields, Reading, Natural, Signed, High, leastOf, shownReading}
+use Rattle.isa.specs.Computed.{instructions}
+use Rattle.operands.specs.Slots.{lowerPiece, upperPiece, readingLetter, slots}
+use Rattle.operands.proofs.Table.{valuesFrom, constant-is}
+use Rattle.encoder.specs.Encode.{fits}
+use Rattle.encoder.proofs.Values.{ranges-are}
+
+-- ---- fields of at most two pieces
+
+pub two-width : (fs : List Field) → length fs ≤ 2 → fieldsWidth fs ≡ lowerPiece fs .width + upperPiece fs .width
+unfolding fieldsWidth lowerPiece upperPiece
+two-width [] h = refl
+two-width (f ∷ []) h = refl
+two-width (f ∷ g ∷ []) h = omega arith
+two-width (f ∷ g ∷ e ∷ fs) h = absurd (omega arith)
+
+pub two-placed : (fs : List Field) (n : ℕ) → length fs ≤ 2
+    → placedIn fs n ≡ n / 2 ^ lowerPiece fs .width % 2 ^ upperPiece fs .width * 2 ^ upperPiece fs .place + n % 2 ^ lowerPiece fs .width * 2 ^ lowerPiece fs .place
+unfolding placedIn fieldsWidth lowerPiece upperPiece
+two-placed [] n h = omega arith
+two-placed (f ∷ []) n h = let p = mod-one (n / 2 ^ f .width) in rw (div-one n, p) (omega arith)
+two-placed (f ∷ g ∷ []) n h = rw (add-zero (g .width), div-one n) (omega arith)
+two-placed (f ∷ g ∷ e ∷ fs) n h = absurd (omega arith)
+
+pub two-inside : (k : ℕ) (fs : List Field) → length fs ≤ 2 → lieBelow k fs ≡ true
+    → (lowerPiece fs .place + lowerPiece fs .width ≤ k) × (upperPiece fs .place + upperPiece fs .width ≤ k)
+unfolding lieBelow lowerPiece upperPiece
+two-inside k [] h e = (omega arith, omega arith)
+two-inside k (f ∷ []) h e = (leb-true (f .place + f .width) k (and-parts (leb (f .place + f .width) k) true e .0), omega arith)
+two-inside k (f ∷ g ∷ []) h e =
+    let t = and-parts (leb (f .place + f .width) k) (leb (g .place + g .width) k && true) e in
+    (leb-true (g .place + g .width) k (and-parts (leb (g .place + g .width) k) true (t .1) .0), leb-true (f .place + f .width) k (t .0))
+two-inside k (f ∷ g ∷ d ∷ fs) h e = absurd (omega arith)
+
+-- ---- the operands of every row
+
+pub record Sizes (width : Width) (o : Operation) (k : ℕ) : Type 0 where
+  pub two : length (shownFields width o k) ≤ 2
+  pub bits : fieldsWidth (shownFields width o k) ≤ 25
+  pub inside : lieBelow 32 (shownFields width o k) ≡ true
+  pub apart : separate (shownFields width o k) ≡ true
+  pub lower : lowerPiece (shownFields width o k) .place < 32
+  pub upper : upperPiece (shownFields width o k) .place < 32
+  pub signed : shownReading width o k ≡ Signed → 0 < fieldsWidth (shownFields width o k)
+
+unfoldable sizes : Width → Operation → (k : ℕ) → Bool
+sizes width o k =
+    let fs = shownFields width o k in
+    (leb (length fs) 2 && leb (fieldsWidth fs) 25)
+    && ((lieBelow 32 fs && separate fs)
+    && ((ltb (lowerPiece fs .place) 32 && ltb (upperPiece fs .place) 32) && (not (eqb (readingLetter (shownReading width o k)) 115) || leb 1 (fieldsWidth fs))))
+
+computed : (width : Width) → valuesFrom (λ o k. bitOf (sizes width o k)) 0 256 ≡ valuesFrom (λ o k. 1) 0 256
+unfolding instructions slots sizes valuesFrom
+computed w16 = refl
+computed w32 = refl
+
+pub sizes-are : (width : Width) (op k : ℕ) → op < 64 → k < 4 → Sizes width (operationOf op) k
+unfolding sizes readingLetter
+sizes-are width op k h l =
+    let o = operationOf op in
+    let fs = shownFields width o k in
+    let holds : sizes width o k ≡ true = bit-true (sizes width o k) (constant-is (λ o k. bitOf (sizes width o k)) 1 op k h l (computed width)) in
+    let t = and-parts (leb (length fs) 2 && leb (fieldsWidth fs) 25) _ holds in
+    let a = and-parts _ _ (t .0) in
+    let u = and-parts (lieBelow 32 fs && separate fs) _ (t .1) in
+    let b = and-parts _ _ (u .0) in
+    let v = and-parts (ltb (lowerPiece fs .place) 32 && ltb (upperPiece fs .place) 32) _ (u .1) in
+    let d = and-parts _ _ (v .0) in
+    record {
+      two = leb-true _ _ (a .0);
+      bits = leb-true _ _ (a .1);
+      inside = b .0;
+      apart = b .1;
+      lower = ltb-true _ _ (d .0);
+      upper = ltb-true _ _ (d .1);
+      signed = λ e. leb-true 1 (fieldsWidth fs) (rw e at (v .1));
+    }
+  where
+    bit-true : (b : Bool) → 1 ≡ bitOf b → b ≡ true
+    bit-true true e = refl
+    bit-true false e = absurd (omega arith)
+
+-- ---- letters of readings
+
+pub signed-letter : (r : Reading) → readingLetter r ≡ 115 → r ≡ Signed
+unfolding readingLetter
+signed-letter Natural e = absurd (omega arith)
+signed-letter Signed e = refl
+signed-letter High e = absurd (omega arith)
+
+pub high-letter : (r : Reading) → readingLetter r ≡ 104 → r ≡ High
+unfolding readingLetter
+high-letter Natural e = absurd (omega arith)
+high-letter Signed e = absurd (omega arith)
+high-letter High e = refl
+
+pub other-letter : (r : Reading) → (readingLetter r ≡ 115 → ⊥) → (readingLetter r ≡ 104 → ⊥) → r ≡ Natural
+unfolding readingLetter
+other-letter Natural s h = refl
+other-letter Signed s h = absurd (s refl)
+other-letter High s h = absurd (h refl)
+
+-- ---- tests of a number in two's complement
+
+module _ (k n : ℕ) (short : k ≤ 25) (b : n < 2 ^ 32) where
+  most : 2 ^ k ≤ 2 ^ 25
+  most = pow-mono short
+
+  pub natural-test : ltb n (2 ^ k) ≡ fits k (leastOf Natural k) (signedOf 32 n)
+  natural-test =
+      let m = most in
+      signed-either 32 n (λ (z : ℤ). ltb n (2 ^ k) ≡ fits k (leastOf Natural k) z) b
+      (λ h. sym (ranges-are k n .natural))
+      (λ h. le-ltb n (2 ^ k) (omega arith) ∙ sym (ranges-are k (2 ^ 32 - suc n) .naturalBelow))
+
+  pub high-test : leb 24 n && ltb n (24 + 2 ^ k) ≡ fits k (leastOf High k) (signedOf 32 n)
+  high-test =
+      let m = most in
+      signed-either 32 n (λ (z : ℤ). leb 24 n && ltb n (24 + 2 ^ k) ≡ fits k (leastOf High k) z) b
+      (λ h. sym (ranges-are k n .high))
+      (λ h. rw (le-leb 24 n (omega arith), le-ltb n (24 + 2 ^ k) (omega arith)) (sym (ranges-are k (2 ^ 32 - suc n) .highBelow)))
+
+  pub signed-test : 0 < k → ltb n (2 ^ (k - 1)) || ltb (2 ^ 32 - 1 - 2 ^ (k - 1)) n ≡ fits k (leastOf Signed k) (signedOf 32 n)
+  signed-test p =
+      let half = 2 ^ (k - 1) in
+      let m = most in
+      let d = double k p in
+      signed-either 32 n (λ (z : ℤ). ltb n half || ltb (2 ^ 32 - 1 - half) n ≡ fits k (leastOf Signed k) z) b
+      (λ h. rw (le-ltb (2 ^ 32 - 1 - half) n (omega arith)) (or-false (ltb n half) ∙ sym (ranges-are k n .signed p)))
+      (λ h.
+      rw (le-ltb n half (omega arith))
+      (either (ltb (2 ^ 32 - suc n) half)
+      (λ t. let l = ltb-true (2 ^ 32 - suc n) half t in lt-ltb (2 ^ 32 - 1 - half) n (omega arith) ∙ sym (ranges-are k (2 ^ 32 - suc n) .signedBelow p ∙ t))
+      (λ t. let l = ltb-false (2 ^ 32 - suc n) half t in le-ltb (2 ^ 32 - 1 - half) n (omega arith) ∙ sym (ranges-are k (2 ^ 32 - suc n) .signedBelow p ∙ t))))
