@@ -5,3 +5,4 @@ pub mod Operands
 pub mod Choices
 pub mod Theorems
 pub mod Slots
+pub mod Forms

@@ -1,5 +1,5 @@
 -- What the code has of an operand's fields: two pieces at most, short, inside the word; and its tests of numbers. Assumes nothing.
-use mathlib.Core.Path.{_≡_, refl, sym, ap, _∙_}
+use mathlib.Core.Path.{_≡_, refl, sym, ap, _∙_, subst}
 use mathlib.Core.Bool.{Bool, true, false, not, _&&_, _||_, true≢false, or-false}
 use mathlib.Core.List.{List, [], _∷_}
 use Prim.Native.Nat.{ℕ, suc, _+_, _-_, _*_, _/_, _%_, _^_, _≤_, _<_}
@@ -9,7 +9,7 @@ use lib.Dec.{leb, ltb, eqb}
 use lib.IntN.{ℤ}
 use lib.ListN.{length}
 use lib.Pow.{pow-mono}
-use borrow.Author.Tests.{ltb-true, ltb-false, leb-true, lt-ltb, le-ltb, le-leb}
+use borrow.Author.Tests.{ltb-true, ltb-false, leb-true, lt-ltb, le-ltb, le-leb, eq-eqb}
 use Rattle.word.specs.Word.{Field, bitOf, signedOf}
 use Rattle.word.proofs.Tests.{either, and-parts}
 use Rattle.word.proofs.Integers.{double, signed-either}
@@ -17,21 +17,23 @@ use Rattle.isa.specs.Operation.{Operation, operationOf, Width, w16, w32}
 use Rattle.isa.specs.Format.{fieldsWidth, placedIn, lieBelow, separate}
 use Rattle.isa.specs.Used.{shownFields, Reading, Natural, Signed, High, leastOf, shownReading}
 use Rattle.isa.specs.Computed.{instructions}
-use Rattle.operands.specs.Slots.{lowerPiece, upperPiece, readingLetter, slots}
+use Rattle.operands.specs.Slots.{lowerPiece, upperPiece, readingLetter, slotAt, slots}
+use Rattle.operands.specs.declared.Slot.{Slot}
 use Rattle.operands.proofs.Table.{valuesFrom, constant-is}
 use Rattle.encoder.specs.Encode.{fits}
+use Rattle.encoder.proofs.Pieces.{placed-below}
 use Rattle.encoder.proofs.Values.{ranges-are}
 
 -- ---- fields of at most two pieces
 
-pub two-width : (fs : List Field) → length fs ≤ 2 → fieldsWidth fs ≡ lowerPiece fs .width + upperPiece fs .width
+two-width : (fs : List Field) → length fs ≤ 2 → fieldsWidth fs ≡ lowerPiece fs .width + upperPiece fs .width
 unfolding fieldsWidth lowerPiece upperPiece
 two-width [] h = refl
 two-width (f ∷ []) h = refl
 two-width (f ∷ g ∷ []) h = omega arith
 two-width (f ∷ g ∷ e ∷ fs) h = absurd (omega arith)
 
-pub two-placed : (fs : List Field) (n : ℕ) → length fs ≤ 2
+two-placed : (fs : List Field) (n : ℕ) → length fs ≤ 2
     → placedIn fs n ≡ n / 2 ^ lowerPiece fs .width % 2 ^ upperPiece fs .width * 2 ^ upperPiece fs .place + n % 2 ^ lowerPiece fs .width * 2 ^ lowerPiece fs .place
 unfolding placedIn fieldsWidth lowerPiece upperPiece
 two-placed [] n h = omega arith
@@ -39,7 +41,7 @@ two-placed (f ∷ []) n h = let p = mod-one (n / 2 ^ f .width) in rw (div-one n,
 two-placed (f ∷ g ∷ []) n h = rw (add-zero (g .width), div-one n) (omega arith)
 two-placed (f ∷ g ∷ e ∷ fs) n h = absurd (omega arith)
 
-pub two-inside : (k : ℕ) (fs : List Field) → length fs ≤ 2 → lieBelow k fs ≡ true
+two-inside : (k : ℕ) (fs : List Field) → length fs ≤ 2 → lieBelow k fs ≡ true
     → (lowerPiece fs .place + lowerPiece fs .width ≤ k) × (upperPiece fs .place + upperPiece fs .width ≤ k)
 unfolding lieBelow lowerPiece upperPiece
 two-inside k [] h e = (omega arith, omega arith)
@@ -51,15 +53,7 @@ two-inside k (f ∷ g ∷ d ∷ fs) h e = absurd (omega arith)
 
 -- ---- the operands of every row
 
-pub record Sizes (width : Width) (o : Operation) (k : ℕ) : Type 0 where
-  pub two : length (shownFields width o k) ≤ 2
-  pub bits : fieldsWidth (shownFields width o k) ≤ 25
-  pub inside : lieBelow 32 (shownFields width o k) ≡ true
-  pub apart : separate (shownFields width o k) ≡ true
-  pub lower : lowerPiece (shownFields width o k) .place < 32
-  pub upper : upperPiece (shownFields width o k) .place < 32
-  pub signed : shownReading width o k ≡ Signed → 0 < fieldsWidth (shownFields width o k)
-
+-- the fields of an operand, computed of every row: short and disjoint pieces inside the word, two at most
 unfoldable sizes : Width → Operation → (k : ℕ) → Bool
 sizes width o k =
     let fs = shownFields width o k in
@@ -72,31 +66,61 @@ unfolding instructions slots sizes valuesFrom
 computed w16 = refl
 computed w32 = refl
 
-pub sizes-are : (width : Width) (op k : ℕ) → op < 64 → k < 4 → Sizes width (operationOf op) k
-unfolding sizes readingLetter
-sizes-are width op k h l =
-    let o = operationOf op in
-    let fs = shownFields width o k in
-    let holds : sizes width o k ≡ true = bit-true (sizes width o k) (constant-is (λ o k. bitOf (sizes width o k)) 1 op k h l (computed width)) in
-    let t = and-parts (leb (length fs) 2 && leb (fieldsWidth fs) 25) _ holds in
-    let a = and-parts _ _ (t .0) in
-    let u = and-parts (lieBelow 32 fs && separate fs) _ (t .1) in
-    let b = and-parts _ _ (u .0) in
-    let v = and-parts (ltb (lowerPiece fs .place) 32 && ltb (upperPiece fs .place) 32) _ (u .1) in
-    let d = and-parts _ _ (v .0) in
-    record {
-      two = leb-true _ _ (a .0);
-      bits = leb-true _ _ (a .1);
-      inside = b .0;
-      apart = b .1;
-      lower = ltb-true _ _ (d .0);
-      upper = ltb-true _ _ (d .1);
-      signed = λ e. leb-true 1 (fieldsWidth fs) (rw e at (v .1));
-    }
+sizes-hold : (width : Width) (op k : ℕ) → op < 64 → k < 4 → sizes width (operationOf op) k ≡ true
+sizes-hold width op k h l = bit-true (sizes width (operationOf op) k) (constant-is (λ o k. bitOf (sizes width o k)) 1 op k h l (computed width))
   where
     bit-true : (b : Bool) → 1 ≡ bitOf b → b ≡ true
     bit-true true e = refl
     bit-true false e = absurd (omega arith)
+
+-- what holds of the slot of operand k
+pub record SlotIs (width : Width) (o : Operation) (k : ℕ) (s : Slot) : Type 0 where
+  pub bits : s .width + s .extra ≡ fieldsWidth (shownFields width o k)
+  pub short : s .width + s .extra ≤ 25
+  pub place : s .place < 32
+  pub inside : s .place + s .width ≤ 32
+  pub upper : s .upper < 32
+  pub upperInside : s .upper + s .extra ≤ 32
+  pub placed : (n : ℕ) → n / 2 ^ s .width % 2 ^ s .extra * 2 ^ s .upper + n % 2 ^ s .width * 2 ^ s .place ≡ placedIn (shownFields width o k) n
+  pub below : (n : ℕ) → placedIn (shownFields width o k) n < 2 ^ 32
+  pub reading : s .reading ≡ readingLetter (shownReading width o k)
+  pub signed : s .reading ≡ 115 → 0 < s .width + s .extra
+
+slot-at-is : (width : Width) (op k : ℕ) → op < 64 → k < 4 → SlotIs width (operationOf op) k (slotAt width (operationOf op) k)
+unfolding sizes slotAt
+slot-at-is width op k h l =
+    let o = operationOf op in
+    let fs = shownFields width o k in
+    let t = and-parts (leb (length fs) 2 && leb (fieldsWidth fs) 25) _ (sizes-hold width op k h l) in
+    let a = and-parts (leb (length fs) 2) _ (t .0) in
+    let u = and-parts (lieBelow 32 fs && separate fs) _ (t .1) in
+    let b = and-parts (lieBelow 32 fs) _ (u .0) in
+    let v = and-parts (ltb (lowerPiece fs .place) 32 && ltb (upperPiece fs .place) 32) _ (u .1) in
+    let d = and-parts (ltb (lowerPiece fs .place) 32) _ (v .0) in
+    let two = leb-true (length fs) 2 (a .0) in
+    let size = two-width fs two in
+    let inside = two-inside 32 fs two (b .0) in
+    record {
+      bits = sym size;
+      short = omega (arith, leb-true (fieldsWidth fs) 25 (a .1));
+      place = ltb-true _ 32 (d .0);
+      inside = inside .0;
+      upper = ltb-true _ 32 (d .1);
+      upperInside = inside .1;
+      placed = λ n. sym (two-placed fs n two);
+      below = λ n. placed-below 32 fs n (b .0) (b .1);
+      reading = refl;
+      signed = λ e. omega (arith, leb-true 1 (fieldsWidth fs) (rw (eq-eqb _ 115 e) at (v .1)));
+    }
+
+pub slot-is : (width : Width) (op k : ℕ) (s : Slot) → op < 64 → k < 4 → s ≡ slotAt width (operationOf op) k → SlotIs width (operationOf op) k s
+slot-is width op k s h l e = subst (SlotIs width (operationOf op) k) (sym e) (slot-at-is width op k h l)
+
+-- whether a number fits, by the slot's bits and reading
+pub fits-by : {width : Width} {o : Operation} {k : ℕ} {s : Slot} → SlotIs width o k s → (r : Reading) → shownReading width o k ≡ r → (z : ℤ)
+    → fits (s .width + s .extra) (leastOf r (s .width + s .extra)) z
+    ≡ fits (fieldsWidth (shownFields width o k)) (leastOf (shownReading width o k) (fieldsWidth (shownFields width o k))) z
+fits-by i r e z = rw (e, i .bits)
 
 -- ---- letters of readings
 
@@ -138,15 +162,17 @@ module _ (k n : ℕ) (short : k ≤ 25) (b : n < 2 ^ 32) where
       (λ h. sym (ranges-are k n .high))
       (λ h. rw (le-leb 24 n (omega arith), le-ltb n (24 + 2 ^ k) (omega arith)) (sym (ranges-are k (2 ^ 32 - suc n) .highBelow)))
 
-  pub signed-test : 0 < k → ltb n (2 ^ (k - 1)) || ltb (2 ^ 32 - 1 - 2 ^ (k - 1)) n ≡ fits k (leastOf Signed k) (signedOf 32 n)
+  pub signed-test : 0 < k → ltb n (2 ^ k / 2) || ltb (2 ^ 32 - 1 - 2 ^ k / 2) n ≡ fits k (leastOf Signed k) (signedOf 32 n)
   signed-test p =
       let half = 2 ^ (k - 1) in
       let m = most in
       let d = double k p in
-      signed-either 32 n (λ (z : ℤ). ltb n half || ltb (2 ^ 32 - 1 - half) n ≡ fits k (leastOf Signed k) z) b
+      let halved : 2 ^ k / 2 ≡ half = omega arith in
+      rw halved
+      (signed-either 32 n (λ (z : ℤ). ltb n half || ltb (2 ^ 32 - 1 - half) n ≡ fits k (leastOf Signed k) z) b
       (λ h. rw (le-ltb (2 ^ 32 - 1 - half) n (omega arith)) (or-false (ltb n half) ∙ sym (ranges-are k n .signed p)))
       (λ h.
       rw (le-ltb n half (omega arith))
       (either (ltb (2 ^ 32 - suc n) half)
       (λ t. let l = ltb-true (2 ^ 32 - suc n) half t in lt-ltb (2 ^ 32 - 1 - half) n (omega arith) ∙ sym (ranges-are k (2 ^ 32 - suc n) .signedBelow p ∙ t))
-      (λ t. let l = ltb-false (2 ^ 32 - suc n) half t in le-ltb (2 ^ 32 - 1 - half) n (omega arith) ∙ sym (ranges-are k (2 ^ 32 - suc n) .signedBelow p ∙ t))))
+      (λ t. let l = ltb-false (2 ^ 32 - suc n) half t in le-ltb (2 ^ 32 - 1 - half) n (omega arith) ∙ sym (ranges-are k (2 ^ 32 - suc n) .signedBelow p ∙ t)))))

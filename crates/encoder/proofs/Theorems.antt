@@ -131,7 +131,7 @@ fit-append (p ∷ ps) qs e =
 natural-back : (k n m : ℕ) → k ≤ 32 → fits k (pos 0) (pos n) ≡ true → m ≡ wordOf 32 (pos n) % 2 ^ k → m ≡ n
 natural-back k n m h f e = e ∙ natural-bits k n h (natural-below k n f)
 
-operation-bits : (width : Width) → fieldsWidth (operationField width) ≡ 6
+pub operation-bits : (width : Width) → fieldsWidth (operationField width) ≡ 6
 unfolding operationField fieldsWidth
 operation-bits w16 = refl
 operation-bits w32 = refl

@@ -5,7 +5,7 @@ ghost use Prim.Native.Nat.{_+_, _*_, _%_, _^_, _<_, _≤_};
 ghost use Rattle.word.specs.Choice.{if_then_else_};
 ghost use Rattle.word.specs.Word.{signedOf};
 ghost use Rattle.isa.specs.Operation.{operationOf, widthBy};
-ghost use Rattle.isa.specs.Format.{fieldsWidth, placedIn};
+ghost use Rattle.isa.specs.Format.{fieldsWidth, placedIn, operationField};
 ghost use Rattle.isa.specs.Used.{shownFields, leastOf, shownReading};
 ghost use Rattle.encoder.specs.Encode.{chosen, partsOf, fits, allFit, written, chosenForm, encodingOf, encodeOf};
 
@@ -25,15 +25,12 @@ fn operand_fits(op: u32, wide: bool, k: usize, n: u32) -> bool
     ensures { λ r. ⌜ r ≡ fits (fieldsWidth (shownFields (widthBy wide) (operationOf op) k)) (leastOf (shownReading (widthBy wide) (operationOf op) k) (fieldsWidth (shownFields (widthBy wide) (operationOf op) k))) (signedOf 32 n) ⌝ }
 {
     let s = operands::slot_at(op, wide, k);
-    let bits = s.width + s.extra;
+    let count = 1 << (s.width + s.extra);
     let reading = s.reading;
     match reading {
-        b's' => {
-            let half = 1 << (bits - 1);
-            (n < half) | (n > 0xFFFF_FFFF - half)
-        }
-        b'h' => (24 <= n) & (n < 24 + (1 << bits)),
-        _ => n < 1 << bits,
+        b's' => (n < count / 2) | (n > 0xFFFF_FFFF - count / 2),
+        b'h' => (24 <= n) & (n < 24 + count),
+        _ => n < count,
     }
 }
 
@@ -87,6 +84,13 @@ fn all_fit(
         & operand_fits(op, wide, 3, d)
 }
 
+// The bits of an operation.
+fn operation_bits(op: u32, wide: bool) -> u32
+    ensures { λ r. ⌜ r ≡ placedIn (operationField (widthBy wide)) op ⌝ }
+{
+    if wide { put(op, 6, 26) } else { put(op, 6, 10) }
+}
+
 // The bits of a condition of 32-bit words; without one there are none.
 fn guard_bits(conditional: bool, creg: u32, condition: u32) -> u32
     ensures { λ r. ⌜ r ≡ if_then_else_ conditional (2 ^ 25 + creg % 2 ^ 3 * 2 ^ 22 + condition % 2 ^ 3 * 2 ^ 19) 0 ⌝ }
@@ -113,7 +117,7 @@ fn word_of(
     requires { ⌜ chosenForm (widthBy wide) op conditional ≡ true ⌝ }
     ensures { λ r. ⌜ r ≡ written (partsOf (widthBy wide) (chosen op conditional creg condition (signedOf 32 a) (signedOf 32 b) (signedOf 32 c) (signedOf 32 d))) ⌝ }
 {
-    put(op, 6, if wide { 26 } else { 10 })
+    operation_bits(op, wide)
         + guard_bits(conditional, creg, condition)
         + operand_bits(op, wide, 0, a)
         + operand_bits(op, wide, 1, b)

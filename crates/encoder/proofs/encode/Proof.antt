@@ -1,62 +1,64 @@
+-- `encoder::encode` meets its contract: an operand's word, read as signed, is the operand. Assumes nothing.
+use mathlib.Core.Path.{_≡_, sym, ap, _∙_}
+use mathlib.Core.Bool.{not}
+use Prim.Native.Nat.{ℕ}
+use native.Mathlib.Omega.{arith}
+use lib.IntN.{ℤ}
 use borrow.Author.Needs.{needs}
+use borrow.Author.Tests.{not-true, not-false}
+use mir.Syntax.{w32}
+use mir.Val.{SFits, toZ, ofZ}
+use Rattle.word.specs.Word.{signedOf, wordOf}
+use Rattle.word.proofs.Handed.{handed}
+use Rattle.word.proofs.Integers.{signed-word}
+use Rattle.isa.specs.Operation.{widthBy}
+use Rattle.encoder.specs.Encode.{chosen, partsOf, allFit, written, Encodes, encodingOf}
+use Rattle.encoder.proofs.Forms.{formless, unfit, encoded}
 use Rattle.encoder.proofs.encode.Statement.{statement}
 use Rattle.encoder.proofs.encode.Tie as tie
-use Rattle.encoder.proofs.encode.Reads as reads
-use Rattle.encoder.proofs.encode.Lts as lts
-use Rattle.encoder.proofs.all_fit.Reads as all-fit-reads
-use Rattle.encoder.proofs.has_form.Reads as has-form-reads
-use Rattle.encoder.proofs.word_of.Reads as word-of-reads
-use Rattle.word.proofs.word.Reads as word-reads
 
--- src/lib.rt:139:9
-word-requires : tie.Need-word-requires
-word-requires c κs = search needs
+-- an operand's word, read as signed
+back : (z : ℤ) {r : ℕ} → SFits w32 z → r ≡ wordOf 32 (toZ w32 (ofZ w32 z)) → signedOf 32 r ≡ z
+back z f e = ap (signedOf 32) (handed (wordOf 32) f e) ∙ signed-word 32 (omega arith) z (f .sfits)
 
--- src/lib.rt:140:9
-word-requires-2 : tie.Need-word-requires-2
-word-requires-2 c κs = search needs
-
--- src/lib.rt:141:9
-word-requires-3 : tie.Need-word-requires-3
-word-requires-3 c κs = search needs
-
--- src/lib.rt:142:9
-word-requires-4 : tie.Need-word-requires-4
-word-requires-4 c κs = search needs
-
--- src/lib.rt:143:9
-has-form-requires : tie.Need-has-form-requires
-has-form-requires c κs = search needs
-
--- src/lib.rt:145:16
 all-fit-requires : tie.Need-all-fit-requires
-all-fit-requires c κs = ?
+all-fit-requires c κs = sym (c .before .has-form .ensures) ∙ not-false _ (c .if1 .left)
 
--- src/lib.rt:148:23
 word-of-requires : tie.Need-word-of-requires
-word-of-requires c κs = ?
+word-of-requires c κs = sym (c .before .before .before .has-form .ensures) ∙ not-false _ (c .before .before .if1 .left)
 
--- src/lib.rt:126:1
 returns : tie.Need-returns
-returns c = ?
+unfolding encodingOf
+returns c =
+    let a = c .before .before .before .before .before .before .args in
+    formless (widthBy (a .wide)) (a .operation) (a .conditional) (a .creg) (a .condition) (a .a) (a .b) (a .c) (a .d)
+    (sym (c .before .has-form .ensures) ∙ not-true _ (c .if1 .taken))
 
--- src/lib.rt:126:1
 returns-2 : tie.Need-returns-2
-returns-2 c = ?
+unfolding encodingOf
+returns-2 c =
+    let a = c .before .before .before .before .before .before .before .before .args in
+    let fit = rw (back (a .a) (record { sfits = omega arith }) (c .before .before .before .before .before .before .before .word .ensures), back (a .b) (record { sfits = omega arith }) (c .before .before .before .before .before .before .word2 .ensures), back (a .c) (record { sfits = omega arith }) (c .before .before .before .before .before .word3 .ensures), back (a .d) (record { sfits = omega arith }) (c .before .before .before .before .word4 .ensures)) at (c .before .all-fit .ensures) in
+    unfit (widthBy (a .wide)) (a .operation) (a .conditional) (a .creg) (a .condition) (a .a) (a .b) (a .c) (a .d)
+    (sym (c .before .before .before .has-form .ensures) ∙ not-false _ (c .before .before .if1 .left))
+    (sym fit ∙ not-true _ (c .if2 .taken))
 
--- src/lib.rt:126:1
 returns-3 : tie.Need-returns-3
-returns-3 c = ?
+unfolding encodingOf
+returns-3 c =
+    let a = c .before .before .before .before .before .before .before .before .before .args in
+    let fit = rw (back (a .a) (record { sfits = omega arith }) (c .before .before .before .before .before .before .before .before .word .ensures), back (a .b) (record { sfits = omega arith }) (c .before .before .before .before .before .before .before .word2 .ensures), back (a .c) (record { sfits = omega arith }) (c .before .before .before .before .before .before .word3 .ensures), back (a .d) (record { sfits = omega arith }) (c .before .before .before .before .before .word4 .ensures)) at (c .before .before .all-fit .ensures) in
+    let word = rw (back (a .a) (record { sfits = omega arith }) (c .before .before .before .before .before .before .before .before .word .ensures), back (a .b) (record { sfits = omega arith }) (c .before .before .before .before .before .before .before .word2 .ensures), back (a .c) (record { sfits = omega arith }) (c .before .before .before .before .before .before .word3 .ensures), back (a .d) (record { sfits = omega arith }) (c .before .before .before .before .before .word4 .ensures)) at (c .word-of .ensures) in
+    ap Encodes word
+    ∙ encoded (widthBy (a .wide)) (a .operation) (a .conditional) (a .creg) (a .condition) (a .a) (a .b) (a .c) (a .d)
+    (sym (c .before .before .before .before .has-form .ensures) ∙ not-false _ (c .before .before .before .if1 .left))
+    (sym fit ∙ not-false _ (c .before .if2 .left))
 
 pub encode-spec : {M : Type 1} → statement M
 encode-spec =
     tie.close
     (tie.spec
-    word-requires
-    word-requires-2
-    word-requires-3
-    word-requires-4
-    has-form-requires
+    (λ c κs. search needs) (λ c κs. search needs) (λ c κs. search needs) (λ c κs. search needs) (λ c κs. search needs)
     all-fit-requires
     word-of-requires
     returns

@@ -1,34 +1,22 @@
+-- `encoder::guard_bits` meets its contract. Assumes nothing.
+use native.Mathlib.Omega.{arith}
 use borrow.Author.Needs.{needs}
+use Rattle.word.specs.Choice.{if_then_else_}
 use Rattle.encoder.proofs.guard_bits.Statement.{statement}
 use Rattle.encoder.proofs.guard_bits.Tie as tie
-use Rattle.encoder.proofs.guard_bits.Reads as reads
-use Rattle.encoder.proofs.guard_bits.Lts as lts
-use Rattle.encoder.proofs.put.Reads as put-reads
 
--- src/lib.rt:95:23
-put-requires : tie.Need-put-requires
-put-requires c κs = search needs
-
--- src/lib.rt:95:9
-add-result : tie.Need-add-result
-add-result c = search needs
-
--- src/lib.rt:95:42
-put-requires-2 : tie.Need-put-requires-2
-put-requires-2 c κs = search needs
-
--- src/lib.rt:95:9
-add-result-2 : tie.Need-add-result-2
-add-result-2 c = search needs
-
--- src/lib.rt:91:1
 returns : tie.Need-returns
-returns c = ?
+unfolding if_then_else_
+returns c = rw (c .before .before .if1 .taken) (omega (arith, c .put2 .ensures, c .before .put .ensures))
 
--- src/lib.rt:91:1
 returns-2 : tie.Need-returns-2
-returns-2 c = ?
+unfolding if_then_else_
+returns-2 c = rw (c .if1 .left)
 
 pub guard-bits-spec : {M : Type 1} → statement M
 guard-bits-spec =
-    tie.close (tie.spec put-requires add-result put-requires-2 add-result-2 returns returns-2)
+    tie.close
+    (tie.spec
+    (λ c κs. search needs) (λ c. search needs) (λ c κs. search needs) (λ c. search needs)
+    returns
+    returns-2)

@@ -1,22 +1,22 @@
+-- `encoder::has_form` meets its contract: words of 16 bits have no conditional bit. Assumes nothing.
+use mathlib.Core.Path.{_≡_, sym, _∙_}
+use mathlib.Core.Bool.{Bool, true, false, _&&_, and-true, and-false}
 use borrow.Author.Needs.{needs}
+use Rattle.isa.specs.Operation.{Operation, widthBy, properties}
+use Rattle.isa.specs.Format.{fieldsWidth, conditionalField}
+use Rattle.isa.specs.Shown.{hasForm}
+use Rattle.encoder.specs.Encode.{conditionalForm, chosenForm}
 use Rattle.encoder.proofs.has_form.Statement.{statement}
 use Rattle.encoder.proofs.has_form.Tie as tie
-use Rattle.encoder.proofs.has_form.Reads as reads
-use Rattle.encoder.proofs.has_form.Lts as lts
-use Rattle.isa.proofs.is_conditional.Reads as is-conditional-reads
-use Rattle.isa.proofs.unavailability.Reads as unavailability-reads
 
--- src/lib.rt:64:12
-unavailability-requires : tie.Need-unavailability-requires
-unavailability-requires c κs = search needs
+by-width : (wide : Bool) (o : Operation) → wide && properties o .conditional ≡ conditionalForm (widthBy wide) o
+unfolding conditionalForm widthBy conditionalField fieldsWidth
+by-width true o = sym (and-true (properties o .conditional))
+by-width false o = sym (and-false (properties o .conditional))
 
--- src/lib.rt:65:34
-is-conditional-requires : tie.Need-is-conditional-requires
-is-conditional-requires c κs = search needs
-
--- src/lib.rt:60:1
 returns : tie.Need-returns
-returns c = ?
+unfolding chosenForm hasForm
+returns c = rw (← by-width, c .is-conditional .ensures, c .before .unavailability .ensures)
 
 pub has-form-spec : {M : Type 1} → statement M
-has-form-spec = tie.close (tie.spec unavailability-requires is-conditional-requires returns)
+has-form-spec = tie.close (tie.spec (λ c κs. search needs) (λ c κs. search needs) returns)

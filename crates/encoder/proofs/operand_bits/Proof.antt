@@ -1,35 +1,46 @@
+-- `encoder::operand_bits` meets its contract: the two pieces of the slot are those of the operand's field. Assumes nothing.
+use mathlib.Core.Path.{_≡_, _∙_, ap}
+use Prim.Native.Nat.{ℕ, _+_}
+use native.Mathlib.Omega.{arith}
 use borrow.Author.Needs.{needs}
+use Rattle.isa.specs.Operation.{widthBy, operationOf}
+use Rattle.isa.specs.Used.{shownFields}
+use Rattle.isa.specs.Format.{placedIn}
+use Rattle.encoder.proofs.Slots.{SlotIs, slot-is}
 use Rattle.encoder.proofs.operand_bits.Statement.{statement}
 use Rattle.encoder.proofs.operand_bits.Tie as tie
-use Rattle.encoder.proofs.operand_bits.Reads as reads
-use Rattle.encoder.proofs.operand_bits.Lts as lts
-use Rattle.encoder.proofs.put.Reads as put-reads
-use Rattle.operands.proofs.slot_at.Reads as slot-at-reads
 
--- src/lib.rt:53:9
-slot-at-requires : tie.Need-slot-at-requires
-slot-at-requires c κs = search needs
-
--- src/lib.rt:54:9
 shr-put : tie.Need-shr-put
-shr-put c = ?
+shr-put c =
+    let start = c .before .before in
+    let s = slot-is (widthBy (start .args .wide)) (start .args .op) (start .args .k) _ (start .pre .0) (start .pre .1) (c .before .slot-at .ensures) in
+    omega (arith, s .short)
 
--- src/lib.rt:54:5
 put-requires : tie.Need-put-requires
-put-requires c κs = ?
+put-requires c κs =
+    let start = c .before .before in
+    let s = slot-is (widthBy (start .args .wide)) (start .args .op) (start .args .k) _ (start .pre .0) (start .pre .1) (c .before .slot-at .ensures) in
+    (s .upper, omega (arith, s .short), s .upperInside)
 
--- src/lib.rt:54:43
 put-requires-2 : tie.Need-put-requires-2
-put-requires-2 c κs = ?
+put-requires-2 c κs =
+    let start = c .before .before .before in
+    let s = slot-is (widthBy (start .args .wide)) (start .args .op) (start .args .k) _ (start .pre .0) (start .pre .1) (c .before .before .slot-at .ensures) in
+    (s .place, omega (arith, s .short), s .inside)
 
--- src/lib.rt:54:5
 add-result : tie.Need-add-result
-add-result c = ?
+add-result c =
+    let start = c .before .before .before .before in
+    let a = start .args in
+    let s = slot-is (widthBy (a .wide)) (a .op) (a .k) _ (start .pre .0) (start .pre .1) (c .before .before .before .slot-at .ensures) in
+    record { fits = omega (arith, s .placed (a .n), s .below (a .n), c .put2 .ensures, c .before .put .ensures) }
 
--- src/lib.rt:49:1
 returns : tie.Need-returns
-returns c = ?
+returns c =
+    let start = c .before .before .before .before in
+    let a = start .args in
+    let s = slot-is (widthBy (a .wide)) (a .op) (a .k) _ (start .pre .0) (start .pre .1) (c .before .before .before .slot-at .ensures) in
+    rw (c .put2 .ensures, c .before .put .ensures) (s .placed (a .n))
 
 pub operand-bits-spec : {M : Type 1} → statement M
-operand-bits-spec =
-    tie.close (tie.spec slot-at-requires shr-put put-requires put-requires-2 add-result returns)
+operand-bits-spec = tie.close (tie.spec (λ c κs. search needs) shr-put put-requires put-requires-2 add-result returns)

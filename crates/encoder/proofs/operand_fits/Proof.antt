@@ -1,66 +1,75 @@
+-- `encoder::operand_fits` meets its contract: a test for each reading. Assumes nothing.
+use mathlib.Core.Path.{_≡_, sym, _∙_}
+use Prim.Native.Nat.{ℕ, _+_, _-_, _^_, _≤_, _<_}
+use native.Mathlib.Omega.{arith}
+use lib.Pow.{pow-mono}
 use borrow.Author.Needs.{needs}
+use Rattle.word.specs.Word.{signedOf}
+use Rattle.word.proofs.Integers.{one-shifted}
+use Rattle.isa.specs.Operation.{widthBy}
+use Rattle.isa.specs.Used.{Natural, Signed, High}
+use Rattle.encoder.proofs.Slots.{SlotIs, slot-is, fits-by, signed-letter, high-letter, other-letter, natural-test, high-test, signed-test}
 use Rattle.encoder.proofs.operand_fits.Statement.{statement}
 use Rattle.encoder.proofs.operand_fits.Tie as tie
-use Rattle.encoder.proofs.operand_fits.Reads as reads
-use Rattle.encoder.proofs.operand_fits.Lts as lts
-use Rattle.operands.proofs.slot_at.Reads as slot-at-reads
 
--- src/lib.rt:27:9
-slot-at-requires : tie.Need-slot-at-requires
-slot-at-requires c κs = search needs
+add-count : tie.Need-add-count
+add-count c =
+    let start = c .before .before in
+    let s = slot-is (widthBy (start .args .wide)) (start .args .op) (start .args .k) _ (start .pre .0) (start .pre .1) (c .before .slot-at .ensures) in
+    record { fits = omega (arith, s .short) }
 
--- src/lib.rt:28:16
-add-bits : tie.Need-add-bits
-add-bits c = ?
+shl-count : tie.Need-shl-count
+shl-count c =
+    let start = c .before .before in
+    let s = slot-is (widthBy (start .args .wide)) (start .args .op) (start .args .k) _ (start .pre .0) (start .pre .1) (c .before .slot-at .ensures) in
+    omega (arith, s .short)
 
--- src/lib.rt:32:30
-sub-half : tie.Need-sub-half
-sub-half c = ?
-
--- src/lib.rt:32:24
-shl-half : tie.Need-shl-half
-shl-half c = ?
-
--- src/lib.rt:33:31
-sub-result : tie.Need-sub-result
-sub-result c = search needs
-
--- src/lib.rt:35:40
-shl-result : tie.Need-shl-result
-shl-result c = ?
-
--- src/lib.rt:35:34
 add-result : tie.Need-add-result
-add-result c = ?
+add-result c =
+    let start = c .before .before .before in
+    let s = slot-is (widthBy (start .args .wide)) (start .args .op) (start .args .k) _ (start .pre .0) (start .pre .1) (c .before .before .slot-at .ensures) in
+    let bits = c .before .before .slot-at .result .width + c .before .before .slot-at .result .extra in
+    let most : 2 ^ bits ≤ 2 ^ 25 = pow-mono (s .short) in
+    rw (one-shifted 32 bits (omega (arith, s .short))) (record { fits = omega arith })
 
--- src/lib.rt:36:18
-shl-result-2 : tie.Need-shl-result-2
-shl-result-2 c = ?
-
--- src/lib.rt:23:1
 returns : tie.Need-returns
-returns c = ?
+returns c =
+    let start = c .before .before .before in
+    let a = start .args in
+    let s = slot-is (widthBy (a .wide)) (a .op) (a .k) _ (start .pre .0) (start .pre .1) (c .before .before .slot-at .ensures) in
+    let bits = c .before .before .slot-at .result .width + c .before .before .slot-at .result .extra in
+    rw (one-shifted 32 bits (omega (arith, s .short)))
+    (signed-test bits (a .n) (s .short) (omega arith) (s .signed (c .match .keys1)) ∙ fits-by s Signed (signed-letter _ (sym (s .reading) ∙ c .match .keys1)) (signedOf 32 (a .n)))
 
--- src/lib.rt:23:1
 returns-2 : tie.Need-returns-2
-returns-2 c = ?
+returns-2 c =
+    let start = c .before .before .before in
+    let a = start .args in
+    let s = slot-is (widthBy (a .wide)) (a .op) (a .k) _ (start .pre .0) (start .pre .1) (c .before .before .slot-at .ensures) in
+    let bits = c .before .before .slot-at .result .width + c .before .before .slot-at .result .extra in
+    rw (one-shifted 32 bits (omega (arith, s .short)))
+    (high-test bits (a .n) (s .short) (omega arith) ∙ fits-by s High (high-letter _ (sym (s .reading) ∙ c .match .keys2)) (signedOf 32 (a .n)))
 
--- src/lib.rt:23:1
 returns-3 : tie.Need-returns-3
-returns-3 c = ?
+returns-3 c =
+    let start = c .before .before .before in
+    let a = start .args in
+    let s = slot-is (widthBy (a .wide)) (a .op) (a .k) _ (start .pre .0) (start .pre .1) (c .before .before .slot-at .ensures) in
+    let bits = c .before .before .slot-at .result .width + c .before .before .slot-at .result .extra in
+    let others = c .match .rest in
+    rw (one-shifted 32 bits (omega (arith, s .short)))
+    (natural-test bits (a .n) (s .short) (omega arith)
+    ∙ fits-by s Natural (other-letter _ (λ e. others .0 .1 (s .reading ∙ e)) (λ e. others .1 (s .reading ∙ e))) (signedOf 32 (a .n)))
 
 pub operand-fits-spec : {M : Type 1} → statement M
 operand-fits-spec =
     tie.close
     (tie.spec
-    slot-at-requires
-    add-bits
-    sub-half
-    shl-half
-    sub-result
-    shl-result
+    (λ c κs. search needs)
+    add-count
+    shl-count
+    (λ c. search needs)
     add-result
-    shl-result-2
     returns
     returns-2
     returns-3)

@@ -1,24 +1,20 @@
+-- `encoder::put` meets its contract: 1 shifted by less than the width is a power of 2, and nothing is shifted out. Assumes nothing.
+use Prim.Native.Nat.{_%_, _^_, _<_}
+use native.Mathlib.Nat.{mod-lt, add-comm}
+use native.Mathlib.Omega.{arith}
+use lib.Pow.{pow-pos, shl-exact}
 use borrow.Author.Needs.{needs}
+use Rattle.word.proofs.Integers.{one-shifted}
 use Rattle.encoder.proofs.put.Statement.{statement}
 use Rattle.encoder.proofs.put.Tie as tie
-use Rattle.encoder.proofs.put.Reads as reads
-use Rattle.encoder.proofs.put.Lts as lts
 
--- src/lib.rt:45:10
-shl-result : tie.Need-shl-result
-shl-result c = search needs
-
--- src/lib.rt:45:5
 rem-result : tie.Need-rem-result
-rem-result c = ?
+rem-result c = rw (one-shifted 32 (c .args .width) (c .pre .1)) (pow-pos (c .args .width))
 
--- src/lib.rt:45:5
-shl-result-2 : tie.Need-shl-result-2
-shl-result-2 c = search needs
-
--- src/lib.rt:41:1
 returns : tie.Need-returns
-returns c = ?
+returns c =
+    let a = c .args in
+    rw (one-shifted 32 (a .width) (c .pre .1)) (shl-exact (a .width) (a .place) 32 (mod-lt (a .n) (pow-pos (a .width))) (omega arith))
 
 pub put-spec : {M : Type 1} → statement M
-put-spec = tie.close (tie.spec shl-result rem-result shl-result-2 returns)
+put-spec = tie.close (tie.spec (λ c. search needs) rem-result (λ c. search needs) returns)

@@ -1,66 +1,77 @@
+-- `encoder::word_of` meets its contract: the fields used share no bit, so their sum fits a word. Assumes nothing.
+use native.Mathlib.Omega.{arith}
 use borrow.Author.Needs.{needs}
+use Rattle.isa.specs.Operation.{widthBy}
+use Rattle.encoder.proofs.Forms.{operation-below, sum-is, sum-below}
 use Rattle.encoder.proofs.word_of.Statement.{statement}
 use Rattle.encoder.proofs.word_of.Tie as tie
-use Rattle.encoder.proofs.word_of.Reads as reads
-use Rattle.encoder.proofs.word_of.Lts as lts
-use Rattle.encoder.proofs.guard_bits.Reads as guard-bits-reads
-use Rattle.encoder.proofs.operand_bits.Reads as operand-bits-reads
-use Rattle.encoder.proofs.put.Reads as put-reads
 
--- src/lib.rt:116:5
-put-requires : tie.Need-put-requires
-put-requires c κs = ?
-
--- src/lib.rt:117:11
-guard-bits-requires : tie.Need-guard-bits-requires
-guard-bits-requires c κs = search needs
-
--- src/lib.rt:116:5
 add-result : tie.Need-add-result
-add-result c = ?
+add-result c =
+    let start = c .before .before in
+    let a = start .args in
+    record { fits = omega (arith, sum-below (widthBy (a .wide)) (a .op) (a .conditional) (a .creg) (a .condition) (start .pre) (a .a) (a .b) (a .c) (a .d) (omega arith) (omega arith) (omega arith) (omega arith), c .guard-bits .ensures, c .before .operation-bits .ensures) }
 
--- src/lib.rt:118:11
 operand-bits-requires : tie.Need-operand-bits-requires
-operand-bits-requires c κs = ?
+operand-bits-requires c κs =
+    let start = c .before .before in
+    let a = start .args in
+    (operation-below (widthBy (a .wide)) (a .op) (a .conditional) (a .creg) (a .condition) (start .pre), omega arith)
 
--- src/lib.rt:116:5
 add-result-2 : tie.Need-add-result-2
-add-result-2 c = ?
+add-result-2 c =
+    let start = c .before .before .before in
+    let a = start .args in
+    record { fits = omega (arith, sum-below (widthBy (a .wide)) (a .op) (a .conditional) (a .creg) (a .condition) (start .pre) (a .a) (a .b) (a .c) (a .d) (omega arith) (omega arith) (omega arith) (omega arith), c .operand-bits .ensures, c .before .guard-bits .ensures, c .before .before .operation-bits .ensures) }
 
--- src/lib.rt:119:11
 operand-bits-requires-2 : tie.Need-operand-bits-requires-2
-operand-bits-requires-2 c κs = ?
+operand-bits-requires-2 c κs =
+    let start = c .before .before .before in
+    let a = start .args in
+    (operation-below (widthBy (a .wide)) (a .op) (a .conditional) (a .creg) (a .condition) (start .pre), omega arith)
 
--- src/lib.rt:116:5
 add-result-3 : tie.Need-add-result-3
-add-result-3 c = ?
+add-result-3 c =
+    let start = c .before .before .before .before in
+    let a = start .args in
+    record { fits = omega (arith, sum-below (widthBy (a .wide)) (a .op) (a .conditional) (a .creg) (a .condition) (start .pre) (a .a) (a .b) (a .c) (a .d) (omega arith) (omega arith) (omega arith) (omega arith), c .operand-bits2 .ensures, c .before .operand-bits .ensures, c .before .before .guard-bits .ensures, c .before .before .before .operation-bits .ensures) }
 
--- src/lib.rt:120:11
 operand-bits-requires-3 : tie.Need-operand-bits-requires-3
-operand-bits-requires-3 c κs = ?
+operand-bits-requires-3 c κs =
+    let start = c .before .before .before .before in
+    let a = start .args in
+    (operation-below (widthBy (a .wide)) (a .op) (a .conditional) (a .creg) (a .condition) (start .pre), omega arith)
 
--- src/lib.rt:116:5
 add-result-4 : tie.Need-add-result-4
-add-result-4 c = ?
+add-result-4 c =
+    let start = c .before .before .before .before .before in
+    let a = start .args in
+    record { fits = omega (arith, sum-below (widthBy (a .wide)) (a .op) (a .conditional) (a .creg) (a .condition) (start .pre) (a .a) (a .b) (a .c) (a .d) (omega arith) (omega arith) (omega arith) (omega arith), c .operand-bits3 .ensures, c .before .operand-bits2 .ensures, c .before .before .operand-bits .ensures, c .before .before .before .guard-bits .ensures, c .before .before .before .before .operation-bits .ensures) }
 
--- src/lib.rt:121:11
 operand-bits-requires-4 : tie.Need-operand-bits-requires-4
-operand-bits-requires-4 c κs = ?
+operand-bits-requires-4 c κs =
+    let start = c .before .before .before .before .before in
+    let a = start .args in
+    (operation-below (widthBy (a .wide)) (a .op) (a .conditional) (a .creg) (a .condition) (start .pre), omega arith)
 
--- src/lib.rt:116:5
 add-result-5 : tie.Need-add-result-5
-add-result-5 c = ?
+add-result-5 c =
+    let start = c .before .before .before .before .before .before in
+    let a = start .args in
+    record { fits = omega (arith, sum-below (widthBy (a .wide)) (a .op) (a .conditional) (a .creg) (a .condition) (start .pre) (a .a) (a .b) (a .c) (a .d) (omega arith) (omega arith) (omega arith) (omega arith), c .operand-bits4 .ensures, c .before .operand-bits3 .ensures, c .before .before .operand-bits2 .ensures, c .before .before .before .operand-bits .ensures, c .before .before .before .before .guard-bits .ensures, c .before .before .before .before .before .operation-bits .ensures) }
 
--- src/lib.rt:102:1
 returns : tie.Need-returns
-returns c = ?
+returns c =
+    let start = c .before .before .before .before .before .before in
+    let a = start .args in
+    rw (c .operand-bits4 .ensures, c .before .operand-bits3 .ensures, c .before .before .operand-bits2 .ensures, c .before .before .before .operand-bits .ensures, c .before .before .before .before .guard-bits .ensures, c .before .before .before .before .before .operation-bits .ensures)
+    (sum-is (widthBy (a .wide)) (a .op) (a .conditional) (a .creg) (a .condition) (start .pre) (a .a) (a .b) (a .c) (a .d) (omega arith) (omega arith) (omega arith) (omega arith))
 
 pub word-of-spec : {M : Type 1} → statement M
 word-of-spec =
     tie.close
     (tie.spec
-    put-requires
-    guard-bits-requires
+    (λ c κs. search needs) (λ c κs. search needs)
     add-result
     operand-bits-requires
     add-result-2
