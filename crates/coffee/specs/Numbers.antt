@@ -1,9 +1,12 @@
--- A run call's answer as three numbers, for C. Assumes nothing.
+-- Answers as numbers, for C. Assumes nothing.
 use mathlib.Core.List.{List}
-use Prim.Native.Nat.{ℕ}
+use Prim.Native.Nat.{ℕ, _+_, _^_}
 use Rattle.machine.specs.Machine.{Memory}
 use Rattle.emulator.specs.Run.{Reply, RefusedWith, RanFor, Outcome}
+use Rattle.encoder.specs.Encode.{Encoding, Encodes, RefusedWith as EncodingRefused}
 use Rattle.coffee.specs.declared.CoffeeAnswer.{CoffeeAnswer}
+
+-- ---- a run call
 
 -- the refusal's number; or 0, the steps done and the ending
 unfoldable pub answerNumbers : Reply → CoffeeAnswer
@@ -22,3 +25,10 @@ shown answer buffer memory = record { answer = answer; buffer = buffer; memory =
 -- what a run call gives, its answer as numbers
 abbrev pub inNumbers : Outcome → Shown
 inNumbers o = shown (answerNumbers (o .answer)) (o .buffer) (o .memory)
+
+-- ---- an encoding
+
+-- the word, which has at most 32 bits; or 2 ^ 32 and the refusal's number
+unfoldable pub encodingNumber : Encoding → ℕ
+encodingNumber (Encodes word) = word
+encodingNumber (EncodingRefused n) = 2 ^ 32 + n

@@ -1,14 +1,16 @@
-// The C interface: the calls of the emulator and of the listing with numbers and slices only. include/coffee.h declares them for C.
+// The C interface: the calls of the emulator, the listing and the encoder with numbers and slices only. include/coffee.h declares them for C.
 ghost use mathlib.Core.Path.{_≡_};
 ghost use mathlib.Core.Bool.{not};
 ghost use lib.Dec.{eqb};
 ghost use Rattle.isa.specs.Operation.{widthBy};
 ghost use Rattle.listing.specs.Listing.{listed, listingCall};
+ghost use Rattle.encoder.specs.Encode.{chosen, encodingOf, encodeOf};
 ghost use Rattle.emulator.specs.Run.{replyOf, runCall};
 ghost use Rattle.emulator.specs.Reset.{resetOutcome, resetCall};
-ghost use Rattle.coffee.specs.Numbers.{answerNumbers, shown, inNumbers};
+ghost use Rattle.coffee.specs.Numbers.{answerNumbers, shown, inNumbers, encodingNumber};
 ghost use Rattle.machine.specs.Machine.{memoryOf};
 use emulator::Answer;
+use encoder::Encoded;
 
 // What a run call answers, in numbers.
 #[repr(C)]
@@ -67,4 +69,42 @@ pub extern "C" fn coffee_listing(program: &[u8], wide: u32, text: &mut [u8]) -> 
     ensures { λ r. ⌜ listed r (now (text .exit)) ≡ listingCall (widthBy (not (eqb wide 0))) (now (program .entry)) (now (text .entry)) ⌝ }
 {
     listing::list(program, wide != 0, text)
+}
+
+// A word, or 2^32 and the number of a refusal.
+fn encoding_number(e: Encoded) -> u64
+    ensures { λ r. ⌜ r ≡ encodingNumber (encodingOf e) ⌝ }
+{
+    match e {
+        Encoded::Word(w) => w as u64,
+        Encoded::Refusal(n) => 0x1_0000_0000 + n as u64,
+    }
+}
+
+// Makes an instruction word from what a listing shows of it; wide 0 is 16-bit words, conditional 0 is no condition.
+#[no_mangle]
+pub extern "C" fn coffee_encode(
+    operation: u32,
+    wide: u32,
+    conditional: u32,
+    creg: u32,
+    condition: u32,
+    a: i32,
+    b: i32,
+    c: i32,
+    d: i32,
+) -> u64
+    ensures { λ r. ⌜ r ≡ encodingNumber (encodeOf (widthBy (not (eqb wide 0))) (chosen operation (not (eqb conditional 0)) creg condition a b c d)) ⌝ }
+{
+    encoding_number(encoder::encode(
+        operation,
+        wide != 0,
+        conditional != 0,
+        creg,
+        condition,
+        a,
+        b,
+        c,
+        d,
+    ))
 }

@@ -135,7 +135,7 @@ module _ (width : Width) (n : ℕ) (conditional : Bool) (creg condition : ℕ) (
         let small = operation-below in
         let operation = ap (placedIn (operationField width)) (word-natural 32 n (omega arith)) in
         let others = written-append guard
-          (operandPart width o 0 (signedOf 32 a) ∷ operandPart width o 1 (signedOf 32 b) ∷ operandPart width o 2 (signedOf 32 c) ∷ operandPart width o 3 (signedOf 32 d) ∷ [])
+        (operandPart width o 0 (signedOf 32 a) ∷ operandPart width o 1 (signedOf 32 b) ∷ operandPart width o 2 (signedOf 32 c) ∷ operandPart width o 3 (signedOf 32 d) ∷ [])
         in
         let first = ap (placedIn (shownFields width o 0)) (word-signed 32 (omega arith) a h) in
         let second = ap (placedIn (shownFields width o 1)) (word-signed 32 (omega arith) b i) in
