@@ -53,15 +53,15 @@ fn copy_with_faults(crate_root: &Path) {
             }
             source.replace("crate::", "super::").replace("//!", "//")
         };
-        // Calls need no listing; a listing needs decoding, and of lib.rs the constants.
+        // What each copy needs of the modules, and of lib.rs.
         let takes_module = |name: &str| match fault.shown_by {
-            ShownBy::Calls => name != "listing",
-            ShownBy::Listings => matches!(name, "listing" | "decode"),
+            ShownBy::Calls => !matches!(name, "listing" | "encode" | "operands"),
+            ShownBy::Listings => matches!(name, "listing" | "operands" | "decode"),
             ShownBy::Both => true,
         };
         let takes_line = |line: &str| match fault.shown_by {
-            ShownBy::Calls => line != "pub use listing::listing;",
-            ShownBy::Listings => line.starts_with("const ") || line == "pub use listing::listing;",
+            ShownBy::Calls => !line.starts_with("pub use "),
+            ShownBy::Listings => line.starts_with("const ") || line.starts_with("pub use listing"),
             ShownBy::Both => true,
         };
         for change in fault.changes {
