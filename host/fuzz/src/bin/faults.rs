@@ -37,9 +37,11 @@ fn main() -> ExitCode {
         seed: SEED,
         calls: Some(CALLS),
         seconds: None,
-        case: None,
         words: WORDS,
+        choices: 0,
+        case: None,
         listing: None,
+        choice: None,
     };
     let mut arguments: Vec<String> = std::env::args().skip(1).collect();
     let name = match arguments.len() % 2 {
