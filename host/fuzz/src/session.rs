@@ -49,7 +49,7 @@ pub struct Options {
     pub seconds: Option<u64>,
     /// The number of 32-bit words after which no new listing starts.
     pub words: u64,
-    /// The number of choices to write words from; every 16-bit word is written in any case.
+    /// The number of choices to write words from, but for every 16-bit word at the least.
     pub choices: u64,
     /// Only this case, listing or choice, and nothing of the others.
     pub case: Option<u64>,
