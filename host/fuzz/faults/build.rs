@@ -36,7 +36,7 @@ fn copy_with_faults(crate_root: &Path) {
     let mut table = String::from("pub const FAULTS: &[Faulty] = &[\n");
     let unchanged = list::Fault {
         name: "none",
-        shown_by: ShownBy::Both,
+        shown_by: ShownBy::All,
         changes: &[],
     };
     for (index, fault) in std::iter::once(&unchanged).chain(list::FAULTS).enumerate() {
@@ -53,16 +53,18 @@ fn copy_with_faults(crate_root: &Path) {
             }
             source.replace("crate::", "super::").replace("//!", "//")
         };
-        // Calls need no listing; a listing needs decoding, and of lib.rs the constants.
+        // What each copy needs of the modules, and of lib.rs.
         let takes_module = |name: &str| match fault.shown_by {
-            ShownBy::Calls => name != "listing",
-            ShownBy::Listings => matches!(name, "listing" | "decode"),
-            ShownBy::Both => true,
+            ShownBy::Calls => !matches!(name, "listing" | "encode" | "operands"),
+            ShownBy::Listings => matches!(name, "listing" | "operands" | "decode"),
+            ShownBy::Choices => matches!(name, "encode" | "operands" | "decode"),
+            ShownBy::All => true,
         };
         let takes_line = |line: &str| match fault.shown_by {
-            ShownBy::Calls => line != "pub use listing::listing;",
-            ShownBy::Listings => line.starts_with("const ") || line == "pub use listing::listing;",
-            ShownBy::Both => true,
+            ShownBy::Calls => !line.starts_with("pub use "),
+            ShownBy::Listings => line.starts_with("const ") || line.starts_with("pub use listing"),
+            ShownBy::Choices => line.starts_with("pub use encode"),
+            ShownBy::All => true,
         };
         for change in fault.changes {
             assert!(
@@ -84,17 +86,22 @@ fn copy_with_faults(crate_root: &Path) {
             text += &format!("mod {name} {{\n{}}}\n", changed(name));
         }
         let mut run = String::from("None");
-        if fault.shown_by != ShownBy::Listings {
+        if matches!(fault.shown_by, ShownBy::Calls | ShownBy::All) {
             text += CALL;
             run = format!("Some(fault_{index}::call)");
         }
         let mut listing = String::from("None");
-        if fault.shown_by != ShownBy::Calls {
+        if matches!(fault.shown_by, ShownBy::Listings | ShownBy::All) {
             listing = format!("Some(fault_{index}::listing)");
+        }
+        let mut encode = String::from("None");
+        if matches!(fault.shown_by, ShownBy::Choices | ShownBy::All) {
+            text += CHOOSE;
+            encode = format!("Some(fault_{index}::choose)");
         }
         text += "}\n";
         table += &format!(
-            "    Faulty {{ name: {:?}, run: {run}, listing: {listing} }},\n",
+            "    Faulty {{ name: {:?}, run: {run}, listing: {listing}, encode: {encode} }},\n",
             fault.name
         );
     }
@@ -119,5 +126,19 @@ pub fn call(
         steps: answer.steps,
         ending: answer.ending,
     }
+}
+";
+
+/// The writing of words of a copy, with the reference's own type of choice.
+const CHOOSE: &str = "
+pub fn choose(choice: &coffee_reference::Choice) -> u64 {
+    encode(&Choice {
+        operation: choice.operation,
+        wide: choice.wide,
+        conditional: choice.conditional,
+        creg: choice.creg,
+        condition: choice.condition,
+        operands: choice.operands,
+    })
 }
 ";

@@ -1,17 +1,21 @@
-//! `fuzz [--seed N] [--calls N] [--seconds N] [--case N] [--words N] [--listing N]`: compares
-//! the COFFEE library with the reference emulator on every 16-bit word and on random 32-bit
-//! words, listed, and on seeded random calls.
+//! `fuzz [--seed N] [--calls N] [--seconds N] [--words N] [--choices N]`, and `[--case N]`,
+//! `[--listing N]` or `[--choice N]` to repeat one: compares the COFFEE library with the
+//! reference emulator on every 16-bit word and on random 32-bit words, listed; on words
+//! written from every 16-bit word, from random 32-bit words and from random choices; and on
+//! seeded random calls.
 //!
-//! Prints what the listings and the calls met, `fuzz: N 32-bit words and N 16-bit words
-//! listed, no difference`, and at the end `fuzz: N calls, no difference`; or the first
-//! difference, with everything that is needed to repeat it, and ends with 1. It ends with 1
-//! too where 200,000 32-bit words or more, or 2,000,000 calls or more, did not meet all that
-//! they should.
+//! Prints what each of the three met, `fuzz: N 32-bit words and N 16-bit words listed, no
+//! difference`, `fuzz: N choices compared, N 32-bit words and N 16-bit words among them, no
+//! difference`, and at the end `fuzz: N calls, no difference`; or the first difference, with
+//! everything that is needed to repeat it, and ends with 1. It ends with 1 too where 200,000
+//! 32-bit words or more, 2,000,000 choices or more, or 2,000,000 calls or more, did not meet
+//! all that they should.
 
 use coffee_fuzz::compare::Sides;
+use coffee_fuzz::encode;
 use coffee_fuzz::image::LONGEST;
 use coffee_fuzz::listing;
-use coffee_fuzz::session::{self, Options, CURRENT_CASE, CURRENT_IS_LISTING};
+use coffee_fuzz::session::{self, noted, Options};
 use std::process::ExitCode;
 use std::sync::atomic::{AtomicU64, Ordering};
 use std::time::Instant;
@@ -20,11 +24,15 @@ use std::time::Instant;
 const SEED: u64 = 1;
 const CALLS: u64 = 2_000_000;
 const WORDS: u64 = 200_000;
+const CHOICES: u64 = 2_000_000;
+
+const USAGE: &str = "fuzz [--seed N] [--calls N] [--seconds N] [--words N] [--choices N] \
+                     [--case N] [--listing N] [--choice N]";
 
 mod library {
     //! The C interface of libcoffee.a.
 
-    use coffee_reference::Answer;
+    use coffee_reference::{Answer, Choice};
 
     #[repr(C)]
     struct CoffeeAnswer {
@@ -55,6 +63,17 @@ mod library {
             text: *mut u8,
             text_bytes: usize,
         ) -> u32;
+        fn coffee_encode(
+            operation: u32,
+            wide: u32,
+            conditional: u32,
+            creg: u32,
+            condition: u32,
+            a: i32,
+            b: i32,
+            c: i32,
+            d: i32,
+        ) -> u64;
     }
 
     pub fn run(
@@ -108,20 +127,28 @@ mod library {
         };
         unsafe { coffee_listing(program_start, program.len(), wide, text_start, text.len()) }
     }
+
+    pub fn encode(choice: &Choice) -> u64 {
+        let [a, b, c, d] = choice.operands;
+        // Numbers alone.
+        unsafe {
+            coffee_encode(
+                choice.operation,
+                choice.wide,
+                choice.conditional,
+                choice.creg,
+                choice.condition,
+                a,
+                b,
+                c,
+                d,
+            )
+        }
+    }
 }
 
 /// The seed, for a message where the process ends by a panic or a signal.
 static CURRENT_SEED: AtomicU64 = AtomicU64::new(0);
-
-/// The option that repeats what is being run, and its number.
-fn current() -> (&'static str, u64) {
-    let option = if CURRENT_IS_LISTING.load(Ordering::Relaxed) {
-        "--listing"
-    } else {
-        "--case"
-    };
-    (option, CURRENT_CASE.load(Ordering::Relaxed))
-}
 
 /// Sees to it that the seed and the case are told where the process ends early.
 fn watch(seed: u64) {
@@ -129,8 +156,8 @@ fn watch(seed: u64) {
     let usual = std::panic::take_hook();
     std::panic::set_hook(Box::new(move |panic| {
         usual(panic);
-        let (option, case) = current();
-        eprintln!("fuzz: panic; repeat with --seed {seed} {option} {case}");
+        let (option, number) = noted();
+        eprintln!("fuzz: panic; repeat with --seed {seed} {option} {number}");
     }));
     #[cfg(target_os = "linux")]
     signals::watch();
@@ -153,12 +180,12 @@ mod signals {
 
     extern "C" fn report(number: i32) {
         let seed = CURRENT_SEED.load(Ordering::Relaxed);
-        let (option, case) = current();
+        let (option, repeated) = noted();
         let mut line = [0; 100];
         let mut rest = &mut line[..];
         let _ = writeln!(
             rest,
-            "fuzz: signal {number}; repeat with --seed {seed} {option} {case}"
+            "fuzz: signal {number}; repeat with --seed {seed} {option} {repeated}"
         );
         let unused = rest.len();
         let _ = std::io::stderr().write_all(&line[..line.len() - unused]);
@@ -177,17 +204,17 @@ fn main() -> ExitCode {
         seed: SEED,
         calls: Some(CALLS),
         seconds: None,
-        case: None,
         words: WORDS,
+        choices: CHOICES,
+        case: None,
         listing: None,
+        choice: None,
     };
     let options = match session::options(usual, std::env::args().skip(1)) {
         Ok(options) => options,
         Err(message) => {
             eprintln!("fuzz: {message}");
-            eprintln!(
-                "fuzz [--seed N] [--calls N] [--seconds N] [--case N] [--words N] [--listing N]"
-            );
+            eprintln!("{USAGE}");
             return ExitCode::from(2);
         }
     };
@@ -197,18 +224,27 @@ fn main() -> ExitCode {
         println!("{message}");
         return ExitCode::FAILURE;
     }
-    if options.case.is_none() && !compare_listings(&options) {
+    let one_alone = options.case.is_some() || options.listing.is_some() || options.choice.is_some();
+    if (options.listing.is_some() || !one_alone) && !compare_listings(&options) {
         return ExitCode::FAILURE;
     }
-    if options.listing.is_some() {
-        return ExitCode::SUCCESS;
+    if (options.choice.is_some() || !one_alone) && !compare_choices(&options) {
+        return ExitCode::FAILURE;
     }
+    if (options.case.is_some() || !one_alone) && !compare_calls(&options) {
+        return ExitCode::FAILURE;
+    }
+    ExitCode::SUCCESS
+}
+
+/// Compares calls, prints what they met, and says whether all is as it should be.
+fn compare_calls(options: &Options) -> bool {
     let start = Instant::now();
     let sides = Sides {
         reference: coffee_reference::run,
         library: library::run,
     };
-    let outcome = session::run(&options, sides);
+    let outcome = session::run(options, sides);
     let coverage = &outcome.coverage;
     println!(
         "seed {}: {} calls in {} lists, {:.1} s",
@@ -220,7 +256,7 @@ fn main() -> ExitCode {
     print!("{}", coverage.report());
     if let Some(found) = &outcome.found {
         print!("{}", session::explain(found, sides));
-        return ExitCode::FAILURE;
+        return false;
     }
     let unmet = match options.case {
         Some(_) => Vec::new(),
@@ -232,9 +268,9 @@ fn main() -> ExitCode {
     println!("fuzz: {} calls, no difference", coverage.calls);
     if coverage.calls >= CALLS && !unmet.is_empty() {
         println!("fuzz: failed, for these calls should have met all");
-        return ExitCode::FAILURE;
+        return false;
     }
-    ExitCode::SUCCESS
+    true
 }
 
 /// Compares listings, prints what they met, and says whether all is as it should be.
@@ -268,6 +304,45 @@ fn compare_listings(options: &Options) -> bool {
     println!("fuzz: {wide} 32-bit words and {short} 16-bit words listed, no difference");
     if wide >= WORDS && !unmet.is_empty() {
         println!("fuzz: failed, for these listings should have met all");
+        return false;
+    }
+    true
+}
+
+/// Compares written words, prints what they met, and says whether all is as it should be.
+fn compare_choices(options: &Options) -> bool {
+    let start = Instant::now();
+    let sides = encode::Sides {
+        reference: coffee_reference::encode,
+        library: library::encode,
+    };
+    let outcome = encode::run(options, sides);
+    let coverage = &outcome.coverage;
+    println!(
+        "seed {}: {} choices, {:.1} s",
+        options.seed,
+        coverage.choices,
+        start.elapsed().as_secs_f64()
+    );
+    print!("{}", coverage.report());
+    if let Some(found) = &outcome.found {
+        print!("{}", encode::explain(found));
+        return false;
+    }
+    let unmet = match options.choice {
+        Some(_) => Vec::new(),
+        None => coverage.unmet(),
+    };
+    for what in &unmet {
+        println!("not met: {what}");
+    }
+    let [short, wide] = coverage.words();
+    println!(
+        "fuzz: {} choices compared, {wide} 32-bit words and {short} 16-bit words among them, no difference",
+        coverage.choices
+    );
+    if coverage.choices >= CHOICES && !unmet.is_empty() {
+        println!("fuzz: failed, for these choices should have met all");
         return false;
     }
     true

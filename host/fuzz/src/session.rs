@@ -5,7 +5,7 @@ use crate::compare::{Bench, Difference, Sides};
 use crate::coverage::{Coverage, Tracer};
 use crate::random::Random;
 use crate::shrink::{describe, shrink};
-use std::sync::atomic::{AtomicBool, AtomicU64, Ordering};
+use std::sync::atomic::{AtomicU64, AtomicUsize, Ordering};
 use std::time::{Duration, Instant};
 
 /// One call in this many is repeated step by step.
@@ -13,9 +13,31 @@ const TRACED: u32 = 8;
 /// A case has at most this many calls.
 const LONGEST_LIST: u32 = 10;
 
-/// The case that is being run, or the listing, for a message where the process ends early.
-pub static CURRENT_CASE: AtomicU64 = AtomicU64::new(0);
-pub static CURRENT_IS_LISTING: AtomicBool = AtomicBool::new(false);
+/// What is being compared, each with the option that repeats one of its kind.
+#[derive(Clone, Copy)]
+pub enum Kind {
+    Case,
+    Listing,
+    Choice,
+}
+
+const KIND_OPTIONS: [&str; 3] = ["--case", "--listing", "--choice"];
+
+/// The case, listing or choice that is being run, for a message where the process ends early.
+static CURRENT_NUMBER: AtomicU64 = AtomicU64::new(0);
+static CURRENT_KIND: AtomicUsize = AtomicUsize::new(0);
+
+/// Notes what is being run.
+pub fn note(kind: Kind, number: u64) {
+    CURRENT_KIND.store(kind as usize, Ordering::Relaxed);
+    CURRENT_NUMBER.store(number, Ordering::Relaxed);
+}
+
+/// The option that repeats what is being run, and its number.
+pub fn noted() -> (&'static str, u64) {
+    let kind = CURRENT_KIND.load(Ordering::Relaxed);
+    (KIND_OPTIONS[kind], CURRENT_NUMBER.load(Ordering::Relaxed))
+}
 
 /// What a session is to do.
 #[derive(Clone, Debug)]
@@ -25,12 +47,14 @@ pub struct Options {
     pub calls: Option<u64>,
     /// The seconds after which no new case starts.
     pub seconds: Option<u64>,
-    /// Only this case, and no listing.
-    pub case: Option<u64>,
     /// The number of 32-bit words after which no new listing starts.
     pub words: u64,
-    /// Only this listing, and no case.
+    /// The number of choices to write words from, but for every 16-bit word at the least.
+    pub choices: u64,
+    /// Only this case, listing or choice, and nothing of the others.
+    pub case: Option<u64>,
     pub listing: Option<u64>,
+    pub choice: Option<u64>,
 }
 
 /// A difference and where it was found.
@@ -66,8 +90,7 @@ pub fn run(options: &Options, sides: Sides) -> Outcome {
     let mut found = None;
     let mut case = options.case.unwrap_or(0);
     loop {
-        CURRENT_IS_LISTING.store(false, Ordering::Relaxed);
-        CURRENT_CASE.store(case, Ordering::Relaxed);
+        note(Kind::Case, case);
         let mut random = Random::of_case(options.seed, case);
         if let Err((difference, stepwise)) = session.case(&mut random) {
             found = Some(Found {
@@ -214,6 +237,8 @@ pub fn options(
             "--case" => options.case = Some(value),
             "--words" => options.words = value,
             "--listing" => options.listing = Some(value),
+            "--choices" => options.choices = value,
+            "--choice" => options.choice = Some(value),
             "--calls" | "--seconds" => {
                 // A limit that is given replaces the usual ones.
                 if !limited {
@@ -242,9 +267,11 @@ mod tests {
         seed: 5,
         calls: Some(3000),
         seconds: None,
-        case: None,
         words: 0,
+        choices: 0,
+        case: None,
         listing: None,
+        choice: None,
     };
 
     /// The reference agrees with itself, and a session can be repeated.

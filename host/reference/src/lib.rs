@@ -1,14 +1,16 @@
 //! A reference emulator of the COFFEE core, to compare other implementations with.
 //!
 //! It is written from three papers alone: 02 (the change requests, of which wishes 1 to 3
-//! are done), 01 (the board's rules) and 002 (the COFFEE Core user manual, July 2007). Where
-//! they differ, 02 decides, then 01. It is meant to be read beside them, and puts clarity
-//! before speed.
+//! and 7 are done), 01 (the board's rules) and 002 (the COFFEE Core user manual, July 2007).
+//! Where they differ, 02 decides, then 01. It is meant to be read beside them, and puts
+//! clarity before speed.
 
 mod decode;
+mod encode;
 mod image;
 mod listing;
 mod machine;
+mod operands;
 mod step;
 
 #[cfg(test)]
@@ -17,6 +19,7 @@ mod tests;
 use image::{write_image, Sections, LONGEST_IMAGE};
 use machine::Machine;
 
+pub use encode::{cleared, encode, operand_ranges, reading, Choice};
 pub use listing::listing;
 
 /// "Program at most 65,536 bytes"

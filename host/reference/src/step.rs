@@ -437,7 +437,11 @@ impl Machine {
             Exb => self.write_register(target, first >> (8 * extended) & 0xFF),
             Exh => self.write_register(target, first >> (16 * extended) & 0xFFFF),
             Exbf => self.write_register(target, extract_field(first, second)),
-            Exbfi => self.write_register(target, extract_field(first, extended)),
+            // Its length and position stand to each other as those of exbf's second source.
+            Exbfi => {
+                let field = (instruction.length << 5 | immediate) as u32;
+                self.write_register(target, extract_field(first, field));
+            }
         }
         Ok(())
     }

@@ -1,12 +1,14 @@
-//! `faults [--seed N] [--calls N] [--seconds N] [--words N] [NAME]`: shows that the comparison
-//! can fail. Each fault of faults/list.rs is put into a copy of the reference, alone; the copy
-//! is compared with the reference as the library would be, by calls or by listings.
+//! `faults [--seed N] [--calls N] [--seconds N] [--words N] [--choices N] [NAME]`: shows that
+//! the comparison can fail. Each fault of faults/list.rs is put into a copy of the reference,
+//! alone; the copy is compared with the reference as the library would be, by calls, by
+//! listings or by written words.
 //!
-//! Prints for each fault the number of calls or of listed words after which it was found, and
-//! ends with 1 if one was not. With a name, prints that fault's difference in full.
+//! Prints for each fault the number of calls, of listed words or of choices after which it was
+//! found, and ends with 1 if one was not. With a name, prints that fault's difference in full.
 
 use coffee_faults::FAULTS;
 use coffee_fuzz::compare::Sides;
+use coffee_fuzz::encode;
 use coffee_fuzz::listing;
 use coffee_fuzz::session::{self, Options};
 use std::process::ExitCode;
@@ -20,6 +22,9 @@ const UNCHANGED_CALLS: u64 = 20_000;
 /// A fault of the listing has to be found within this many 32-bit words, on which the copy
 /// without a fault has to agree.
 const WORDS: u64 = 200_000;
+/// A fault in writing words has to be found within this many choices, on which the copy
+/// without a fault has to agree.
+const CHOICES: u64 = 300_000;
 
 /// What the faults came to.
 #[derive(Default)]
@@ -27,9 +32,10 @@ struct Tally {
     tried: u64,
     /// Those that were not as they should be.
     wrong: u64,
-    /// The latest call and listing at which one was found.
+    /// The latest call, listing and choice at which one was found.
     latest_call: u64,
     latest_listing: u64,
+    latest_choice: u64,
 }
 
 fn main() -> ExitCode {
@@ -37,9 +43,11 @@ fn main() -> ExitCode {
         seed: SEED,
         calls: Some(CALLS),
         seconds: None,
-        case: None,
         words: WORDS,
+        choices: CHOICES,
+        case: None,
         listing: None,
+        choice: None,
     };
     let mut arguments: Vec<String> = std::env::args().skip(1).collect();
     let name = match arguments.len() % 2 {
@@ -50,7 +58,9 @@ fn main() -> ExitCode {
         Ok(options) => options,
         Err(message) => {
             eprintln!("faults: {message}");
-            eprintln!("faults [--seed N] [--calls N] [--seconds N] [--words N] [NAME]");
+            eprintln!(
+                "faults [--seed N] [--calls N] [--seconds N] [--words N] [--choices N] [NAME]"
+            );
             return ExitCode::from(2);
         }
     };
@@ -74,13 +84,20 @@ fn main() -> ExitCode {
             };
             try_listings(copy.name, sides, &options, name.is_some(), &mut tally);
         }
+        if let Some(encode) = copy.encode {
+            let sides = encode::Sides {
+                reference: coffee_reference::encode,
+                library: encode,
+            };
+            try_choices(copy.name, sides, &options, name.is_some(), &mut tally);
+        }
     }
     if tally.tried == 0 {
         eprintln!("faults: no such fault");
         return ExitCode::from(2);
     }
     println!(
-        "faults: {} tried, {}, the latest found at call {} and at listing {}",
+        "faults: {} tried, {}, the latest found at call {}, at listing {} and at choice {}",
         tally.tried,
         if tally.wrong == 0 {
             "all as they should be"
@@ -88,7 +105,8 @@ fn main() -> ExitCode {
             "NOT all found"
         },
         tally.latest_call,
-        tally.latest_listing
+        tally.latest_listing,
+        tally.latest_choice
     );
     if tally.wrong == 0 {
         ExitCode::SUCCESS
@@ -162,6 +180,42 @@ fn try_listings(
             println!(
                 "{fault}: no difference in {} listed words ({seconds:.2} s)",
                 outcome.coverage.words()
+            );
+            tally.wrong += u64::from(fault != "none");
+            if fault == "none" && in_full {
+                print!("{}", outcome.coverage.report());
+                for what in outcome.coverage.unmet() {
+                    println!("not met: {what}");
+                }
+            }
+        }
+    }
+}
+
+/// Compares the written words of a copy.
+fn try_choices(
+    fault: &str,
+    sides: encode::Sides,
+    options: &Options,
+    in_full: bool,
+    tally: &mut Tally,
+) {
+    let start = Instant::now();
+    let outcome = encode::run(options, sides);
+    let seconds = start.elapsed().as_secs_f64();
+    match &outcome.found {
+        Some(found) => {
+            println!("{fault}: found at choice {} ({seconds:.2} s)", found.choice);
+            tally.latest_choice = tally.latest_choice.max(found.choice);
+            tally.wrong += u64::from(fault == "none");
+            if in_full || fault == "none" {
+                print!("{}", encode::explain(found));
+            }
+        }
+        None => {
+            println!(
+                "{fault}: no difference in {} choices ({seconds:.2} s)",
+                outcome.coverage.choices
             );
             tally.wrong += u64::from(fault != "none");
             if fault == "none" && in_full {

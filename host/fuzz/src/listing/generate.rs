@@ -25,18 +25,22 @@ pub enum Text {
 
 /// Half of all 16-bit words, the first or the second, in an order that the seed gives.
 pub fn every_short_word(seed: u64, half: u64, random: &mut Random, input: &mut Input) {
-    // Multiplied by an odd number, the numbers of 16 bits change their order.
-    let mut order = Random::of_case(seed, 0);
-    let factor = order.word() | 1;
-    let first = order.word();
     input.program.clear();
     for number in 0..0x8000 {
-        let number = half as u32 * 0x8000 + number;
-        let word = number.wrapping_mul(factor).wrapping_add(first) as u16;
+        let word = short_word(seed, half as u32 * 0x8000 + number);
         input.program.extend_from_slice(&word.to_be_bytes());
     }
     input.wide = 0;
     lend(random, input, Text::Exact);
+}
+
+/// The 16-bit word with this number, below 65,536, in an order that the seed gives.
+pub fn short_word(seed: u64, number: u32) -> u16 {
+    // Multiplied by an odd number, the numbers of 16 bits change their order.
+    let mut order = Random::of_case(seed, 0);
+    let factor = order.word() | 1;
+    let first = order.word();
+    number.wrapping_mul(factor).wrapping_add(first) as u16
 }
 
 /// A program of 32-bit words that is as long as can be.
@@ -144,7 +148,7 @@ fn lend(random: &mut Random, input: &mut Input, kind: Text) {
 
 /// A 32-bit word: every operation as often, any bits, and often an immediate at one of its
 /// ends or where its number of digits changes.
-fn wide_word(random: &mut Random) -> u32 {
+pub fn wide_word(random: &mut Random) -> u32 {
     let operation = random.below(64);
     let word = operation << 26 | random.word() >> 6;
     let places = immediate_places(operation);

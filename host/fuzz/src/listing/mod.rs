@@ -7,12 +7,11 @@ mod generate;
 use crate::compare::{first_difference, Unlike};
 use crate::guarded::Guarded;
 use crate::random::Random;
-use crate::session::{Options, CURRENT_CASE, CURRENT_IS_LISTING};
+use crate::session::{note, Kind, Options};
 use crate::words::{self, word_at, NAMES};
 pub use coverage::Coverage;
-pub use generate::{every_short_word, longest, random_listing, Text};
+pub use generate::{every_short_word, longest, random_listing, short_word, wide_word, Text};
 use std::fmt;
-use std::sync::atomic::Ordering;
 
 /// "each instruction a line of exactly 47 characters and a newline"
 pub const LINE: usize = 48;
@@ -243,8 +242,7 @@ pub fn run(options: &Options, sides: Sides) -> Outcome {
     let mut found = None;
     let mut listing = options.listing.unwrap_or(0);
     loop {
-        CURRENT_IS_LISTING.store(true, Ordering::Relaxed);
-        CURRENT_CASE.store(listing, Ordering::Relaxed);
+        note(Kind::Listing, listing);
         let mut random = Random::of_case(options.seed, listing);
         match listing {
             0 | 1 => every_short_word(options.seed, listing, &mut random, &mut input),
@@ -298,9 +296,11 @@ mod tests {
         seed: 5,
         calls: None,
         seconds: None,
-        case: None,
         words: 200_000,
+        choices: 0,
+        case: None,
         listing: None,
+        choice: None,
     };
 
     /// The reference agrees with itself, meets all that it should, and a session can be

@@ -7,17 +7,17 @@ use crate::listing;
 const KEPT: u8 = 0xA5;
 
 /// The bytes of 32-bit words.
-fn bytes_32(words: &[u32]) -> Vec<u8> {
+pub fn bytes_32(words: &[u32]) -> Vec<u8> {
     words.iter().flat_map(|word| word.to_be_bytes()).collect()
 }
 
 /// The bytes of 16-bit words.
-fn bytes_16(words: &[u16]) -> Vec<u8> {
+pub fn bytes_16(words: &[u16]) -> Vec<u8> {
     words.iter().flat_map(|word| word.to_be_bytes()).collect()
 }
 
 /// The listing of a program that is not refused, in a buffer of just its length.
-fn list(program: &[u8], wide: u32) -> String {
+pub fn list(program: &[u8], wide: u32) -> String {
     let word_bytes = if wide == 0 { 2 } else { 4 };
     let mut text = vec![KEPT; program.len() / word_bytes * 48];
     assert_eq!(listing(program, wide, &mut text), 0);
@@ -26,7 +26,7 @@ fn list(program: &[u8], wide: u32) -> String {
 
 /// Condition, name and operands of a line, their padding cut off, after asking that the
 /// line is made as wish 2 says.
-fn parts(line: &str) -> [&str; 3] {
+pub fn parts(line: &str) -> [&str; 3] {
     assert_eq!(line.len(), 48);
     assert!(line.is_ascii());
     assert_eq!(&line[47..], "\n");
@@ -401,7 +401,7 @@ fn no_form() {
 }
 
 /// The bits that an operation uses below bit 25, conditions left out.
-fn used_32(operation: u32) -> u32 {
+pub fn used_32(operation: u32) -> u32 {
     match operation {
         // dreg, sreg1, sreg2; shifts by five bits have the same places.
         1..=17 | 23..=26 | 58 | 59 | 62 => 0x7FFF,
@@ -425,7 +425,7 @@ fn used_32(operation: u32) -> u32 {
 }
 
 /// The bits that an operation uses in a 16-bit word.
-fn used_16(operation: u32) -> u32 {
+pub fn used_16(operation: u32) -> u32 {
     match operation {
         1..=17 | 29 | 30 | 32 | 58 | 59 | 62 => 0x3F,
         18..=22 | 27 | 28 | 33 | 36 | 37 | 40..=47 => 0x3FF,

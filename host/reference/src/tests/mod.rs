@@ -3,6 +3,7 @@
 
 mod bench;
 mod control_block;
+mod encode;
 mod exceptions;
 mod fields;
 mod images;

@@ -101,9 +101,9 @@ fn immediates_of_32_bit_words() {
     // "lli and lui: dreg 20..16, immediate 15..0."
     let instruction = decode_32(lli(21, 0xBEEF));
     assert_eq!((instruction.target, instruction.immediate), (21, 0xBEEF));
-    // The 4..0 of swm, chrs, trap.
-    for operation in [54, 51, 55] {
-        assert_eq!(decode_32(operation << 26 | 0x3FF_FFF5).immediate, 0x15);
+    // Of 4..0, swm uses bit 0, chrs bits 1 and 0, trap all.
+    for (operation, used) in [(54, 0), (51, 2), (55, 0x16)] {
+        assert_eq!(decode_32(operation << 26 | 0x3FF_FFF6).immediate, used);
     }
     // exb: "immediate bits 1..0"; exh: "by bit 0".
     for immediate in 0..0x200 {
@@ -157,8 +157,8 @@ fn fields_of_16_bit_words() {
             assert_eq!(decode_16(word).immediate, i64::from(immediate));
         }
     }
-    for operation in [54, 51, 55] {
-        assert_eq!(decode_16(operation << 10 | 0x3F5).immediate, 0x15);
+    for (operation, used) in [(54, 1), (51, 1), (55, 0x15)] {
+        assert_eq!(decode_16(operation << 10 | 0x3F5).immediate, used);
     }
     for immediate in 0..0x80 {
         assert_eq!(

@@ -1,0 +1,351 @@
+//! What the written words of a session met.
+
+use super::generate::{may_be_conditional, Forms, Part, Range, OPERANDS, SHORT_WORDS};
+use super::{Answer, Input};
+use crate::coverage::{line, put};
+use crate::words::{only_wide, NAMES};
+use coffee_reference::cleared;
+
+const WIDTH_NAMES: [&str; 2] = ["16-bit", "32-bit"];
+/// The answers.
+const ANSWERS: [&str; 3] = ["a word", "18", "19"];
+/// Operands at their ends and one past them, where all other parts of the choice fit.
+const ENDS: [&str; 4] = ["the least", "the greatest", "one below", "one above"];
+/// Operands that do not fit for another reason, where all other parts fit.
+const FAR: [&str; 3] = ["80000000h", "7FFFFFFFh", "far off"];
+/// Parts of a condition that do not fit, where all other parts fit.
+const PARTS: [&str; 2] = ["creg", "condition"];
+const LARGE: [&str; 3] = ["8", "9", "more"];
+/// Reasons for 18 and 19 that stand together.
+const TOGETHER: [&str; 2] = ["a part of the condition", "an operand"];
+/// The numbers that say yes or no.
+const YES: [(u32, &str); 5] = [
+    (0, "0"),
+    (1, "1"),
+    (2, "2"),
+    (u32::MAX, "FFFFFFFFh"),
+    (3, "another"),
+];
+
+/// Counts of what was met, by width (0 for 16 bits, 1 for 32) where an array has 2 parts.
+pub struct Coverage {
+    pub choices: u64,
+    /// By operation, and by the place in ANSWERS.
+    answers: [[[u64; 3]; 64]; 2],
+    /// Operation numbers that no operation has: 64 to 70, and larger ones.
+    beyond: [[u64; 2]; 2],
+    /// By operation and operand, and by the place in ENDS and in FAR.
+    ends: [[[[u64; 4]; OPERANDS]; 64]; 2],
+    far: [[[[u64; 3]; OPERANDS]; 64]; 2],
+    /// Conditions that were written, by their number and their register.
+    conditions: [[u64; 8]; 8],
+    /// By the place in PARTS and in LARGE.
+    large: [[u64; 3]; 2],
+    /// Words written without a condition, for a choice in which a part of one is above 7.
+    no_condition: [u64; 2],
+    /// By the place in TOGETHER.
+    together: [[u64; 2]; 2],
+    /// 19 for several reasons.
+    several: [u64; 2],
+    /// The width and the condition, by the place in YES.
+    wides: [u64; 5],
+    conditionals: [u64; 5],
+    /// Words that came in: every 16-bit word; 32-bit words by operation, with bit 25 at 0 and
+    /// at 1; 32-bit words of which an ignored bit was 1, by operation.
+    short_words: Vec<bool>,
+    bit_25: [[u64; 2]; 64],
+    ignored: [u64; 64],
+}
+
+impl Coverage {
+    pub fn new() -> Coverage {
+        Coverage {
+            choices: 0,
+            answers: [[[0; 3]; 64]; 2],
+            beyond: [[0; 2]; 2],
+            ends: [[[[0; 4]; OPERANDS]; 64]; 2],
+            far: [[[[0; 3]; OPERANDS]; 64]; 2],
+            conditions: [[0; 8]; 8],
+            large: [[0; 3]; 2],
+            no_condition: [0; 2],
+            together: [[0; 2]; 2],
+            several: [0; 2],
+            wides: [0; 5],
+            conditionals: [0; 5],
+            short_words: vec![false; SHORT_WORDS as usize],
+            bit_25: [[0; 2]; 64],
+            ignored: [0; 64],
+        }
+    }
+
+    /// The different 16-bit words that came in, and all 32-bit words.
+    pub fn words(&self) -> [u64; 2] {
+        let short = self.short_words.iter().filter(|&&met| met).count();
+        [short as u64, self.bit_25.iter().flatten().sum()]
+    }
+
+    /// Counts a choice on which both sides agree.
+    pub fn count(&mut self, input: &Input, answer: Answer, forms: &Forms) {
+        let choice = &input.choice;
+        let width = usize::from(choice.wide != 0);
+        self.choices += 1;
+        self.wides[yes_place(choice.wide)] += 1;
+        self.conditionals[yes_place(choice.conditional)] += 1;
+        if let Some(word) = input.came_in {
+            self.count_word(word, choice.wide);
+        }
+        let misfits: Vec<_> = forms.misfits(choice).collect();
+        let refusal = answer.refusal();
+        if refusal == 18 {
+            for &(part, _, _) in &misfits {
+                let place = usize::from(matches!(part, Part::Operand(_)));
+                self.together[width][place] += 1;
+            }
+        }
+        let Some(by_answer) = self.answers[width].get_mut(choice.operation as usize) else {
+            let place = usize::from(choice.operation > 70);
+            self.beyond[width][place] += 1;
+            return;
+        };
+        let operation = choice.operation as usize;
+        match refusal {
+            0 => {
+                by_answer[0] += 1;
+                for (part, number, range) in forms.parts(choice) {
+                    if let Part::Operand(index) = part {
+                        let ends = &mut self.ends[width][operation][index];
+                        ends[0] += u64::from(number == range.0);
+                        ends[1] += u64::from(number == range.1);
+                    }
+                }
+                if choice.conditional != 0 {
+                    let number = choice.condition as usize;
+                    self.conditions[number][choice.creg as usize] += 1;
+                } else if choice.creg > 7 || choice.condition > 7 {
+                    self.no_condition[width] += 1;
+                }
+            }
+            18 => by_answer[1] += 1,
+            _ => {
+                by_answer[2] += 1;
+                match misfits[..] {
+                    [alone] => self.count_misfit(width, operation, alone),
+                    _ => self.several[width] += 1,
+                }
+            }
+        }
+    }
+
+    /// Counts the only part that does not fit.
+    fn count_misfit(&mut self, width: usize, operation: usize, misfit: (Part, i64, Range)) {
+        let (part, number, (least, greatest)) = misfit;
+        let large = match number {
+            8 => 0,
+            9 => 1,
+            _ => 2,
+        };
+        match part {
+            Part::Creg => self.large[0][large] += 1,
+            Part::Condition => self.large[1][large] += 1,
+            Part::Operand(index) => {
+                let ends = &mut self.ends[width][operation][index];
+                ends[2] += u64::from(number == least - 1);
+                ends[3] += u64::from(number == greatest + 1);
+                let far = &mut self.far[width][operation][index];
+                far[0] += u64::from(number == i64::from(i32::MIN));
+                far[1] += u64::from(number == i64::from(i32::MAX));
+                let count = greatest - least + 1;
+                far[2] += u64::from((number - least).abs() >= 2 * count);
+            }
+        }
+    }
+
+    /// Counts a word that came in.
+    fn count_word(&mut self, word: u32, wide: u32) {
+        if wide == 0 {
+            self.short_words[word as usize] = true;
+            return;
+        }
+        let operation = (word >> 26) as usize;
+        self.bit_25[operation][(word >> 25 & 1) as usize] += 1;
+        self.ignored[operation] += u64::from(cleared(word, wide) != Some(word));
+    }
+
+    /// A line for each thing that a session should meet and did not.
+    pub fn unmet(&self) -> Vec<String> {
+        let forms = Forms::new();
+        let mut unmet = Vec::new();
+        let mut need = |count: u64, what: String| {
+            if count == 0 {
+                unmet.push(what);
+            }
+        };
+        for (width, name) in WIDTH_NAMES.into_iter().enumerate() {
+            for (operation, mnemonic) in NAMES.iter().enumerate() {
+                let number = operation as u32;
+                let has_form = width == 1 || !only_wide(number);
+                let never = !may_be_conditional(number, width == 1);
+                for (place, can_be) in [has_form, never, has_form].into_iter().enumerate() {
+                    if can_be {
+                        need(
+                            self.answers[width][operation][place],
+                            format!("{name} {mnemonic} answered with {}", ANSWERS[place]),
+                        );
+                    }
+                }
+                if !has_form {
+                    continue;
+                }
+                let has = forms.ranges(number, width == 1).len();
+                for operand in 0..OPERANDS {
+                    let what = if operand < has {
+                        "operand"
+                    } else {
+                        "no operand"
+                    };
+                    let ends = ENDS.iter().zip(&self.ends[width][operation][operand]);
+                    let far = FAR.iter().zip(&self.far[width][operation][operand]);
+                    for (end, &count) in ends.chain(far) {
+                        need(
+                            count,
+                            format!("{name} {mnemonic} with {what} {operand}, {end}"),
+                        );
+                    }
+                }
+            }
+            for (place, numbers) in ["64 to 70", "above 70"].into_iter().enumerate() {
+                need(
+                    self.beyond[width][place],
+                    format!("{name} operation number {numbers}"),
+                );
+            }
+            for (place, reason) in TOGETHER.into_iter().enumerate() {
+                need(
+                    self.together[width][place],
+                    format!("{name} choice that answers 18, while {reason} does not fit"),
+                );
+            }
+            need(
+                self.several[width],
+                format!("{name} choice of which several parts do not fit"),
+            );
+            need(
+                self.no_condition[width],
+                format!("{name} word without a condition, for a choice with a part of one above 7"),
+            );
+        }
+        for (place, part) in PARTS.into_iter().enumerate() {
+            for (size, large) in LARGE.into_iter().enumerate() {
+                need(self.large[place][size], format!("{part} {large}"));
+            }
+        }
+        for (place, (_, number)) in YES.into_iter().enumerate() {
+            need(self.wides[place], format!("{number} as the width"));
+            need(
+                self.conditionals[place],
+                format!("{number} for a condition or none"),
+            );
+        }
+        for condition in 0..8 {
+            for register in 0..8 {
+                need(
+                    self.conditions[condition][register],
+                    format!("condition {condition} of C{register} written"),
+                );
+            }
+        }
+        let missing = self.short_words.iter().filter(|&&met| !met).count();
+        need(
+            u64::from(missing == 0),
+            format!("every 16-bit word written again ({missing} are missing)"),
+        );
+        for (operation, mnemonic) in NAMES.iter().enumerate() {
+            for bit in 0..2 {
+                need(
+                    self.bit_25[operation][bit],
+                    format!("32-bit {mnemonic} written again, its bit 25 at {bit}"),
+                );
+            }
+            need(
+                self.ignored[operation],
+                format!("32-bit {mnemonic} written again, an ignored bit at 1"),
+            );
+        }
+        unmet
+    }
+
+    /// The counts as text.
+    pub fn report(&self) -> String {
+        let mut text = String::new();
+        let out = &mut text;
+        for (width, name) in WIDTH_NAMES.into_iter().enumerate().rev() {
+            let by_answer = |place: usize| -> u64 {
+                let operations = self.answers[width].iter();
+                operations.map(|answers| answers[place]).sum()
+            };
+            let counts = [by_answer(0), by_answer(1), by_answer(2)];
+            line(
+                out,
+                &format!("{name} choices by answer"),
+                ANSWERS.iter().zip(&counts),
+            );
+            line(
+                out,
+                &format!("{name} choices that answer 18 where this does not fit"),
+                TOGETHER.iter().zip(&self.together[width]),
+            );
+            let operands = self.ends[width].iter().flatten();
+            let ends = operands.fold([0; 4], |sum, counts| add(sum, *counts));
+            let operands = self.far[width].iter().flatten();
+            let far = operands.fold([0; 3], |sum, counts| add(sum, *counts));
+            line(
+                out,
+                &format!("{name} operands, all else fitting"),
+                ENDS.iter().chain(&FAR).zip(ends.iter().chain(&far)),
+            );
+        }
+        for (place, part) in PARTS.into_iter().enumerate() {
+            line(
+                out,
+                &format!("{part} that does not fit, all else fitting"),
+                LARGE.iter().zip(&self.large[place]),
+            );
+        }
+        let conditions: u64 = self.conditions.iter().flatten().sum();
+        let [short, wide] = self.words();
+        let ignored: u64 = self.ignored.iter().sum();
+        put(
+            out,
+            format!(
+                "words with a condition: {conditions}; words written again: 32-bit {wide}, with ignored bits at 1 {ignored}, 16-bit {short}"
+            ),
+        );
+        for (width, name) in WIDTH_NAMES.into_iter().enumerate().rev() {
+            line(
+                out,
+                &format!("{name} words by operation"),
+                NAMES
+                    .iter()
+                    .zip(self.answers[width].iter().map(|answers| &answers[0])),
+            );
+        }
+        text
+    }
+}
+
+impl Default for Coverage {
+    fn default() -> Coverage {
+        Coverage::new()
+    }
+}
+
+/// The place of a number in YES.
+fn yes_place(number: u32) -> usize {
+    let place = YES.iter().position(|&(other, _)| other == number);
+    place.unwrap_or(YES.len() - 1)
+}
+
+/// The sums of two rows of counts.
+fn add<const N: usize>(one: [u64; N], other: [u64; N]) -> [u64; N] {
+    std::array::from_fn(|place| one[place] + other[place])
+}

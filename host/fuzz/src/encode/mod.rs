@@ -1,0 +1,322 @@
+//! Written words (02, wish 7) on both sides, and what they are read as; and a session of them.
+
+mod coverage;
+mod generate;
+
+use crate::session::{note, Kind, Options};
+use crate::words::{self, NAMES};
+use coffee_reference::{cleared, reading, Choice};
+pub use coverage::Coverage;
+pub use generate::{choice, Forms, FEWEST};
+use std::fmt;
+
+/// The writing of a word: the word, or 2^32 plus the refusal's number.
+pub type Encode = fn(&Choice) -> u64;
+
+/// What a refusal is added to.
+const REFUSED: u64 = 1 << 32;
+
+/// The two sides that are compared.
+#[derive(Clone, Copy)]
+pub struct Sides {
+    pub reference: Encode,
+    pub library: Encode,
+}
+
+/// A choice, and what the generator knows of its answer.
+#[derive(Clone, Copy, Default)]
+pub struct Input {
+    pub choice: Choice,
+    /// The word in which the choice was read, if any.
+    pub came_in: Option<u32>,
+    pub refusal: u32,
+}
+
+/// An answer: a word, or the number of a refusal.
+#[derive(Clone, Copy, Debug, PartialEq, Eq)]
+pub struct Answer(u64);
+
+impl Answer {
+    /// The word, where it is one.
+    pub fn word(self) -> Option<u32> {
+        u32::try_from(self.0).ok()
+    }
+
+    /// The refusal, 0 for none.
+    pub fn refusal(self) -> u64 {
+        self.0.saturating_sub(REFUSED)
+    }
+}
+
+impl fmt::Display for Answer {
+    fn fmt(&self, f: &mut fmt::Formatter<'_>) -> fmt::Result {
+        match self.word() {
+            Some(word) => write!(f, "{word:08X}h"),
+            None => write!(f, "refusal {}", self.refusal()),
+        }
+    }
+}
+
+/// What differs in a written word.
+#[derive(Clone, Debug, PartialEq, Eq)]
+pub enum Difference {
+    Answer {
+        reference: Answer,
+        library: Answer,
+    },
+    /// Both sides answer alike, and not as the papers say.
+    Both(String),
+}
+
+impl fmt::Display for Difference {
+    fn fmt(&self, f: &mut fmt::Formatter<'_>) -> fmt::Result {
+        match self {
+            Difference::Answer { reference, library } => {
+                write!(f, "answer: reference {reference}, library {library}")
+            }
+            Difference::Both(what) => write!(f, "both sides: {what}"),
+        }
+    }
+}
+
+/// Asks both sides for a word, compares their answers, and writes once more what is read in
+/// the word.
+pub fn compare(input: &Input, sides: Sides) -> Result<Answer, Difference> {
+    let answer = agreed(&input.choice, sides)?;
+    as_promised(input, answer, sides)?;
+    Ok(answer)
+}
+
+/// The answer to a choice, where both sides give it.
+fn agreed(choice: &Choice, sides: Sides) -> Result<Answer, Difference> {
+    let reference = Answer((sides.reference)(choice));
+    let library = Answer((sides.library)(choice));
+    if reference == library {
+        Ok(reference)
+    } else {
+        Err(Difference::Answer { reference, library })
+    }
+}
+
+/// What can be said of every answer: it is a refusal where the generator meant it to be; else
+/// it is a word of this operation, its ignored bits are 0, reading it finds what it was made
+/// from, and a second writing alters nothing. A word that came in is written with zeros.
+fn as_promised(input: &Input, answer: Answer, sides: Sides) -> Result<(), Difference> {
+    let both = |what: String| Err(Difference::Both(what));
+    let meant = u64::from(input.refusal);
+    if answer.refusal() != meant {
+        return both(format!(
+            "{answer} where the generator meant refusal {meant}"
+        ));
+    }
+    let Some(word) = answer.word() else {
+        return Ok(());
+    };
+    let wide = input.choice.wide;
+    if words::operation(word, wide != 0) != input.choice.operation {
+        return both(format!("{answer} is of another operation or width"));
+    }
+    if cleared(word, wide) != Some(word) {
+        return both(format!("{answer} has ignored bits other than 0"));
+    }
+    if let Some(came_in) = input
+        .came_in
+        .filter(|&word| cleared(word, wide) != answer.word())
+    {
+        return both(format!("{answer} for {came_in:08X}h that came in"));
+    }
+    let read = reading(word, wide);
+    if read != Some(shown(&input.choice)) {
+        return both(format!("{answer} is read as {read:?}"));
+    }
+    let second = agreed(&shown(&input.choice), sides)?;
+    if second != answer {
+        return both(format!("{answer}, written a second time, is {second}"));
+    }
+    Ok(())
+}
+
+/// A choice as it is read: 1 for a condition, and no numbers for none.
+fn shown(choice: &Choice) -> Choice {
+    match choice.conditional {
+        0 => Choice {
+            creg: 0,
+            condition: 0,
+            ..*choice
+        },
+        _ => Choice {
+            conditional: 1,
+            ..*choice
+        },
+    }
+}
+
+/// A difference and where it was found.
+pub struct Found {
+    pub difference: Difference,
+    pub seed: u64,
+    /// The number of the choice in the session, from 0.
+    pub choice: u64,
+    pub input: Input,
+}
+
+/// What a session came to.
+pub struct Outcome {
+    pub coverage: Coverage,
+    pub found: Option<Found>,
+}
+
+/// Writes every 16-bit word and random choices, by turns, until a difference or the number of
+/// choices that the options give.
+pub fn run(options: &Options, sides: Sides) -> Outcome {
+    let forms = Forms::new();
+    let mut coverage = Coverage::new();
+    let mut input = Input::default();
+    let mut found = None;
+    let mut number = options.choice.unwrap_or(0);
+    let enough = options.choices.max(FEWEST);
+    loop {
+        note(Kind::Choice, number);
+        choice(options.seed, number, &forms, &mut input);
+        match compare(&input, sides) {
+            Ok(answer) => coverage.count(&input, answer, &forms),
+            Err(difference) => {
+                found = Some(Found {
+                    difference,
+                    seed: options.seed,
+                    choice: number,
+                    input,
+                });
+                break;
+            }
+        }
+        number += 1;
+        if number >= enough || options.choice.is_some() {
+            break;
+        }
+    }
+    Outcome { coverage, found }
+}
+
+/// A found difference as text, with everything that is needed to repeat it.
+pub fn explain(found: &Found) -> String {
+    let choice = &found.input.choice;
+    let name = NAMES.get(choice.operation as usize).unwrap_or(&"none");
+    let came_in = match found.input.came_in {
+        Some(word) => format!(", as read in {word:08X}h"),
+        None => String::new(),
+    };
+    format!(
+        "difference at choice {}: {}\nrepeat with --seed {} --choice {}\n  \
+         operation {} ({name}), wide {}, conditional {}, creg {}, condition {}, operands {:?}{came_in}, \
+         meant to answer {}\n",
+        found.choice,
+        found.difference,
+        found.seed,
+        found.choice,
+        choice.operation,
+        choice.wide,
+        choice.conditional,
+        choice.creg,
+        choice.condition,
+        choice.operands,
+        match found.input.refusal {
+            0 => "a word".to_string(),
+            refusal => format!("refusal {refusal}"),
+        }
+    )
+}
+
+#[cfg(test)]
+mod tests {
+    use super::*;
+    use coffee_reference::encode;
+
+    const OPTIONS: Options = Options {
+        seed: 5,
+        calls: None,
+        seconds: None,
+        words: 0,
+        choices: 1_000_000,
+        case: None,
+        listing: None,
+        choice: None,
+    };
+
+    /// The reference agrees with itself, meets all that it should, and a session can be
+    /// repeated.
+    #[test]
+    fn no_difference_twice() {
+        let sides = Sides {
+            reference: encode,
+            library: encode,
+        };
+        let first = run(&OPTIONS, sides);
+        let second = run(&OPTIONS, sides);
+        if let Some(found) = &first.found {
+            panic!("{}", explain(found));
+        }
+        assert_eq!(first.coverage.choices, 1_000_000);
+        assert_eq!(first.coverage.unmet(), Vec::<String>::new());
+        assert_eq!(first.coverage.report(), second.coverage.report());
+    }
+
+    /// The reference, but R13 as the second operand of a 32-bit word is written as R12.
+    fn wrong_at_13(choice: &Choice) -> u64 {
+        let answer = encode(choice);
+        if answer < REFUSED && choice.wide != 0 && choice.operands[1] == 13 {
+            answer ^ 1 << 5
+        } else {
+            answer
+        }
+    }
+
+    /// A difference is found, told by its answers, and repeated by its number alone.
+    #[test]
+    fn difference_repeated() {
+        let sides = Sides {
+            reference: encode,
+            library: wrong_at_13,
+        };
+        let found = run(&OPTIONS, sides).found.expect("a difference");
+        assert!(matches!(found.difference, Difference::Answer { .. }));
+        assert_eq!(found.input.choice.operands[1], 13);
+        let again = Options {
+            choice: Some(found.choice),
+            ..OPTIONS
+        };
+        let again = run(&again, sides).found.expect("a difference");
+        assert_eq!(found.difference, again.difference);
+        assert_eq!(explain(&found), explain(&again));
+    }
+
+    /// The reference, but nop has an ignored bit at 1.
+    fn ignored_bit(choice: &Choice) -> u64 {
+        match encode(choice) {
+            0 => 1,
+            answer => answer,
+        }
+    }
+
+    /// The reference, but a shift by 32 is written as one by 0.
+    fn shift_by_32(choice: &Choice) -> u64 {
+        let mut choice = *choice;
+        if choice.operation == 23 && choice.operands[2] == 32 {
+            choice.operands[2] = 0;
+        }
+        encode(&choice)
+    }
+
+    /// What both sides do wrong is found too.
+    #[test]
+    fn both_sides_wrong() {
+        for wrong in [ignored_bit, shift_by_32, wrong_at_13] {
+            let sides = Sides {
+                reference: wrong,
+                library: wrong,
+            };
+            let found = run(&OPTIONS, sides).found.expect("a difference");
+            assert!(matches!(found.difference, Difference::Both(_)));
+        }
+    }
+}
