@@ -6,7 +6,8 @@
 
 #include <stddef.h>
 
-enum { MOST_WORDS = 4 };
+/* More than an instruction has, so that encode can tell which one is too many. */
+enum { MOST_WORDS = 16 };
 
 /* The command line after the command's name: its words, NULL past the last one, and options. */
 struct arguments {
@@ -22,5 +23,6 @@ enum status export_command(const struct arguments *arguments);
 enum status show_command(const struct arguments *arguments);
 enum status cells_command(const struct arguments *arguments);
 enum status list_command(const struct arguments *arguments);
+enum status encode_command(const struct arguments *arguments);
 
 #endif

@@ -1,17 +1,11 @@
 /* The command list: prints a program memory, a line for each word. */
 #include "commands.h"
 #include "program.h"
+#include "text.h"
 
 #include <coffee.h>
 #include <stdio.h>
 #include <stdlib.h>
-#include <string.h>
-
-/* The bytes of a word by WIDTH, or 0 where it is neither 16 nor 32. */
-static size_t bytes_of_word(const char *width)
-{
-    return strcmp(width, "16") == 0 ? 2 : strcmp(width, "32") == 0 ? 4 : 0;
-}
 
 /* Complains of a refusal of a program with words of so many bytes. */
 static bool complain_of_listing(const char *path, const struct bytes *program, size_t word,

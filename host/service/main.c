@@ -9,24 +9,28 @@
 #include <string.h>
 #include <unistd.h>
 
-/* A command: the words that it takes, at least and at most, and its options. */
+/* A command: the words that it takes, at least and at most, how many of them have a place of their
+   own, and its options. */
 static const struct command {
     const char *name, *options, *words, *purpose;
-    size_t least, most;
+    size_t least, most, placed;
     enum status (*carry_out)(const struct arguments *arguments);
 } commands[] = {
     {"new", "[--replace] ", "MACHINE [CELLS]",
-     "writes a machine at reset with so many zero cells (4,096)", 1, 2, new_command},
+     "writes a machine at reset with so many zero cells (4,096)", 1, 2, 2, new_command},
     {"run", "[-v] [--strict] ", "PROGRAM MACHINE STEPS [REQUESTS]",
-     "runs the machine on and saves it; prints steps, ending and PC", 3, 4, run_command},
-    {"show", "", "MACHINE", "prints mode, registers, position and stack", 1, 1, show_command},
-    {"cells", "", "MACHINE [FIRST [COUNT]]", "prints cells of the data memory", 1, 3,
+     "runs the machine on and saves it; prints steps, ending and PC", 3, 4, 4, run_command},
+    {"show", "", "MACHINE", "prints mode, registers, position and stack", 1, 1, 1, show_command},
+    {"cells", "", "MACHINE [FIRST [COUNT]]", "prints cells of the data memory", 1, 3, 3,
      cells_command},
-    {"list", "", "PROGRAM WIDTH", "prints a program, a line for each word", 2, 2, list_command},
+    {"list", "", "PROGRAM WIDTH", "prints a program, a line for each word", 2, 2, 2, list_command},
+    {"encode", "", "WIDTH [CONDITION Cn] NAME OPERAND..",
+     "prints the word of an instruction, typed as list prints it", 2, MOST_WORDS, 1,
+     encode_command},
     {"import", "[--replace] ", "IMAGE DATA MACHINE", "makes a machine from a plain image and cells", 3,
-     3, import_command},
+     3, 3, import_command},
     {"export", "[--replace] ", "MACHINE IMAGE DATA", "writes a machine as a plain image and cells", 3,
-     3, export_command},
+     3, 3, export_command},
 };
 
 static enum status help(void)
@@ -96,12 +100,12 @@ static void name_word(const struct command *command, size_t index, char *name, s
     name[used] = '\0';
 }
 
-/* Sees that no word is empty. */
+/* Sees that no word with a place of its own is empty; of an instruction, an empty one is no part. */
 static bool no_word_empty(const struct command *command, const struct arguments *arguments)
 {
     char name[32];
 
-    for (size_t i = 0; i < arguments->count; i++) {
+    for (size_t i = 0; i < arguments->count && i < command->placed; i++) {
         if (*arguments->words[i] == '\0') {
             name_word(command, i, name, sizeof name);
             return complain(name, "is empty");

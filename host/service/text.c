@@ -43,3 +43,8 @@ bool read_number(const char *text, uint64_t *number)
         return read_digits(text + 2, len - 2, 16, number);
     return read_decimal(text, number);
 }
+
+size_t bytes_of_word(const char *width)
+{
+    return strcmp(width, "16") == 0 ? 2 : strcmp(width, "32") == 0 ? 4 : 0;
+}

@@ -604,7 +604,11 @@ static void test_help(void)
     RUN("list", "--help");
     check("list --help", outcome.status == 0 &&
                              strstr(outcome.out, "service list PROGRAM WIDTH\n") != NULL);
-    ACCEPTED("--version", "service 1.1.0\n", "--version");
+    RUN("encode", "--help");
+    check("encode --help",
+          outcome.status == 0 &&
+              strstr(outcome.out, "service encode WIDTH [CONDITION Cn] NAME OPERAND..\n") != NULL);
+    ACCEPTED("--version", "service 1.2.0\n", "--version");
 }
 
 /* Names with blanks, in other folders, through links. */

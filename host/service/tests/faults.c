@@ -34,6 +34,9 @@ struct coffee_answer __real_coffee_run(const uint8_t *program, size_t program_by
 uint32_t __real_coffee_reset(uint8_t *buffer, size_t buffer_bytes);
 uint32_t __real_coffee_listing(const uint8_t *program, size_t program_bytes, uint32_t wide,
                                uint8_t *text, size_t text_bytes);
+uint64_t __real_coffee_encode(uint32_t operation, uint32_t wide, uint32_t conditional,
+                              uint32_t creg, uint32_t condition, int32_t a, int32_t b, int32_t c,
+                              int32_t d);
 
 struct fault_setting fault_setting;
 
@@ -253,4 +256,13 @@ uint32_t __wrap_coffee_listing(const uint8_t *program, size_t program_bytes, uin
     if (in_child && fault_setting.refusal != 0)
         return fault_setting.refusal;
     return __real_coffee_listing(program, program_bytes, wide, text, text_bytes);
+}
+
+uint64_t __wrap_coffee_encode(uint32_t operation, uint32_t wide, uint32_t conditional,
+                              uint32_t creg, uint32_t condition, int32_t a, int32_t b, int32_t c,
+                              int32_t d)
+{
+    if (in_child && fault_setting.encoded != 0)
+        return fault_setting.encoded;
+    return __real_coffee_encode(operation, wide, conditional, creg, condition, a, b, c, d);
 }

@@ -22,6 +22,7 @@ extern struct fault_setting {
     int error;        /* of FAIL and DEAD; 0 is EIO */
     void (*hook)(void);
     uint32_t refusal; /* with which the library refuses */
+    uint64_t encoded; /* what coffee_encode answers, or 0 */
     long file_system; /* the kind that a folder is on, or 0 */
     int log;          /* gets a line for each call, if above 0 */
 } fault_setting;

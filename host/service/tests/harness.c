@@ -568,8 +568,9 @@ static const struct {
     const char *name;
     void (*test)(void);
 } parts[] = {
-    {"commands", test_commands}, {"messages", test_messages}, {"saving", test_saving},
-    {"kills", test_kills},       {"pairs", test_pairs},       {"check", test_check},
+    {"commands", test_commands}, {"messages", test_messages}, {"encode", test_encode},
+    {"saving", test_saving},     {"kills", test_kills},       {"pairs", test_pairs},
+    {"check", test_check},
 };
 
 /* tests FOLDER PART..: runs parts of the tests; the last line is 'N passed, N failed'. */

@@ -118,6 +118,7 @@ void refused_words(const char *name, int status, const char *err, char *const *w
 
 void test_commands(void);
 void test_messages(void);
+void test_encode(void);
 void test_saving(void);
 void test_kills(void);
 void test_pairs(void);

@@ -266,7 +266,7 @@ static void test_listing(void)
     list_refused_with(1, "more than 65,536 bytes of program or 65,536 cells of data");
     list_refused_with(16, "a program that is no whole number of words");
     list_refused_with(17, "a buffer too short for a listing");
-    list_refused_with(18, "no reason that is known here");
+    list_refused_with(99, "no reason that is known here");
 }
 
 /* A call of list goes wrong with this error, and nothing is printed. */

@@ -425,7 +425,7 @@ static void test_locks(void)
     beside("before the rename", "rename", 1, "old");
     beside("after the rename", "fsync", 2, "new");
     before_and_after();
-    fault_setting = (struct fault_setting){FAIL, "flock", 1, ENOLCK, NULL, 0, 0, 0};
+    fault_setting = (struct fault_setting){.kind = FAIL, .call = "flock", .at = 1, .error = ENOLCK};
     REFUSED("no locks", "files/m: cannot be locked: No locks available", RUN_M);
     fault_setting.file_system = 0x6969;
     REFUSED("NFS",
