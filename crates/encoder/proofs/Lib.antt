@@ -6,3 +6,4 @@ pub mod Choices
 pub mod Theorems
 pub mod Slots
 pub mod Forms
+pub mod Worked
