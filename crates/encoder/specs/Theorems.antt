@@ -12,6 +12,8 @@ use Rattle.isa.specs.Decode.{wordBytes, decode}
 use Rattle.isa.specs.Shown.{hasForm}
 use Rattle.isa.specs.Used.{Natural, Signed, High, leastOf, usedFields, cleared}
 use Rattle.isa.specs.Theorems.{between}
+use Rattle.isa.specs.declared.Instruction.{Instruction}
+use Rattle.listing.specs.Line.{operandsText, nameText, conditionText}
 use Rattle.encoder.specs.Encode.{Choice, choiceOf, Part, fits, written, chosenForm, Encodes, encodeOf}
 
 -- ---- "For every field the fit is shown from its place and width, not field by field"
@@ -93,6 +95,18 @@ abbrev pub ClearedBit : Type 0
 ClearedBit = (width : Width) (word n : ℕ)
     → let i = decode width word in
     bitAt n (cleared width word) ≡ isUsed n (usedFields width (operationOf (i .opcode)) (i .conditional)) && bitAt n word
+
+-- ---- "as wish 2 prints them"
+
+-- what a listing shows of two instructions
+pub record ShownAlike (width : Width) (i j : Instruction) : Type 0 where
+  pub condition : conditionText i ≡ conditionText j
+  pub name : nameText width (operationOf (i .opcode)) ≡ nameText width (operationOf (j .opcode))
+  pub operands : operandsText width i ≡ operandsText width j
+
+-- it is the same of words that are read as the same choice
+abbrev pub ChoiceShown : Type 0
+ChoiceShown = (width : Width) (word other : ℕ) → choiceOf width word ≡ choiceOf width other → ShownAlike width (decode width word) (decode width other)
 
 -- ---- refusals
 
