@@ -1,4 +1,5 @@
-// Runs and lists the examples of examples.txt, which says how it is read, and prints a line for each run and for each word that is listed.
+// Runs and lists the examples of examples.txt, which says how it is read, and makes their words from the listing; prints a line for each run, and
+// for each word that is listed or made.
 mod lines;
 mod show;
 
@@ -68,6 +69,10 @@ fn examples(text: &[u8], names: &[u8]) {
         // The width is read as hexadecimal digits; any other than 32 counts as 16.
         if kind == b'=' {
             show::print_listing(&program, size, number(&text[start..end]) == 0x32);
+            continue;
+        }
+        if kind == b'<' {
+            show::print_written(&program, size, number(&text[start..end]) == 0x32);
             continue;
         }
         if kind == b'@' {

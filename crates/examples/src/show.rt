@@ -1,9 +1,10 @@
-// Runs an example from reset, and prints a line of it; prints the listing of a program.
+// Runs an example from reset, and prints a line of it; prints the listing of a program, and the words made from what it shows.
 use crate::lines::end_of;
 use emulator::Answer;
+use encoder::Encoded;
 use libc::STDOUT_FILENO;
 ghost use mathlib.Core.Path.{_≡_};
-ghost use Prim.Native.Nat.{_*_, _≤_};
+ghost use Prim.Native.Nat.{_*_, _<_, _≤_};
 ghost use lib.ListN.{length};
 ghost use Rattle.image.specs.Image.{LONGEST};
 ghost use Rattle.listing.specs.Listing.{LINE-BYTES};
@@ -23,10 +24,10 @@ fn place(names: &[u8], name: &[u8]) -> usize {
     machine::WORDS
 }
 
-// Prints a number in 8 hex digits and a blank.
-fn print_value(x: u32) {
+// Prints a number in 8 hex digits and a character after them.
+fn print_value(x: u32, end: u8) {
     let mut text = [0u8; 9];
-    console::put_ended(&mut text, 0, 16, 8, x, b' ');
+    console::put_ended(&mut text, 0, 16, 8, x, end);
     io::write_all(STDOUT_FILENO, &text);
 }
 
@@ -44,9 +45,9 @@ fn print_named(name: &[u8], names: &[u8], buffer: &[u8])
 {
     let at = place(names, name);
     if at < machine::WORDS {
-        print_value(codec::number_at(buffer, 4 * at));
+        print_value(codec::number_at(buffer, 4 * at), b' ');
     } else if check::same(name, b"image") {
-        print_value(is_reset(buffer) as u32);
+        print_value(is_reset(buffer) as u32, b' ');
     }
 }
 
@@ -157,5 +158,58 @@ pub fn print_listing(program: &[u8; 256], size: usize, wide: bool)
         print_lines(&text, size / 4);
     } else {
         print_lines(&text, size / 2);
+    }
+}
+
+// The value of operand k of a word as a listing shows it, k from 0 on; 0 where there is no such operand.
+fn shown(word: u32, wide: bool, k: usize) -> i32
+    requires { ⌜ k < 4 ⌝ }
+{
+    let i = isa::decode(word, wide);
+    let letter = operands::letter(i.opcode, wide, k);
+    if letter == b' ' {
+        0
+    } else {
+        word::signed(operands::value(i, letter))
+    }
+}
+
+// Makes a word from what a listing shows of a word.
+fn written(word: u32, wide: bool) -> Encoded {
+    let i = isa::decode(word, wide);
+    encoder::encode(
+        i.opcode,
+        wide,
+        i.conditional,
+        i.creg,
+        i.condition,
+        shown(word, wide, 0),
+        shown(word, wide, 1),
+        shown(word, wide, 2),
+        shown(word, wide, 3),
+    )
+}
+
+// Prints a word that was made, or the number of the refusal.
+fn print_encoded(e: Encoded) {
+    match e {
+        Encoded::Word(w) => print_value(w, b'\n'),
+        Encoded::Refusal(n) => {
+            io::write_all(STDOUT_FILENO, b"refusal ");
+            runner::print(console::refusal_line(n));
+        }
+    }
+}
+
+// Prints what is made from the listing of each word of a program of `size` bytes, in 32-bit words where wide, else in 16-bit words.
+pub fn print_written(program: &[u8; 256], size: usize, wide: bool)
+    requires { ⌜ size ≤ 256 ⌝ }
+{
+    let memory = &program[..];
+    let bytes = isa::word_bytes(wide) as usize;
+    let mut at: usize = 0;
+    while at + bytes <= size {
+        print_encoded(written(isa::word_at(memory, wide, at), wide));
+        at += bytes;
     }
 }
