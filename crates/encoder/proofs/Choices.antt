@@ -2,6 +2,7 @@
 -- Assumes nothing.
 use mathlib.Core.Path.{_≡_, refl, sym, ap, _∙_, subst}
 use mathlib.Core.Bool.{Bool, true, false, not, _&&_, _||_, true≢false, and-true}
+use mathlib.Core.Logic.{_≢_}
 use mathlib.Core.List.{List, [], _∷_, _++_}
 use mathlib.Core.Option.{Option, none, some}
 use Prim.Native.Nat.{ℕ, _+_, _%_, _^_, _≤_, _<_}
@@ -19,11 +20,11 @@ use Rattle.isa.specs.Format.{fieldsWidth, fieldsOf, placedIn, keptIn, operation
 use Rattle.isa.specs.Decode.{opcodeOf, assembled, decode}
 use Rattle.isa.specs.Used.{shownFields, leastOf, guardFields, usedFields}
 use Rattle.isa.proofs.Fields.{fields-below}
-use Rattle.encoder.specs.Encode.{Guard, Choice, guardBy, guardOf, choiceOf, Part, guardParts, partsOf, fits, allFit, written, given}
+use Rattle.encoder.specs.Encode.{Guard, Choice, guardBy, guardOf, choiceOf, Part, guardParts, partsOf, partFits, allFit, written, given}
 use Rattle.encoder.specs.Theorems.{piecesOf}
-use Rattle.encoder.proofs.Pieces.{append-none, placed-low, placed-held, kept-append}
-use Rattle.encoder.proofs.Values.{Held, natural-held}
-use Rattle.encoder.proofs.Operands.{operand-held}
+use Rattle.isa.proofs.Pieces.{append-none, placed-low, placed-held, kept-append}
+use Rattle.encoder.proofs.Values.{Held}
+use Rattle.encoder.proofs.Operands.{field-held, short, operand-held}
 
 -- ---- parts whose numbers stand in a word
 
@@ -33,7 +34,7 @@ AllHeld (p ∷ ps) word = Held (fieldsWidth (p .fields)) (p .least) (p .number) 
 
 -- they fit
 pub held-fit : (ps : List Part) (word : ℕ) → AllHeld ps word → allFit ps ≡ true
-unfolding AllHeld allFit
+unfolding AllHeld allFit partFits
 held-fit [] word h = refl
 held-fit (p ∷ ps) word h = and-both _ _ (h .0 .fit) (held-fit ps word (h .1))
 
@@ -55,21 +56,10 @@ held-append (p ∷ ps) qs word h k = (h .0, held-append ps qs word (h .1) k)
 
 -- ---- the choice that a word is read as
 
--- fields of every word are short
-record Short (width : Width) : Type 0 where
-  operation : fieldsWidth (operationField width) ≤ 32
-  conditional : fieldsWidth (conditionalField width) ≤ 1
-  creg : fieldsWidth (cregField width) ≤ 32
-  condition : fieldsWidth (conditionField width) ≤ 32
-
-short : (width : Width) → Short width
-unfolding fieldsWidth operationField conditionalField cregField conditionField
-short w16 = record { operation = omega arith; conditional = omega arith; creg = omega arith; condition = omega arith }
-short w32 = record { operation = omega arith; conditional = omega arith; creg = omega arith; condition = omega arith }
-
-field-held : (fs : List Field) (word : ℕ) → fieldsWidth fs ≤ 32 → Held (fieldsWidth fs) (pos 0) (pos (fieldsOf fs word)) (fieldsOf fs word)
-unfolding leastOf
-field-held fs word h = natural-held (fieldsWidth fs) (fieldsOf fs word) h (fields-below fs word)
+pub given-by : (conditional : Bool) (creg condition : ℕ) → given (guardBy conditional creg condition) ≡ conditional
+unfolding given guardBy if_then_else_
+given-by true creg condition = refl
+given-by false creg condition = refl
 
 module _ (width : Width) (word : ℕ) where
   abbrev o : Operation
@@ -84,28 +74,21 @@ module _ (width : Width) (word : ℕ) where
   unfolding AllHeld guardParts guardBy if_then_else_
   guard-held true e =
       let one : bit ≡ 1 = eqb-true bit 1 (and-parts _ _ e .0) in (
-        subst (λ (n : ℕ). Held (fieldsWidth (conditionalField width)) (pos 0) (pos n) bit) one (field-held (conditionalField width) word (omega (arith, short width .conditional))),
-        (
-          field-held (cregField width) word (short width .creg),
-          (field-held (conditionField width) word (short width .condition), tt),
-        ),
+        field-held (conditionalField width) word 1 (sym one) (omega (arith, short width .conditional)),
+        (field-held (cregField width) word _ refl (short width .creg), (field-held (conditionField width) word _ refl (short width .condition), tt)),
       )
   guard-held false e =
       either (properties o .conditional)
       (λ t.
-      let off : eqb bit 1 ≡ false = sym (and-true (eqb bit 1)) ∙ ap (λ (b : Bool). eqb bit 1 && b) (sym t) ∙ e in
+      let other : bit ≢ 1 = eqb-false bit 1 (sym (and-true (eqb bit 1)) ∙ ap (λ (b : Bool). eqb bit 1 && b) (sym t) ∙ e) in
       let small : bit < 2 ^ 1 = lt-of-lt-of-le (fields-below (conditionalField width) word) (pow-mono (short width .conditional)) in
-      let zero : bit ≡ 0 = none-or-one bit small (eqb-false bit 1 off) in
-      rw t (subst (λ (n : ℕ). Held (fieldsWidth (conditionalField width)) (pos 0) (pos n) bit) zero (field-held (conditionalField width) word (omega (arith, short width .conditional))), tt))
+      rw t (field-held (conditionalField width) word 0 (omega arith) (omega (arith, short width .conditional)), tt))
       (λ t. rw t tt)
-    where
-      none-or-one : (n : ℕ) → n < 2 → (n ≡ 1 → ⊥) → n ≡ 0
-      none-or-one n h d = either (eqb n 1) (λ t. absurd (d (eqb-true n 1 t))) (λ t. let k = eqb-false n 1 t in omega arith)
 
   pub choice-held : AllHeld (partsOf width (choiceOf width word)) word
   unfolding AllHeld partsOf choiceOf guardOf decode assembled opcodeOf
   choice-held = (
-    field-held (operationField width) word (short width .operation),
+    field-held (operationField width) word _ refl (short width .operation),
     held-append (guardParts width o (guardOf (decode width word))) _ word (guard-held (eqb bit 1 && properties o .conditional) refl)
         (operand-held width word 0, (operand-held width word 1, (operand-held width word 2, (operand-held width word 3, tt)))),
   )

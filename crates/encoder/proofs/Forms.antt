@@ -18,31 +18,11 @@ use Rattle.isa.specs.Decode.{wordBytes}
 use Rattle.isa.specs.Shown.{hasForm}
 use Rattle.isa.specs.Used.{shownFields, Natural, leastOf, shownReading}
 use Rattle.isa.proofs.Decoded.{bytes-most}
-use Rattle.encoder.specs.Encode.{Choice, guardBy, chosen, Part, natural, guardParts, operandPart, partsOf, fits, allFit, written, given, conditionalForm, chosenForm, RefusedWith, Encodes, encodeOf}
-use Rattle.encoder.proofs.Values.{ranges-are}
-use Rattle.encoder.proofs.Theorems.{operation-bits, size}
-
--- a natural number's fit
-natural-fits : (k n : ℕ) → fits k (pos 0) (pos n) ≡ ltb n (2 ^ k)
-unfolding leastOf
-natural-fits k n = ranges-are k n .natural
-
-fit-append : (ps qs : List Part) → allFit (ps ++ qs) ≡ allFit ps && allFit qs
-unfolding allFit
-fit-append [] qs = refl
-fit-append (p ∷ ps) qs =
-    let f = fits (fieldsWidth (p .fields)) (p .least) (p .number) in
-    ap (λ (b : Bool). f && b) (fit-append ps qs) ∙ sym (and-assoc f (allFit ps) (allFit qs))
-
-written-append : (ps qs : List Part) → written (ps ++ qs) ≡ written ps + written qs
-unfolding written
-written-append [] qs = omega arith
-written-append (p ∷ ps) qs = omega (arith, written-append ps qs)
-
-given-by : (conditional : Bool) (creg condition : ℕ) → given (guardBy conditional creg condition) ≡ conditional
-unfolding given guardBy if_then_else_
-given-by true creg condition = refl
-given-by false creg condition = refl
+use Rattle.encoder.specs.Encode.{Choice, guardBy, chosen, Part, natural, guardParts, operandPart, partsOf, fits, partFits, allFit, written, given, conditionalForm, chosenForm, RefusedWith, Encodes, encodeOf}
+use Rattle.encoder.proofs.Parts.{fit-append, written-append}
+use Rattle.encoder.proofs.Values.{natural-fits}
+use Rattle.encoder.proofs.Choices.{given-by}
+use Rattle.encoder.proofs.Theorems.{asked-in-order, operation-bits, size}
 
 -- ---- the condition
 
@@ -61,15 +41,19 @@ condition-fits creg condition = rw (natural-fits 1 1, natural-fits 3 creg, natur
 
 guard-fits : (width : Width) (n : ℕ) (conditional : Bool) (creg condition : ℕ) → chosenForm width n conditional ≡ true
     → allFit (guardParts width (operationOf n) (guardBy conditional creg condition)) ≡ not conditional || (ltb creg 8 && ltb condition 8)
-unfolding guardBy guardParts allFit if_then_else_
+unfolding guardBy guardParts allFit partFits if_then_else_
 guard-fits width n false creg condition form =
     let k = fieldsWidth (conditionalField width) in
     either (properties (operationOf n) .conditional) (λ t. rw (t, natural-fits k 0) (and-both _ true (lt-ltb 0 (2 ^ k) (pow-pos k)) refl)) (λ t. rw t)
 guard-fits w16 n true creg condition form = absurd (no-condition n form)
 guard-fits w32 n true creg condition form = condition-fits creg condition
 
+-- its bits, of 32-bit words
+abbrev guardBits : (conditional : Bool) (creg condition : ℕ) → ℕ
+guardBits conditional creg condition = if conditional then placedIn (conditionalField w32) 1 + placedIn (cregField w32) creg + placedIn (conditionField w32) condition else 0
+
 guard-written : (width : Width) (n : ℕ) (conditional : Bool) (creg condition : ℕ) → chosenForm width n conditional ≡ true
-    → (if conditional then 2 ^ 25 + creg % 2 ^ 3 * 2 ^ 22 + condition % 2 ^ 3 * 2 ^ 19 else 0) ≡ written (guardParts width (operationOf n) (guardBy conditional creg condition))
+    → guardBits conditional creg condition ≡ written (guardParts width (operationOf n) (guardBy conditional creg condition))
 unfolding guardBy guardParts written placedIn fieldsWidth conditionalField cregField conditionField modZ if_then_else_
 guard-written w16 n false creg condition form = either (properties (operationOf n) .conditional) (λ t. rw t) (λ t. rw t)
 guard-written w32 n false creg condition form = either (properties (operationOf n) .conditional) (λ t. rw t) (λ t. rw t)
@@ -77,12 +61,6 @@ guard-written w16 n true creg condition form = absurd (no-condition n form)
 guard-written w32 n true creg condition form = omega arith
 
 -- ---- all parts
-
--- the fit of operand k
-abbrev operandFits : Width → (n k : ℕ) → ℤ → Bool
-operandFits width n k z =
-    let p = operandPart width (operationOf n) k z in
-    fits (fieldsWidth (p .fields)) (p .least) z
 
 in-order : (g a b c d : Bool) → (((g && a) && b) && c) && d ≡ g && (a && (b && (c && (d && true))))
 in-order false a b c d = refl
@@ -102,16 +80,17 @@ module _ (width : Width) (n : ℕ) (conditional : Bool) (creg condition : ℕ) (
   unfolding chosenForm
   operation-below = ltb-true n 64 (and-parts (ltb n 64) (hasForm width o) (and-parts (ltb n 64 && hasForm width o) _ form .0) .0)
 
-  operation-fits : fits (fieldsWidth (operationField width)) (pos 0) (pos n) ≡ true
+  operation-fits : partFits (natural (operationField width) n) ≡ true
+  unfolding partFits
   operation-fits =
       natural-fits (fieldsWidth (operationField width)) n ∙ lt-ltb n (2 ^ fieldsWidth (operationField width)) (subst (λ (k : ℕ). n < 2 ^ k) (sym (operation-bits width)) operation-below)
 
   pub all-fit-is : (a b c d : ℤ)
-      → (((not conditional || (ltb creg 8 && ltb condition 8)) && operandFits width n 0 a && operandFits width n 1 b) && operandFits width n 2 c) && operandFits width n 3 d
+      → (((not conditional || (ltb creg 8 && ltb condition 8)) && partFits (operandPart width o 0 a) && partFits (operandPart width o 1 b)) && partFits (operandPart width o 2 c)) && partFits (operandPart width o 3 d)
       ≡ allFit (partsOf width (chosen n conditional creg condition a b c d))
   unfolding partsOf allFit
   all-fit-is a b c d =
-      in-order (not conditional || (ltb creg 8 && ltb condition 8)) (operandFits width n 0 a) (operandFits width n 1 b) (operandFits width n 2 c) (operandFits width n 3 d)
+      in-order (not conditional || (ltb creg 8 && ltb condition 8)) (partFits (operandPart width o 0 a)) (partFits (operandPart width o 1 b)) (partFits (operandPart width o 2 c)) (partFits (operandPart width o 3 d))
       ∙ sym
       (rw (operation-fits, fit-append guard (operandPart width o 0 a ∷ operandPart width o 1 b ∷ operandPart width o 2 c ∷ operandPart width o 3 d ∷ []), guard-fits width n conditional creg condition form))
 
@@ -119,7 +98,7 @@ module _ (width : Width) (n : ℕ) (conditional : Bool) (creg condition : ℕ) (
   abbrev sumOf : (a b c d : ℕ) → ℕ
   sumOf a b c d =
       placedIn (operationField width) n
-      + (if conditional then 2 ^ 25 + creg % 2 ^ 3 * 2 ^ 22 + condition % 2 ^ 3 * 2 ^ 19 else 0)
+      + guardBits conditional creg condition
       + placedIn (shownFields width o 0) a
       + placedIn (shownFields width o 1) b
       + placedIn (shownFields width o 2) c
@@ -154,17 +133,18 @@ module _ (width : Width) (n : ℕ) (conditional : Bool) (creg condition : ℕ) (
 -- ---- the answer, by what the code has found
 
 module _ (width : Width) (n : ℕ) (conditional : Bool) (creg condition : ℕ) (a b c d : ℤ) where
-  abbrev c₀ : Choice
-  c₀ = chosen n conditional creg condition a b c d
+  abbrev whole : Choice
+  whole = chosen n conditional creg condition a b c d
 
-  pub formless : chosenForm width n conditional ≡ false → RefusedWith 18 ≡ encodeOf width c₀
-  unfolding encodeOf if_then_else_
-  formless e = rw (given-by conditional creg condition, e)
+  -- the form of the choice
+  pub form-is : {t : Bool} → chosenForm width n conditional ≡ t → chosenForm width (whole .operation) (given (whole .guard)) ≡ t
+  form-is e = ap (chosenForm width n) (given-by conditional creg condition) ∙ e
 
-  pub unfit : chosenForm width n conditional ≡ true → allFit (partsOf width c₀) ≡ false → RefusedWith 19 ≡ encodeOf width c₀
-  unfolding encodeOf if_then_else_
-  unfit e f = rw (given-by conditional creg condition, e, f)
+  pub refused-form : chosenForm width n conditional ≡ false → RefusedWith 18 ≡ encodeOf width whole
+  refused-form e = sym (asked-in-order width whole .formless (form-is e))
 
-  pub encoded : chosenForm width n conditional ≡ true → allFit (partsOf width c₀) ≡ true → Encodes (written (partsOf width c₀)) ≡ encodeOf width c₀
-  unfolding encodeOf if_then_else_
-  encoded e f = rw (given-by conditional creg condition, e, f)
+  pub refused-fit : chosenForm width n conditional ≡ true → allFit (partsOf width whole) ≡ false → RefusedWith 19 ≡ encodeOf width whole
+  refused-fit e f = sym (asked-in-order width whole .unfit (form-is e) f)
+
+  pub encoded : chosenForm width n conditional ≡ true → allFit (partsOf width whole) ≡ true → Encodes (written (partsOf width whole)) ≡ encodeOf width whole
+  encoded e f = sym (asked-in-order width whole .others (form-is e) f)

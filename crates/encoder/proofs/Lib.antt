@@ -1,10 +1,10 @@
 -- Laws of writing words.
-pub mod Pieces
+pub mod Parts
 pub mod Values
 pub mod Operands
 pub mod Choices
 pub mod Theorems
 pub mod Lines
-pub mod Slots
+pub mod Places
 pub mod Forms
 pub mod Worked

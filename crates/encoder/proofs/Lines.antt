@@ -50,9 +50,9 @@ choice-shown width word other e =
       condition = condition-text i ∙ ap (λ (c : Choice). guardText (c .guard)) e ∙ sym (condition-text j);
       name = ap (λ (n : ℕ). nameText width (operationOf n)) operation;
       operands =
-        ap joined
-        (operand-texts i j (roles (i .opcode)) 4 (roles-few width (i .opcode)) (λ k l. values k l ∙ ap (λ (n : ℕ). valueFor j (getElem? (roles n) k)) (sym operation))
-        ∙ ap (λ (n : ℕ). map (operandText j) (roles n)) operation);
+          ap joined
+          (operand-texts i j (roles (i .opcode)) 4 (roles-few width (i .opcode)) (λ k l. values k l ∙ ap (λ (n : ℕ). valueFor j (getElem? (roles n) k)) (sym operation))
+          ∙ ap (λ (n : ℕ). map (operandText j) (roles n)) operation);
     }
   where
     values : (k : ℕ) → k < 4

@@ -15,7 +15,7 @@ use Rattle.word.specs.Word.{Field, bits_to_, fieldOf, wordOf}
 use Rattle.word.proofs.Tests.{either, and-parts, if-false}
 use Rattle.word.proofs.Bounds.{field-below}
 use Rattle.isa.specs.Operation.{operationOf, Operation, Width, w16, w32, Form, properties}
-use Rattle.isa.specs.Format.{fieldsWidth, fieldsOf, cregField, Role, Dreg, Sreg1, Sreg2, Creg, Imm, Length, Position, Immediate, layoutOf, operandFields}
+use Rattle.isa.specs.Format.{fieldsWidth, fieldsOf, operationField, conditionalField, cregField, conditionField, Role, Dreg, Sreg1, Sreg2, Creg, Imm, Length, Position, Immediate, layoutOf, operandFields}
 use Rattle.isa.specs.Decode.{registerOf, immediateOf, operandsOf, opcodeOf, assembled, decode}
 use Rattle.isa.specs.Shown.{shownRoles, shownValue}
 use Rattle.isa.specs.Used.{shownRole, fieldsFor, shownFields, leastOf, registerReading, immediateReading, readingFor, shownReading}
@@ -23,7 +23,7 @@ use Rattle.isa.specs.Computed.{instructions}
 use Rattle.isa.proofs.Fields.{fields-below}
 use Rattle.isa.proofs.Table.{values, by-number}
 use Rattle.isa.proofs.Rows.{immediateFits, rows-sound}
-use Rattle.isa.proofs.Showing.{parts}
+use Rattle.isa.proofs.Showing.{length-position}
 use Rattle.encoder.specs.Encode.{valueFor, valueAt}
 use Rattle.encoder.proofs.Values.{Held, natural-held, high-held, signed-held}
 
@@ -94,7 +94,7 @@ two-parts (f ∷ g ∷ []) word e =
     let y = fieldOf g word in
     let h : x < 2 ^ 6 = subst (λ (k : ℕ). x < 2 ^ k) six (field-below f word) in
     let l : y < 2 ^ 5 = subst (λ (k : ℕ). y < 2 ^ k) five (field-below g word) in
-    let p = parts x y h l in
+    let p = length-position x y h l in
     let whole : x * 2 ^ (g .width + 0) + (y * 2 ^ 0 + 0) ≡ x * 32 + y = ap (λ (k : ℕ). x * 2 ^ (k + 0) + (y * 2 ^ 0 + 0)) five ∙ omega arith in
     record {
       above = ap (λ (n : ℕ). fieldOf (bits 10 to 5) (wordOf 32 (pos n))) whole ∙ p .0 ∙ omega arith;
@@ -128,6 +128,23 @@ rows-readable width = by-number (λ o. allReadable width (properties o .form) (s
     computed w16 = refl
     computed w32 = refl
 
+-- a natural number that is what pieces hold
+pub field-held : (fs : List Field) (word n : ℕ) → n ≡ fieldsOf fs word → fieldsWidth fs ≤ 32 → Held (fieldsWidth fs) (pos 0) (pos n) (fieldsOf fs word)
+unfolding leastOf
+field-held fs word n e h = rw e (natural-held (fieldsWidth fs) (fieldsOf fs word) h (fields-below fs word))
+
+-- the fields of every word are short
+pub record Short (width : Width) : Type 0 where
+  pub operation : fieldsWidth (operationField width) ≤ 32
+  pub conditional : fieldsWidth (conditionalField width) ≤ 1
+  pub creg : fieldsWidth (cregField width) ≤ 32
+  pub condition : fieldsWidth (conditionField width) ≤ 32
+
+pub short : (width : Width) → Short width
+unfolding fieldsWidth operationField conditionalField cregField conditionField
+short w16 = record { operation = omega arith; conditional = omega arith; creg = omega arith; condition = omega arith }
+short w32 = record { operation = omega arith; conditional = omega arith; creg = omega arith; condition = omega arith }
+
 module _ (width : Width) (word : ℕ) where
   abbrev form : Form
   form = properties (operationOf (opcodeOf width word)) .form
@@ -138,31 +155,23 @@ module _ (width : Width) (word : ℕ) where
       let fs = fieldsFor width form r in
       Held (fieldsWidth fs) (leastOf (readingFor width form r) (fieldsWidth fs)) (valueFor (decode width word) r) (fieldsOf fs word)
 
-  part-held : (value : ℕ) (fs : List Field) → value ≡ fieldsOf fs word → fieldsWidth fs ≤ 32 → Held (fieldsWidth fs) (pos 0) (pos value) (fieldsOf fs word)
-  unfolding leastOf
-  part-held value fs e h = rw e (natural-held (fieldsWidth fs) (fieldsOf fs word) h (fields-below fs word))
-
   role-held : (r : Role) → readable width form r ≡ true → HeldFor (some r)
-  unfolding readable partBits fieldsFor operandFields readingFor valueFor shownValue leastOf decode assembled operandsOf fieldsWidth cregField
+  unfolding readable partBits fieldsFor operandFields readingFor valueFor shownValue leastOf decode assembled operandsOf
   role-held Dreg e = register-held width (layoutOf width form .dreg) word e
   role-held Sreg1 e = register-held width (layoutOf width form .sreg1) word e
   role-held Sreg2 e = register-held width (layoutOf width form .sreg2) word e
-  role-held Creg e = natural-held (fieldsWidth (cregField width)) (fieldsOf (cregField width) word) (creg-short width) (fields-below (cregField width) word)
-    where
-      creg-short : (width : Width) → fieldsWidth (cregField width) ≤ 32
-      creg-short w16 = omega arith
-      creg-short w32 = omega arith
+  role-held Creg e = field-held (cregField width) word (fieldsOf (cregField width) word) refl (short width .creg)
   role-held Imm e = immediate-held (layoutOf width form .immediate) word (rows-sound width (opcodeOf width word) .immediate)
   role-held Length e =
       let i = layoutOf width form .immediate in
       let t = and-parts _ _ e in
       let p = two-parts (i .fields) word (t .1) in
-      part-held _ (take 1 (i .fields)) (ap (λ (z : ℤ). fieldOf (bits 10 to 5) (wordOf 32 z)) (natural-immediate i word (t .0)) ∙ p .above) (p .aboveShort)
+      field-held (take 1 (i .fields)) word _ (ap (λ (z : ℤ). fieldOf (bits 10 to 5) (wordOf 32 z)) (natural-immediate i word (t .0)) ∙ p .above) (p .aboveShort)
   role-held Position e =
       let i = layoutOf width form .immediate in
       let t = and-parts _ _ e in
       let p = two-parts (i .fields) word (t .1) in
-      part-held _ (drop 1 (i .fields)) (ap (λ (z : ℤ). fieldOf (bits 4 to 0) (wordOf 32 z)) (natural-immediate i word (t .0)) ∙ p .low) (p .lowShort)
+      field-held (drop 1 (i .fields)) word _ (ap (λ (z : ℤ). fieldOf (bits 4 to 0) (wordOf 32 z)) (natural-immediate i word (t .0)) ∙ p .low) (p .lowShort)
 
   at : (rs : List Role) (k : ℕ) → allReadable width form rs ≡ true → HeldFor (getElem? rs k)
   unfolding allReadable fieldsFor readingFor valueFor fieldsWidth fieldsOf

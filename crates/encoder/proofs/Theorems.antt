@@ -20,14 +20,14 @@ use Rattle.isa.specs.declared.Instruction.{Instruction}
 use Rattle.isa.specs.Theorems.{between}
 use Rattle.isa.proofs.Rules as rules
 use Rattle.isa.proofs.Showing.{form-is}
-use Rattle.isa.proofs.Rows.{rows-sound}
+use Rattle.isa.proofs.Rows.{UsedSound, rows-sound}
 use Rattle.isa.proofs.Decoded.{opcode-below}
-use Rattle.encoder.specs.Encode.{Guard, Choice, guardBy, guardOf, valueFor, valueAt, choiceOf, Part, natural, guardParts, operandPart, partsOf, fits, allFit, written, given, conditionalForm, chosenForm, Encoding, Encodes, RefusedWith, encodeOf}
-use Rattle.encoder.specs.Theorems.{piecesOf, AllHold, ReadBack, EncodeDecode, wordHasForm, DecodeEncode, OneWord, WrittenAgain, SecondWriting, ClearedBit, ChosenFormIs}
-use Rattle.encoder.proofs.Pieces.{written-read, written-below, kept-bit}
-use Rattle.encoder.proofs.Values.{Held, fits-one, natural-bits, natural-below}
+use Rattle.encoder.specs.Encode.{Guard, Choice, guardBy, guardOf, valueFor, valueAt, choiceOf, Part, natural, guardParts, operandPart, partsOf, partFits, allFit, written, given, conditionalForm, chosenForm, Encoding, Encodes, RefusedWith, encodeOf}
+use Rattle.encoder.specs.Theorems.{piecesOf, AllHold, Apart, PartsApart, EncodeDecode, wordHasForm, DecodeEncode, OneWord, SecondWriting, ChosenFormIs, AskedInOrder}
+use Rattle.encoder.proofs.Parts.{hold-append, fit-append, written-read, written-below}
+use Rattle.encoder.proofs.Values.{Held, fits-one, natural-back}
 use Rattle.encoder.proofs.Operands.{operand-held}
-use Rattle.encoder.proofs.Choices.{held-fit, held-written, choice-held, pieces-used}
+use Rattle.encoder.proofs.Choices.{held-fit, held-written, given-by, choice-held, pieces-used}
 
 -- ---- a choice that is accepted
 
@@ -58,9 +58,9 @@ accepted width c word e =
     (λ u. absurd (true≢false (sym (ap isWord (rw (t, u) at e))))))
     (λ t. absurd (true≢false (sym (ap isWord (rw t at e)))))
 
-encode-word : (width : Width) (c : Choice) → chosenForm width (c .operation) (given (c .guard)) ≡ true → allFit (partsOf width c) ≡ true → encodeOf width c ≡ Encodes (written (partsOf width c))
+pub asked-in-order : AskedInOrder
 unfolding encodeOf if_then_else_
-encode-word width c t u = rw (t, u)
+asked-in-order width c = record { formless = λ e. rw e; unfit = λ e f. rw (e, f); others = λ e f. rw (e, f) }
 
 -- a condition is given only where there is a conditional form
 form-conditional : (width : Width) (o : Operation) (a g : Bool) → a && (not g || conditionalForm width o) ≡ true → g ≡ true → conditionalForm width o ≡ true
@@ -73,8 +73,8 @@ conditional-is width o e = and-parts _ _ e .0
 -- ---- what is read is written
 
 given-is : (i : Instruction) → given (guardOf i) ≡ i .conditional
-unfolding given guardOf guardBy if_then_else_
-given-is i = either (i .conditional) (λ t. rw t) (λ t. rw t)
+unfolding guardOf
+given-is i = given-by (i .conditional) (i .creg) (i .condition)
 
 -- a word that is conditional has a conditional form
 read-conditional : (width : Width) (word : ℕ) → decode width word .conditional ≡ true → conditionalForm width (operationOf (opcodeOf width word)) ≡ true
@@ -98,7 +98,7 @@ decode-encode width word e =
     let c = choiceOf width word in
     let h = choice-held width word in
     let i = decode width word in
-    encode-word width c (read-form width word e) (held-fit (partsOf width c) word h)
+    asked-in-order width c .others (read-form width word e) (held-fit (partsOf width c) word h)
     ∙ ap Encodes (held-written (partsOf width c) word h ∙ ap (λ (fs : List Field). keptIn fs word) (used width word))
   where
     used : (width : Width) (word : ℕ) → piecesOf (partsOf width (choiceOf width word)) ≡ usedFields width (operationOf (decode width word .opcode)) (decode width word .conditional)
@@ -109,27 +109,9 @@ decode-encode width word e =
 
 -- ---- what is written is read
 
-hold-append : (ps qs : List Part) (word : ℕ) → AllHold (ps ++ qs) word → AllHold ps word × AllHold qs word
-unfolding AllHold
-hold-append [] qs word h = (tt, h)
-hold-append (p ∷ ps) qs word h = let r = hold-append ps qs word (h .1) in ((h .0, r .0), r .1)
-
-fit-parts : (p : Part) (ps : List Part) → allFit (p ∷ ps) ≡ true → (fits (fieldsWidth (p .fields)) (p .least) (p .number) ≡ true) × (allFit ps ≡ true)
+fit-parts : (p : Part) (ps : List Part) → allFit (p ∷ ps) ≡ true → (partFits p ≡ true) × (allFit ps ≡ true)
 unfolding allFit
-fit-parts p ps e = and-parts (fits (fieldsWidth (p .fields)) (p .least) (p .number)) (allFit ps) e
-
-fit-append : (ps qs : List Part) → allFit (ps ++ qs) ≡ true → (allFit ps ≡ true) × (allFit qs ≡ true)
-unfolding allFit
-fit-append [] qs e = (refl, e)
-fit-append (p ∷ ps) qs e =
-    let f = fits (fieldsWidth (p .fields)) (p .least) (p .number) in
-    let t = and-parts f (allFit (ps ++ qs)) e in
-    let r = fit-append ps qs (t .1) in
-    (and-both f (allFit ps) (t .0) (r .0), r .1)
-
--- a natural number that fits is read back
-natural-back : (k n m : ℕ) → k ≤ 32 → fits k (pos 0) (pos n) ≡ true → m ≡ wordOf 32 (pos n) % 2 ^ k → m ≡ n
-natural-back k n m h f e = e ∙ natural-bits k n h (natural-below k n f)
+fit-parts p ps e = and-parts (partFits p) (allFit ps) e
 
 pub operation-bits : (width : Width) → fieldsWidth (operationField width) ≡ 6
 unfolding operationField fieldsWidth
@@ -140,14 +122,10 @@ operation-bits w32 = refl
 abbrev guardIn : Width → Operation → (word : ℕ) → Option Guard
 guardIn width o word = guardBy (eqb (fieldsOf (conditionalField width) word) 1 && properties o .conditional) (fieldsOf (cregField width) word) (fieldsOf (conditionField width) word)
 
-no-fields : (word : ℕ) → fieldsOf [] word ≡ 0
-unfolding fieldsOf
-no-fields word = refl
-
 guard-back : (width : Width) (o : Operation) (g : Option Guard) (word : ℕ) → (given g ≡ true → conditionalForm width o ≡ true)
     → AllHold (guardParts width o g) word → allFit (guardParts width o g) ≡ true → guardIn width o word ≡ g
-unfolding AllHold guardBy guardParts allFit given conditionalForm if_then_else_ fieldsWidth conditionalField cregField conditionField modZ
-guard-back w16 o none word f h e = if-false _ _ none (ap (λ (n : ℕ). eqb n 1 && properties o .conditional) (no-fields word))
+unfolding AllHold guardBy guardParts allFit partFits given conditionalForm if_then_else_ fieldsWidth conditionalField cregField conditionField fieldsOf modZ
+guard-back w16 o none word f h e = refl
 guard-back w32 o none word f h e =
     either (properties o .conditional)
     (λ t.
@@ -186,29 +164,32 @@ module _ (width : Width) (c : Choice) (form : chosenForm width (c .operation) (g
   pieces : piecesOf (partsOf width c) ≡ usedFields width o (given (c .guard))
   pieces = pieces-used width c (λ t. conditional-is width o (conditional t))
 
-  rows : (lieBelow (8 * wordBytes width) (usedFields width o (given (c .guard))) ≡ true) × (separate (usedFields width o (given (c .guard))) ≡ true)
+  rows : UsedSound width o (given (c .guard))
   rows = rows-sound width (c .operation) .used (given (c .guard))
 
-  apart : separate (piecesOf (partsOf width c)) ≡ true
-  apart = ap separate pieces ∙ rows .1
+  apart : Apart width (partsOf width c)
+  apart = record { inside = ap (lieBelow (8 * wordBytes width)) pieces ∙ rows .inside; disjoint = ap separate pieces ∙ rows .apart }
 
   holds : AllHold (partsOf width c) word
-  holds = written-read (partsOf width c) apart
+  holds = written-read (partsOf width c) (apart .disjoint)
 
   pub size : word < 2 ^ (8 * wordBytes width)
-  size = written-below (8 * wordBytes width) (partsOf width c) (ap (lieBelow (8 * wordBytes width)) pieces ∙ rows .0) apart
+  size = written-below (8 * wordBytes width) (partsOf width c) (apart .inside) (apart .disjoint)
 
   parted : AllHold (guardParts width o (c .guard)) word × AllHold operands word
   unfolding AllHold partsOf operands
   parted = hold-append (guardParts width o (c .guard)) operands word (holds .1)
 
   module _ (fit : allFit (partsOf width c) ≡ true) where
-    fitting : (allFit (guardParts width o (c .guard)) ≡ true) × (allFit operands ≡ true)
+    others-fit : allFit (guardParts width o (c .guard) ++ operands) ≡ true
     unfolding partsOf operands
-    fitting = fit-append (guardParts width o (c .guard)) operands (fit-parts (natural (operationField width) (c .operation)) (guardParts width o (c .guard) ++ operands) fit .1)
+    others-fit = fit-parts (natural (operationField width) (c .operation)) (guardParts width o (c .guard) ++ operands) fit .1
+
+    fitting : (allFit (guardParts width o (c .guard)) ≡ true) × (allFit operands ≡ true)
+    fitting = and-parts _ _ (sym (fit-append (guardParts width o (c .guard)) operands) ∙ others-fit)
 
     opcode-back : opcodeOf width word ≡ c .operation
-    unfolding opcodeOf AllHold partsOf operands
+    unfolding opcodeOf AllHold partsOf operands partFits
     opcode-back =
         natural-back (fieldsWidth (operationField width)) (c .operation) (fieldsOf (operationField width) word) (omega (arith, operation-bits width))
         (fit-parts (natural (operationField width) (c .operation)) (guardParts width o (c .guard) ++ operands) fit .0)
@@ -220,8 +201,8 @@ module _ (width : Width) (c : Choice) (form : chosenForm width (c .operation) (g
 
     -- a part that is written and fits is read back
     value-back : (k : ℕ) (z : ℤ) → let p = operandPart width o k z in
-        fieldsOf (p .fields) word ≡ wordOf 32 z % 2 ^ fieldsWidth (p .fields) → fits (fieldsWidth (p .fields)) (p .least) z ≡ true → valueAt width (decode width word) k ≡ z
-    unfolding decode assembled
+        fieldsOf (p .fields) word ≡ wordOf 32 z % 2 ^ fieldsWidth (p .fields) → partFits p ≡ true → valueAt width (decode width word) k ≡ z
+    unfolding decode assembled partFits
     value-back k z hold e =
         let held = subst
         (λ (n : ℕ).
@@ -259,6 +240,7 @@ encode-decode width c word e =
     let f = form-by width word c back (and-parts (ltb (c .operation) 64) (hasForm width (operationOf (c .operation))) (and-parts _ _ (a .form) .0) .1) in
     record {
       choice = back;
+      form = f;
       size = subst (λ (w : ℕ). w < 2 ^ (8 * wordBytes width)) (a .same) (size width c (a .form));
       ignored = encodes-one (sym (decode-encode width word f) ∙ ap (encodeOf width) back ∙ e);
     }
@@ -275,16 +257,13 @@ second-writing width word f =
     let r = encode-decode width (choiceOf width word) (cleared width word) e in
     record { choice = r .choice; again = ap (encodeOf width) (r .choice) ∙ e; ignored = r .ignored }
 
-pub cleared-bit : ClearedBit
-unfolding cleared
-cleared-bit width word n =
-    let i = decode width word in
-    kept-bit (usedFields width (operationOf (i .opcode)) (i .conditional)) word n (rows-sound width (i .opcode) .used (i .conditional) .1)
+pub parts-apart : PartsApart
+parts-apart width c form = apart width c form
 
 -- ---- 18, by numbers
 
 -- a conditional form, by width
-conditional-form : (wide : Bool) (n : ℕ) → conditionalForm (widthBy wide) (operationOf n) ≡ wide && (((between 1 31 n || between 38 39 n) || eqb n 48) || between 58 62 n)
+pub conditional-form : (wide : Bool) (n : ℕ) → conditionalForm (widthBy wide) (operationOf n) ≡ wide && (((between 1 31 n || between 38 39 n) || eqb n 48) || between 58 62 n)
 unfolding conditionalForm widthBy conditionalField fieldsWidth
 conditional-form true n = and-true (properties (operationOf n) .conditional) ∙ rules.conditional-is n
 conditional-form false n = and-false (properties (operationOf n) .conditional)

@@ -111,12 +111,16 @@ isBelow m (negsuc n) = false
 unfoldable pub fits : (k : ℕ) (least z : ℤ) → Bool
 fits k least z = isBelow (2 ^ k) (z -ℤ least)
 
--- of every part
+-- a part, and every one of some
+unfoldable pub partFits : Part → Bool
+partFits p = fits (fieldsWidth (p .fields)) (p .least) (p .number)
+
 unfoldable pub allFit : List Part → Bool
 allFit [] = true
-allFit (p ∷ ps) = fits (fieldsWidth (p .fields)) (p .least) (p .number) && allFit ps
+allFit (p ∷ ps) = partFits p && allFit ps
 
--- the word with every number in its pieces, in two's complement; "Ignored bits are 0"
+-- the word with the lowest bits of every number in its pieces: a negative one in two's complement, and of register 24 + n those of n; "Ignored
+-- bits are 0"
 unfoldable pub written : List Part → ℕ
 written [] = 0
 written (p ∷ ps) = placedIn (p .fields) (wordOf 32 (p .number)) + written ps
@@ -154,5 +158,5 @@ encodeOf width c =
 
 -- to unfold all of these
 unfoldable pub encoding : Unit {0}
-unfolding guardBy guardOf valueFor choiceOf guardParts partsOf isBelow fits allFit written given conditionalForm chosenForm encodingOf encodeOf
+unfolding guardBy guardOf valueFor choiceOf guardParts partsOf isBelow fits partFits allFit written given conditionalForm chosenForm encodingOf encodeOf
 encoding = tt

@@ -5,16 +5,16 @@ use mathlib.Core.List.{List, [], _∷_, _++_}
 use Prim.Native.Nat.{ℕ, _+_, _-_, _*_, _%_, _^_, _≤_, _<_}
 use lib.Dec.{leb, ltb, eqb}
 use lib.IntN.{ℤ, pos, negsuc}
-use Rattle.word.specs.Word.{Field, bitAt, wordOf}
-use Rattle.isa.specs.Operation.{operationOf, Width, widthBy}
+use Rattle.word.specs.Word.{Field, wordOf}
+use Rattle.isa.specs.Operation.{operationOf, Width, w16, widthBy}
 use Rattle.isa.specs.Format.{fieldsWidth, fieldsOf, lieBelow, separate}
 use Rattle.isa.specs.Decode.{wordBytes, decode}
 use Rattle.isa.specs.Shown.{hasForm}
-use Rattle.isa.specs.Used.{Natural, Signed, High, leastOf, usedFields, cleared}
+use Rattle.isa.specs.Used.{shownFields, Natural, Signed, High, leastOf, shownReading, cleared}
 use Rattle.isa.specs.Theorems.{between}
 use Rattle.isa.specs.declared.Instruction.{Instruction}
 use Rattle.listing.specs.Line.{operandsText, nameText, conditionText}
-use Rattle.encoder.specs.Encode.{Choice, choiceOf, Part, fits, written, chosenForm, Encodes, encodeOf}
+use Rattle.encoder.specs.Encode.{Choice, choiceOf, Part, partsOf, fits, allFit, written, given, chosenForm, Encodes, RefusedWith, encodeOf}
 
 -- ---- "For every field the fit is shown from its place and width, not field by field"
 
@@ -36,12 +36,21 @@ WrittenRead = (ps : List Part) → separate (piecesOf ps) ≡ true → AllHold p
 abbrev pub WrittenBelow : Type 0
 WrittenBelow = (k : ℕ) (ps : List Part) → lieBelow k (piecesOf ps) ≡ true → separate (piecesOf ps) ≡ true → written ps < 2 ^ k
 
+-- both hold of the parts of a choice
+pub record Apart (width : Width) (ps : List Part) : Type 0 where
+  pub inside : lieBelow (8 * wordBytes width) (piecesOf ps) ≡ true
+  pub disjoint : separate (piecesOf ps) ≡ true
+
+abbrev pub PartsApart : Type 0
+PartsApart = (width : Width) (c : Choice) → chosenForm width (c .operation) (given (c .guard)) ≡ true → Apart width (partsOf width c)
+
 -- of the numbers that fit k bits only one has given bits
 abbrev pub FitsOne : Type 0
 FitsOne = (k : ℕ) (least y z : ℤ) → k ≤ 32 → fits k least y ≡ true → fits k least z ≡ true → wordOf 32 y % 2 ^ k ≡ wordOf 32 z % 2 ^ k → y ≡ z
 
--- which numbers fit, by the reading of their bits; negsuc n is -(n + 1). "Registers of 16-bit words are given as 24 to 31"
+-- which numbers fit, by the reading of their bits; negsuc n is -(n + 1). "or an operand has none and is not 0": of no bits only 0 does
 pub record Ranges (k n : ℕ) : Type 0 where
+  pub none : fits 0 (leastOf Natural 0) (pos n) ≡ eqb n 0
   pub natural : fits k (leastOf Natural k) (pos n) ≡ ltb n (2 ^ k)
   pub naturalBelow : fits k (leastOf Natural k) (negsuc n) ≡ false
   pub signed : 0 < k → fits k (leastOf Signed k) (pos n) ≡ ltb n (2 ^ (k - 1))
@@ -52,20 +61,25 @@ pub record Ranges (k n : ℕ) : Type 0 where
 abbrev pub RangesAre : Type 0
 RangesAre = (k n : ℕ) → Ranges k n
 
+-- "Registers of 16-bit words are given as 24 to 31": they have three bits
+abbrev pub NarrowBits : Type 0
+NarrowBits = (n k : ℕ) → n < 64 → k < 4 → shownReading w16 (operationOf n) k ≡ High → fieldsWidth (shownFields w16 (operationOf n) k) ≡ 3
+
 -- ---- the two ways between choices and words
+
+-- the operation of a word has a form in its width
+abbrev pub wordHasForm : Width → (word : ℕ) → Bool
+wordHasForm width word = hasForm width (operationOf (decode width word .opcode))
 
 -- "reading that word finds the operation, condition and operands it was made from"; it is a word of its width, and "Ignored bits are 0"
 pub record ReadBack (width : Width) (c : Choice) (word : ℕ) : Type 0 where
   pub choice : choiceOf width word ≡ c
+  pub form : wordHasForm width word ≡ true
   pub size : word < 2 ^ (8 * wordBytes width)
   pub ignored : cleared width word ≡ word
 
 abbrev pub EncodeDecode : Type 0
 EncodeDecode = (width : Width) (c : Choice) (word : ℕ) → encodeOf width c ≡ Encodes word → ReadBack width c word
-
--- the operation of a word has a form in its width
-abbrev pub wordHasForm : Width → (word : ℕ) → Bool
-wordHasForm width word = hasForm width (operationOf (decode width word .opcode))
 
 -- "A word that came in with other ignored bits is written with zeros": every choice that a listing shows has a word, and it is this
 abbrev pub DecodeEncode : Type 0
@@ -84,17 +98,6 @@ pub record WrittenAgain (width : Width) (word : ℕ) : Type 0 where
 
 abbrev pub SecondWriting : Type 0
 SecondWriting = (width : Width) (word : ℕ) → wordHasForm width word ≡ true → WrittenAgain width word
-
--- bit n is one of the pieces'
-unfoldable pub isUsed : (n : ℕ) → List Field → Bool
-isUsed n [] = false
-isUsed n (f ∷ fs) = (leb (f .place) n && ltb n (f .place + f .width)) || isUsed n fs
-
--- the bits of a word with its ignored bits 0
-abbrev pub ClearedBit : Type 0
-ClearedBit = (width : Width) (word n : ℕ)
-    → let i = decode width word in
-    bitAt n (cleared width word) ≡ isUsed n (usedFields width (operationOf (i .opcode)) (i .conditional)) && bitAt n word
 
 -- ---- "as wish 2 prints them"
 
@@ -116,3 +119,13 @@ ChosenFormIs = (wide : Bool) (n : ℕ) (conditional : Bool)
     → chosenForm (widthBy wide) n conditional
     ≡ (ltb n 64 && not ((between 34 35 n || leb 63 n) && not wide))
     && (not conditional || wide && (((between 1 31 n || between 38 39 n) || eqb n 48) || between 58 62 n))
+
+-- it is "asked first"; then "19 when an operand or a part of the condition does not fit the bits used, or an operand has none and is not 0"; every
+-- other choice has a word
+pub record Asked (width : Width) (c : Choice) : Type 0 where
+  pub formless : chosenForm width (c .operation) (given (c .guard)) ≡ false → encodeOf width c ≡ RefusedWith 18
+  pub unfit : chosenForm width (c .operation) (given (c .guard)) ≡ true → allFit (partsOf width c) ≡ false → encodeOf width c ≡ RefusedWith 19
+  pub others : chosenForm width (c .operation) (given (c .guard)) ≡ true → allFit (partsOf width c) ≡ true → encodeOf width c ≡ Encodes (written (partsOf width c))
+
+abbrev pub AskedInOrder : Type 0
+AskedInOrder = (width : Width) (c : Choice) → Asked width c

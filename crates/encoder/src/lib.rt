@@ -4,10 +4,10 @@ ghost use mathlib.Core.Bool.{true};
 ghost use Prim.Native.Nat.{_+_, _*_, _%_, _^_, _<_, _≤_};
 ghost use Rattle.word.specs.Choice.{if_then_else_};
 ghost use Rattle.word.specs.Word.{signedOf};
-ghost use Rattle.isa.specs.Operation.{operationOf, widthBy};
-ghost use Rattle.isa.specs.Format.{fieldsWidth, placedIn, operationField};
-ghost use Rattle.isa.specs.Used.{shownFields, leastOf, shownReading};
-ghost use Rattle.encoder.specs.Encode.{chosen, partsOf, fits, allFit, written, chosenForm, encodingOf, encodeOf};
+ghost use Rattle.isa.specs.Operation.{operationOf, w32, widthBy};
+ghost use Rattle.isa.specs.Format.{placedIn, operationField, conditionalField, cregField, conditionField};
+ghost use Rattle.isa.specs.Used.{shownFields};
+ghost use Rattle.encoder.specs.Encode.{chosen, operandPart, partsOf, partFits, allFit, written, chosenForm, encodingOf, encodeOf};
 
 // What is answered.
 pub enum Encoded {
@@ -22,11 +22,11 @@ pub enum Encoded {
 // Whether a number fits the bits of operand k.
 fn operand_fits(op: u32, wide: bool, k: usize, n: u32) -> bool
     requires { ⌜ (op < 64) × (k < 4) ⌝ }
-    ensures { λ r. ⌜ r ≡ fits (fieldsWidth (shownFields (widthBy wide) (operationOf op) k)) (leastOf (shownReading (widthBy wide) (operationOf op) k) (fieldsWidth (shownFields (widthBy wide) (operationOf op) k))) (signedOf 32 n) ⌝ }
+    ensures { λ r. ⌜ r ≡ partFits (operandPart (widthBy wide) (operationOf op) k (signedOf 32 n)) ⌝ }
 {
-    let s = operands::slot_at(op, wide, k);
-    let count = 1 << (s.width + s.extra);
-    let reading = s.reading;
+    let f = operands::field_at(op, wide, k);
+    let count = 1 << (f.width + f.extra);
+    let reading = f.reading;
     match reading {
         b's' => (n < count / 2) | (n > 0xFFFF_FFFF - count / 2),
         b'h' => (24 <= n) & (n < 24 + count),
@@ -47,8 +47,8 @@ fn operand_bits(op: u32, wide: bool, k: usize, n: u32) -> u32
     requires { ⌜ (op < 64) × (k < 4) ⌝ }
     ensures { λ r. ⌜ r ≡ placedIn (shownFields (widthBy wide) (operationOf op) k) n ⌝ }
 {
-    let s = operands::slot_at(op, wide, k);
-    put(n >> s.width, s.extra, s.upper) + put(n, s.width, s.place)
+    let f = operands::field_at(op, wide, k);
+    put(n >> f.width, f.extra, f.upper) + put(n, f.width, f.place)
 }
 
 // ---- words
@@ -93,7 +93,7 @@ fn operation_bits(op: u32, wide: bool) -> u32
 
 // The bits of a condition of 32-bit words; without one there are none.
 fn guard_bits(conditional: bool, creg: u32, condition: u32) -> u32
-    ensures { λ r. ⌜ r ≡ if_then_else_ conditional (2 ^ 25 + creg % 2 ^ 3 * 2 ^ 22 + condition % 2 ^ 3 * 2 ^ 19) 0 ⌝ }
+    ensures { λ r. ⌜ r ≡ if_then_else_ conditional (placedIn (conditionalField w32) 1 + placedIn (cregField w32) creg + placedIn (conditionField w32) condition) 0 ⌝ }
 {
     if conditional {
         0x0200_0000 + put(creg, 3, 22) + put(condition, 3, 19)

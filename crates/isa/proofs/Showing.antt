@@ -113,12 +113,12 @@ unfolding decode assembled operandsOf
 bit-field word e = ap (λ (n : ℕ). immediateOf (layoutOf w32 (properties (operationOf n) .form) .immediate) word) e ∙ pieces word
 
 -- the two parts of such a number
-pub parts : (x y : ℕ) → x < 64 → y < 32 → (fieldOf (bits 10 to 5) (wordOf 32 (pos (x * 32 + y))) ≡ x) × (fieldOf (bits 4 to 0) (wordOf 32 (pos (x * 32 + y))) ≡ y)
+pub length-position : (x y : ℕ) → x < 64 → y < 32 → (fieldOf (bits 10 to 5) (wordOf 32 (pos (x * 32 + y))) ≡ x) × (fieldOf (bits 4 to 0) (wordOf 32 (pos (x * 32 + y))) ≡ y)
 unfolding fieldOf modZ
-parts x y h k = (omega arith, omega arith)
+length-position x y h k = (omega arith, omega arith)
 
 pub bit-field-shown : BitFieldShown
 unfolding shownValue
 bit-field-shown word e =
-    let p = parts (fieldOf (bits 24 to 19) word) (fieldOf (bits 4 to 0) word) (field-below (bits 24 to 19) word) (field-below (bits 4 to 0) word) in
+    let p = length-position (fieldOf (bits 24 to 19) word) (fieldOf (bits 4 to 0) word) (field-below (bits 24 to 19) word) (field-below (bits 4 to 0) word) in
     rw (bit-field word e) (ap pos (p .0), ap pos (p .1))

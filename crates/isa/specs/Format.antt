@@ -3,7 +3,7 @@
 use mathlib.Core.Bool.{Bool, true, false, _&&_, _||_}
 use mathlib.Core.List.{List, [], _∷_}
 use Prim.Native.Nat.{ℕ, _+_, _-_, _*_, _/_, _%_, _^_}
-use lib.Dec.{leb}
+use lib.Dec.{leb, ltb}
 use lib.ListN.{take, drop}
 use Rattle.word.specs.Word.{Field, bits_to_, fieldOf}
 use Rattle.isa.specs.Operation.{Width, w16, w32, Form, NoOperands, ThreeRegisters, ReversedRegisters, TwoRegisters, Destination, Source, CompareRegisters, CompareImmediate, SignedImmediate, UnsignedImmediate, Count, BitField, Memory, Halfword, Jump, Branch, LowBits}
@@ -29,6 +29,11 @@ placedIn (f ∷ fs) n = n / 2 ^ fieldsWidth fs % 2 ^ f .width * 2 ^ f .place + p
 unfoldable pub keptIn : List Field → (word : ℕ) → ℕ
 keptIn [] word = 0
 keptIn (f ∷ fs) word = fieldOf f word * 2 ^ f .place + keptIn fs word
+
+-- bit n is one of the pieces'
+unfoldable pub hasBit : (n : ℕ) → List Field → Bool
+hasBit n [] = false
+hasBit n (f ∷ fs) = (leb (f .place) n && ltb n (f .place + f .width)) || hasBit n fs
 
 -- all pieces lie below bit k
 unfoldable pub lieBelow : (k : ℕ) → List Field → Bool
@@ -177,5 +182,5 @@ operandFields width form Position = drop 1 (layoutOf width form .immediate .fiel
 
 -- to unfold all of these
 unfoldable pub formats : Unit {0}
-unfolding fieldsWidth fieldsOf placedIn keptIn lieBelow disjoint disjointFrom separate operationField conditionalField cregField conditionField layoutOf operandFields
+unfolding fieldsWidth fieldsOf placedIn keptIn hasBit lieBelow disjoint disjointFrom separate operationField conditionalField cregField conditionField layoutOf operandFields
 formats = tt

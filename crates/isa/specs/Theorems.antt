@@ -1,19 +1,20 @@
 -- What is proved of the instruction set: the statements, each with the sentence of 01 or 02 that it says. Assumes nothing.
 use mathlib.Core.Path.{_≡_}
 use mathlib.Core.Logic.{_⊎_}
-use mathlib.Core.Bool.{Bool, false, not, _&&_, _||_}
+use mathlib.Core.Bool.{Bool, true, false, not, _&&_, _||_}
 use mathlib.Core.List.{List, [], _∷_, _++_}
 use Prim.Native.Nat.{ℕ, _+_, _≤_, _<_}
 use lib.Dec.{leb, eqb}
 use lib.IntN.{pos}
 use Rattle.word.specs.Choice.{if_then_else_}
-use Rattle.word.specs.Word.{bits_to_, fieldOf}
+use Rattle.word.specs.Word.{bits_to_, fieldOf, bitAt}
 use Rattle.isa.specs.Operation.{operationOf, Width, w16, w32, widthBy, unavailable, codeOf, properties}
 use Rattle.isa.specs.Text.{bytes}
 use Rattle.isa.specs.Condition.{conditionOf, nameOf}
-use Rattle.isa.specs.Format.{Role, Dreg, Sreg1, Sreg2, Creg, Imm, Length, Position, layoutOf}
+use Rattle.isa.specs.Format.{hasBit, Role, Dreg, Sreg1, Sreg2, Creg, Imm, Length, Position, layoutOf}
 use Rattle.isa.specs.Decode.{opcodeOf, decode}
 use Rattle.isa.specs.Shown.{hasForm, shownRoles, shownValue}
+use Rattle.isa.specs.Used.{usedFields, cleared}
 use Rattle.isa.specs.declared.Instruction.{Instruction}
 
 -- ---- the table, of all operations at once
@@ -95,3 +96,24 @@ abbrev pub BitFieldShown : Type 0
 BitFieldShown =
     (word : ℕ) → opcodeOf w32 word ≡ 63
     → (shownValue (decode w32 word) Length ≡ pos (fieldOf (bits 24 to 19) word)) × (shownValue (decode w32 word) Position ≡ pos (fieldOf (bits 4 to 0) word))
+
+-- ---- ignored bits (01 "Bits that an operation does not use are ignored", 02 wish 7)
+
+-- two instructions are alike in all that an operation reads; creg, where it is an operand, is among those shown
+pub record ReadAlike (i j : Instruction) : Type 0 where
+  pub opcode : i .opcode ≡ j .opcode
+  pub conditional : i .conditional ≡ j .conditional
+  pub condition : i .conditional ≡ true → (i .creg ≡ j .creg) × (i .condition ≡ j .condition)
+  pub dreg : i .dreg ≡ j .dreg
+  pub sreg1 : i .sreg1 ≡ j .sreg1
+  pub sreg2 : i .sreg2 ≡ j .sreg2
+  pub immediate : i .immediate ≡ j .immediate
+
+abbrev pub ClearedRead : Type 0
+ClearedRead = (width : Width) (word : ℕ) → ReadAlike (decode width (cleared width word)) (decode width word)
+
+-- the bits of a word with its ignored bits 0
+abbrev pub ClearedBit : Type 0
+ClearedBit = (width : Width) (word n : ℕ)
+    → let i = decode width word in
+    bitAt n (cleared width word) ≡ hasBit n (usedFields width (operationOf (i .opcode)) (i .conditional)) && bitAt n word

@@ -1,3 +1,3 @@
--- Laws of the letters of operands.
+-- Laws of the code's tables of operands.
 pub mod Table
 pub mod Roles

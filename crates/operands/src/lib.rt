@@ -1,4 +1,4 @@
-// The operands of an instruction that a listing shows: what each is to the operation, as a letter, and its value.
+// The operands of an instruction that a listing shows: what each is to the operation, as a letter, where it stands in a word, and its value.
 ghost use mathlib.Core.Path.{_≡_};
 ghost use Prim.Native.Nat.{_%_, _<_};
 ghost use lib.ListN.{length};
@@ -6,12 +6,12 @@ ghost use Rattle.word.specs.Word.{wordOf};
 ghost use Rattle.isa.specs.Operation.{operationOf, widthBy};
 ghost use Rattle.isa.specs.Shown.{shownValue};
 ghost use Rattle.operands.specs.Letters.{roleOf, letterAt};
-ghost use Rattle.operands.specs.Slots.{slotAt};
+ghost use Rattle.operands.specs.Places.{fieldAt};
 ghost use Rattle.operands.specs.Table.{entryIn};
 use isa::Instruction;
 
 // Where an operand that is shown stands in a word, in at most two pieces, and how its bits are read.
-pub struct Slot {
+pub struct OperandField {
     // The piece with the lowest bits: where it begins and how many bits it is; an operand that is absent has none.
     pub place: u32,
     pub width: u32,
@@ -60,12 +60,12 @@ pub fn letter(op: u32, wide: bool, k: usize) -> u8
 }
 
 // Where operand k of operation op stands, k from 0 on. 16-bit words have no field in two pieces.
-pub fn slot_at(op: u32, wide: bool, k: usize) -> Slot
+pub fn field_at(op: u32, wide: bool, k: usize) -> OperandField
     requires { ⌜ (op < 64) × (k < 4) ⌝ }
-    ensures { λ r. ⌜ r ≡ slotAt (widthBy wide) (operationOf op) k ⌝ }
+    ensures { λ r. ⌜ r ≡ fieldAt (widthBy wide) (operationOf op) k ⌝ }
 {
     if wide {
-        Slot {
+        OperandField {
             place: number(
                 b"    JE  JE  JE  JE  JE  JE  JE  JE  JE  JE  JE  JE  JE  JE  JE  JE  JE  JE  JE  JE  JE  JE  JE  JE  JE  JE  JE  JE  JE  JE  J   VE  VE  P   P           E   E   V   V   V   V   V   V   V   V                                   J   E   JE  J E JE  JE  JE  JES ",
                 op,
@@ -93,7 +93,7 @@ pub fn slot_at(op: u32, wide: bool, k: usize) -> Slot
             ),
         }
     } else {
-        Slot {
+        OperandField {
             place: number(
                 b"     C   C   C   C   C   C   C   C   C   C   C   C   C   C   C   C   C   C   C   C   C   C   C   C   C   C   CF  CF  C   C      C    C                  C   C                                                                       C    C   C   C   C   C      ",
                 op,

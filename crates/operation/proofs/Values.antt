@@ -1,4 +1,4 @@
--- Values that operations move: low bits of an immediate, condition registers in a word, a stack that is empty or not, targets. Assumes nothing.
+-- Values that operations move: condition registers in a word, a stack that is empty or not, targets. Assumes nothing.
 use mathlib.Core.Path.{_≡_, refl, ap, _∙_}
 use mathlib.Core.Bool.{true, false}
 use mathlib.Core.List.{List, [], _∷_}
@@ -20,23 +20,6 @@ use Rattle.word.proofs.Handed.{handed}
 use Rattle.word.proofs.Integers.{back}
 use Rattle.view.specs.View.{View, nestedBy}
 use Rattle.operation.specs.Execute.{targetBy, packed}
-
--- ---- low bits
-
--- a product less a number below it, in parts
-split-less : (m n h b d : ℕ) → m ≡ d + suc h → b < n → m * n - suc (h * n + b) ≡ d * n + (n - suc b)
-split-less m n h b d e l = let f : m * n ≡ (d + suc h) * n = ap (λ (k : ℕ). k * n) e in omega arith
-
--- the low bits of the word that holds z are the shorter word that does
-pub word-low : (j k : ℕ) (z : ℤ) → wordOf (j + k) z % 2 ^ k ≡ wordOf k z
-unfolding modZ
-word-low j k (pos n) = mod-mod-pow n j k
-word-low j k (negsuc n) =
-    let h = n / 2 ^ k % 2 ^ j in
-    let p : h < 2 ^ j = mod-lt (n / 2 ^ k) (pow-pos j) in
-    let q : n % 2 ^ k < 2 ^ k = mod-lt n (pow-pos k) in
-    rw (mod-pow-add n j k, pow-add 2 j k, split-less (2 ^ j) (2 ^ k) h (n % 2 ^ k) (2 ^ j - suc h) (omega arith) q)
-    (low (2 ^ j - suc h) k (omega arith))
 
 -- ---- condition registers
 

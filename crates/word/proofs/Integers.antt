@@ -1,13 +1,13 @@
 -- Signed numbers: their words, and what i32 and i64 hold. omega does not read ℤ: each law here takes a statement on ℤ to one on ℕ.
--- word-signed and signed-word are for an encoder of immediates, address-word and natural-address for reachability. Assumes nothing.
+-- address-word and natural-address are for reachability. Assumes nothing.
 use mathlib.Core.Path.{_≡_, refl, sym, ap, _∙_}
 use mathlib.Core.Bool.{Bool, true, false, true≢false}
-use Prim.Native.Nat.{ℕ, zero, suc, _+_, _-_, _*_, _%_, _^_, _≤_, _<_}
-use native.Mathlib.Nat.{pow-suc, not-suc-le-zero, one-mul, mod-eq-of-lt, mul-le-mul, mul-le-mul-left, mul-lt-mul-of-pos-right, add-le-add, le-of-lt, le-trans, lt-of-le-of-lt}
+use Prim.Native.Nat.{ℕ, zero, suc, _+_, _-_, _*_, _/_, _%_, _^_, _≤_, _<_}
+use native.Mathlib.Nat.{pow-suc, not-suc-le-zero, one-mul, mod-eq-of-lt, mod-lt, mul-le-mul, mul-le-mul-left, mul-lt-mul-of-pos-right, add-le-add, le-of-lt, le-trans, lt-of-le-of-lt}
 use native.Mathlib.Omega.{arith}
 use lib.Dec.{T, ltb, leb, ltb→lt, leb→le, lt→ltb, le→leb}
 use lib.IntN.{ℤ, pos, negsuc, negℤ, natAbs, subℕ, _+ℤ_, _-ℤ_, _*ℤ_}
-use lib.Pow.{pow-add, pow-lt, pow-mono, pow-pos}
+use lib.Pow.{pow-add, pow-lt, pow-mono, pow-pos, mod-pow-add, mod-mod-pow, low}
 use lib.Signed.{mag, ltZ, natAbs-le}
 use borrow.Author.Tests.{lt-ltb, le-ltb, ltb-true, ltb-false}
 use mir.Syntax.{Width, w32, w64}
@@ -15,7 +15,7 @@ use mir.Val.{hbits, SFits, toZ, ofZ}
 use mir.Facts.{toZ-ofZ, sfits-widen}
 use Rattle.word.specs.Choice.{if_then_else_}
 use Rattle.word.specs.Word.{signedOf, modZ, wordOf, isAddress}
-use Rattle.word.proofs.Tests.{either}
+use Rattle.word.proofs.Tests.{either, same-test}
 
 -- ---- differences of naturals
 
@@ -140,11 +140,20 @@ pub natural-address : (n : ℕ) → n < 2 ^ 32 → isAddress (pos n) ≡ true
 unfolding isAddress
 natural-address n b = lt-ltb n (2 ^ 32) b
 
--- the low word of a word
-pub low-word-is : (z : ℤ) → wordOf 64 z % 2 ^ 32 ≡ wordOf 32 z
+-- a product less a number below it, in parts
+split-less : (m n h b d : ℕ) → m ≡ d + suc h → b < n → m * n - suc (h * n + b) ≡ d * n + (n - suc b)
+split-less m n h b d e l = let f : m * n ≡ (d + suc h) * n = ap (λ (k : ℕ). k * n) e in omega arith
+
+-- the low bits of the word that holds z are the shorter word that does
+pub word-low : (j k : ℕ) (z : ℤ) → wordOf (j + k) z % 2 ^ k ≡ wordOf k z
 unfolding modZ
-low-word-is (pos n) = omega arith
-low-word-is (negsuc n) = omega arith
+word-low j k (pos n) = mod-mod-pow n j k
+word-low j k (negsuc n) =
+    let h = n / 2 ^ k % 2 ^ j in
+    let p : h < 2 ^ j = mod-lt (n / 2 ^ k) (pow-pos j) in
+    let q : n % 2 ^ k < 2 ^ k = mod-lt n (pow-pos k) in
+    rw (mod-pow-add n j k, pow-add 2 j k, split-less (2 ^ j) (2 ^ k) h (n % 2 ^ k) (2 ^ j - suc h) (omega arith) q)
+    (low (2 ^ j - suc h) k (omega arith))
 
 -- ---- sums, differences and products in range
 
@@ -210,13 +219,6 @@ pub back : (w : Width) (z : ℤ) → mag z < 2 ^ hbits w → toZ w (ofZ w z) ≡
 back w z h = toZ-ofZ (record { sfits = h })
 
 -- ---- wrapping sums and differences
-
--- two tests are one where each follows from the other
-same-test : (s t : Bool) → (T s → T t) → (T t → T s) → s ≡ t
-same-test true true f g = refl
-same-test true false f g = absurd (f tt)
-same-test false true f g = absurd (g tt)
-same-test false false f g = refl
 
 -- the carry out, from the wrapped sum
 pub carry-is : (a b : ℕ) → a < 2 ^ 32 → b < 2 ^ 32 → ltb ((a + b) % 2 ^ 32) a ≡ leb (2 ^ 32) (a + b)

@@ -3,7 +3,7 @@ use mathlib.Core.Path.{_≡_, refl, sym}
 use mathlib.Core.Bool.{Bool, true, false, true≢false, _&&_, _||_}
 use Prim.Native.Nat.{ℕ, _≤_}
 use native.Mathlib.Omega.{arith}
-use lib.Dec.{leb}
+use lib.Dec.{T, leb}
 use borrow.Author.Tests.{leb-true}
 use mir.Val.{boolByte}
 use Rattle.word.specs.Choice.{if_then_else_}
@@ -58,3 +58,10 @@ pub if-holds : {A : Type 0} (P : A → Type 0) (b : Bool) {x y : A} → (b ≡ t
 unfolding if_then_else_
 if-holds P true f g = f refl
 if-holds P false f g = g refl
+
+-- two tests are one where each follows from the other
+pub same-test : (s t : Bool) → (T s → T t) → (T t → T s) → s ≡ t
+same-test true true f g = refl
+same-test true false f g = absurd (f tt)
+same-test false true f g = absurd (g tt)
+same-test false false f g = refl

@@ -2,11 +2,12 @@
 use native.Mathlib.Omega.{arith}
 use borrow.Author.Needs.{needs}
 use Rattle.word.specs.Choice.{if_then_else_}
+use Rattle.isa.specs.Format.{fieldsWidth, placedIn, conditionalField, cregField, conditionField}
 use Rattle.encoder.proofs.guard_bits.Statement.{statement}
 use Rattle.encoder.proofs.guard_bits.Tie as tie
 
 returns : tie.Need-returns
-unfolding if_then_else_
+unfolding if_then_else_ placedIn fieldsWidth conditionalField cregField conditionField
 returns c = rw (c .before .before .if1 .taken) (omega (arith, c .put2 .ensures, c .before .put .ensures))
 
 returns-2 : tie.Need-returns-2

@@ -6,7 +6,7 @@ use Rattle.word.specs.Arithmetic.{pieceOf}
 use Rattle.word.proofs.Ranges.{the-last}
 use Rattle.isa.specs.Operation.{operations, operationOf}
 use Rattle.operation.specs.Execute.{execute}
-use Rattle.operation.proofs.Values.{word-low}
+use Rattle.word.proofs.Integers.{word-low}
 use Rattle.operation.proofs.field.fields.Statement.{statement}
 use Rattle.operation.proofs.field.fields.Tie as tie
 

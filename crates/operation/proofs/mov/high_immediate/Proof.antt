@@ -1,6 +1,6 @@
 -- `operation::mov::high_immediate` meets its contract: half by half. Assumes nothing.
 use borrow.Author.Needs.{needs}
-use Rattle.operation.proofs.Values.{word-low}
+use Rattle.word.proofs.Integers.{word-low}
 use Rattle.operation.proofs.mov.high_immediate.Statement.{statement}
 use Rattle.operation.proofs.mov.high_immediate.Tie as tie
 

@@ -5,7 +5,7 @@ use borrow.Author.Needs.{needs}
 use Rattle.isa.specs.Operation.{operations, operationOf}
 use Rattle.operation.specs.Execute.{execute}
 use Rattle.word.proofs.Ranges.{the-last}
-use Rattle.operation.proofs.Values.{word-low}
+use Rattle.word.proofs.Integers.{word-low}
 use Rattle.operation.proofs.mov.moves.Statement.{statement}
 use Rattle.operation.proofs.mov.moves.Tie as tie
 

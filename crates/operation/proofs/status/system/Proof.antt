@@ -6,7 +6,7 @@ use Rattle.isa.specs.Operation.{operations, operationOf}
 use Rattle.operation.specs.Execute.{execute}
 use Rattle.view.specs.View.{view}
 use Rattle.word.proofs.Ranges.{the-last}
-use Rattle.operation.proofs.Values.{word-low}
+use Rattle.word.proofs.Integers.{word-low}
 use Rattle.operation.proofs.status.system.Statement.{statement}
 use Rattle.operation.proofs.status.system.Tie as tie
 

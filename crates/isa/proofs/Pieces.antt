@@ -7,14 +7,13 @@ use native.Mathlib.Nat.{add-mul-div-right, add-mul-mod-self-right, mul-add-mod-s
 use native.Mathlib.Omega.{arith}
 use lib.Dec.{leb, ltb, eqb}
 use lib.Pow.{pow-pos, pow-add, shr-shr, split, high, low, mod-pow-add, mod-mod-pow, field}
-use borrow.Author.Tests.{ltb-true, ltb-false, leb-true, leb-false, le-leb}
+use borrow.Author.Tests.{ltb-true, ltb-false, leb-true, leb-false, le-leb, eqb-true}
 use Rattle.word.specs.Word.{Field, fieldOf, bitAt, wordOf}
 use Rattle.word.proofs.Tests.{either, and-parts, and-both, or-parts}
 use Rattle.word.proofs.Bounds.{field-below}
-use Rattle.isa.specs.Format.{fieldsWidth, fieldsOf, placedIn, keptIn, lieBelow, disjoint, disjointFrom, separate}
+use Rattle.isa.specs.Format.{fieldsWidth, fieldsOf, placedIn, keptIn, hasBit, lieBelow, disjoint, disjointFrom, separate}
 use Rattle.isa.proofs.Fields.{fields-below}
-use Rattle.encoder.specs.Encode.{Part, written}
-use Rattle.encoder.specs.Theorems.{piecesOf, AllHold, WrittenRead, WrittenBelow, isUsed}
+use Rattle.isa.proofs.Rows.{isOne, areAmong}
 
 -- ---- one piece of n bits at place p: v is put into a word w that has zeros there
 
@@ -72,22 +71,22 @@ append-none (x ∷ xs) = ap (λ (l : List _). x ∷ l) (append-none xs)
 
 -- ---- pieces with what goes into them
 
-abbrev Filled : Type 0
+abbrev pub Filled : Type 0
 Filled = Field × ℕ
 
-unfoldable sumOf : List Filled → ℕ
+unfoldable pub sumOf : List Filled → ℕ
 sumOf [] = 0
 sumOf (x ∷ xs) = x .1 * 2 ^ x .0 .place + sumOf xs
 
-unfoldable places : List Filled → List Field
+unfoldable pub places : List Filled → List Field
 places [] = []
 places (x ∷ xs) = x .0 ∷ places xs
 
-unfoldable Fit : List Filled → Type 0
+unfoldable pub Fit : List Filled → Type 0
 Fit [] = Unit {0}
 Fit (x ∷ xs) = (x .1 < 2 ^ x .0 .width) × Fit xs
 
-unfoldable Reads : List Filled → (word : ℕ) → Type 0
+unfoldable pub Reads : List Filled → (word : ℕ) → Type 0
 Reads [] word = Unit {0}
 Reads (x ∷ xs) word = (fieldOf (x .0) word ≡ x .1) × Reads xs word
 
@@ -115,7 +114,7 @@ others g v w (y ∷ ys) e h t r =
     (disjoint-either g (y .0) (t′ .0) (over (y .0) g v w e h) (under (y .0) g v w e h) ∙ r .0, others g v w ys e h (t′ .1) (r .1))
 
 -- each is read back
-all-read : (xs : List Filled) → separate (places xs) ≡ true → Fit xs → Reads xs (sumOf xs)
+pub all-read : (xs : List Filled) → separate (places xs) ≡ true → Fit xs → Reads xs (sumOf xs)
 unfolding sumOf places Fit Reads separate fieldOf
 all-read [] s h = tt
 all-read (x ∷ xs) s h =
@@ -124,7 +123,7 @@ all-read (x ∷ xs) s h =
     (same (x .0 .place) (x .0 .width) (x .1) (sumOf xs) empty (h .0), others (x .0) (x .1) (sumOf xs) xs empty (h .0) (s′ .0) (all-read xs (s′ .1) (h .1)))
 
 -- the sum lies below bit k where all pieces do
-none-above : (k : ℕ) (xs : List Filled) → lieBelow k (places xs) ≡ true → separate (places xs) ≡ true → Fit xs → sumOf xs / 2 ^ k ≡ 0
+pub none-above : (k : ℕ) (xs : List Filled) → lieBelow k (places xs) ≡ true → separate (places xs) ≡ true → Fit xs → sumOf xs / 2 ^ k ≡ 0
 unfolding sumOf places Fit lieBelow separate fieldOf
 none-above k [] t s h = zero-div (2 ^ k)
 none-above k (x ∷ xs) t s h =
@@ -135,27 +134,27 @@ none-above k (x ∷ xs) t s h =
 
 -- ---- a number in pieces, before others
 
-unfoldable spread : List Field → (n : ℕ) → List Filled → List Filled
+unfoldable pub spread : List Field → (n : ℕ) → List Filled → List Filled
 spread [] n xs = xs
 spread (f ∷ fs) n xs = (f, n / 2 ^ fieldsWidth fs % 2 ^ f .width) ∷ spread fs n xs
 
-spread-places : (fs : List Field) (n : ℕ) (xs : List Filled) → places (spread fs n xs) ≡ fs ++ places xs
+pub spread-places : (fs : List Field) (n : ℕ) (xs : List Filled) → places (spread fs n xs) ≡ fs ++ places xs
 unfolding spread places
 spread-places [] n xs = refl
 spread-places (f ∷ fs) n xs = ap (λ (l : List Field). f ∷ l) (spread-places fs n xs)
 
-spread-fits : (fs : List Field) (n : ℕ) (xs : List Filled) → Fit xs → Fit (spread fs n xs)
+pub spread-fits : (fs : List Field) (n : ℕ) (xs : List Filled) → Fit xs → Fit (spread fs n xs)
 unfolding spread Fit
 spread-fits [] n xs h = h
 spread-fits (f ∷ fs) n xs h = (mod-lt (n / 2 ^ fieldsWidth fs) (pow-pos (f .width)), spread-fits fs n xs h)
 
-spread-sum : (fs : List Field) (n : ℕ) (xs : List Filled) → sumOf (spread fs n xs) ≡ placedIn fs n + sumOf xs
+pub spread-sum : (fs : List Field) (n : ℕ) (xs : List Filled) → sumOf (spread fs n xs) ≡ placedIn fs n + sumOf xs
 unfolding spread sumOf placedIn
 spread-sum [] n xs = omega arith
 spread-sum (f ∷ fs) n xs = let r = spread-sum fs n xs in omega arith
 
 -- where the pieces are read back, so is the number
-spread-read : (fs : List Field) (n : ℕ) (xs : List Filled) (word : ℕ) → Reads (spread fs n xs) word
+pub spread-read : (fs : List Field) (n : ℕ) (xs : List Filled) (word : ℕ) → Reads (spread fs n xs) word
     → (fieldsOf fs word ≡ n % 2 ^ fieldsWidth fs) × Reads xs word
 unfolding spread Reads fieldsOf fieldsWidth
 spread-read [] n xs word r = (omega arith, r)
@@ -164,52 +163,12 @@ spread-read (f ∷ fs) n xs word r =
     let e : fieldOf f word * 2 ^ fieldsWidth fs + fieldsOf fs word ≡ n / 2 ^ fieldsWidth fs % 2 ^ f .width * 2 ^ fieldsWidth fs + n % 2 ^ fieldsWidth fs = cc (rest .0, r .0) in
     (e ∙ sym (mod-pow-add n (f .width) (fieldsWidth fs)), rest .1)
 
--- ---- parts
-
-unfoldable filled : List Part → List Filled
-filled [] = []
-filled (p ∷ ps) = spread (p .fields) (wordOf 32 (p .number)) (filled ps)
-
-filled-places : (ps : List Part) → places (filled ps) ≡ piecesOf ps
-unfolding filled places piecesOf
-filled-places [] = refl
-filled-places (p ∷ ps) = spread-places (p .fields) (wordOf 32 (p .number)) (filled ps) ∙ ap (λ (l : List Field). p .fields ++ l) (filled-places ps)
-
-filled-fits : (ps : List Part) → Fit (filled ps)
-unfolding filled Fit
-filled-fits [] = tt
-filled-fits (p ∷ ps) = spread-fits (p .fields) (wordOf 32 (p .number)) (filled ps) (filled-fits ps)
-
-filled-sum : (ps : List Part) → sumOf (filled ps) ≡ written ps
-unfolding filled sumOf written
-filled-sum [] = refl
-filled-sum (p ∷ ps) = spread-sum (p .fields) (wordOf 32 (p .number)) (filled ps) ∙ ap (λ (x : ℕ). placedIn (p .fields) (wordOf 32 (p .number)) + x) (filled-sum ps)
-
-filled-hold : (ps : List Part) (word : ℕ) → Reads (filled ps) word → AllHold ps word
-unfolding filled Reads AllHold
-filled-hold [] word r = tt
-filled-hold (p ∷ ps) word r =
-    let h = spread-read (p .fields) (wordOf 32 (p .number)) (filled ps) word r in
-    (h .0, filled-hold ps word (h .1))
-
-separate-filled : (ps : List Part) → separate (piecesOf ps) ≡ true → separate (places (filled ps)) ≡ true
-separate-filled ps t = ap separate (filled-places ps) ∙ t
-
-pub written-read : WrittenRead
-written-read ps t = subst (AllHold ps) (filled-sum ps) (filled-hold ps (sumOf (filled ps)) (all-read (filled ps) (separate-filled ps t) (filled-fits ps)))
-
 -- no quotient is left of a word below 2 ^ k
-no-quotient : (k word : ℕ) → word / 2 ^ k ≡ 0 → word < 2 ^ k
+pub no-quotient : (k word : ℕ) → word / 2 ^ k ≡ 0 → word < 2 ^ k
 no-quotient k word e =
     let h : word / 2 ^ k < 1 = omega arith in
     let g = div-lt-iff-lt-mul (pow-pos k) .0 h in
     omega arith
-
-pub written-below : WrittenBelow
-written-below k ps l t =
-    no-quotient k (written ps)
-    (ap (λ (x : ℕ). x / 2 ^ k) (sym (filled-sum ps))
-    ∙ none-above k (filled ps) (ap (lieBelow k) (filled-places ps) ∙ l) (separate-filled ps t) (filled-fits ps))
 
 pub placed-below : (k : ℕ) (fs : List Field) (n : ℕ) → lieBelow k fs ≡ true → separate fs ≡ true → placedIn fs n < 2 ^ k
 unfolding sumOf places Fit
@@ -252,7 +211,7 @@ unfolding keptIn
 kept-append [] gs word = omega arith
 kept-append (f ∷ fs) gs word = omega (arith, kept-append fs gs word)
 
--- ---- the bits that are kept
+-- ---- what is kept
 
 -- what each piece holds in a word
 unfoldable heldIn : List Field → (word : ℕ) → List Filled
@@ -289,8 +248,8 @@ bit-in word p k n l h =
 
 module _ (n word other : ℕ) where
   -- a bit of one of the pieces that two words agree on
-  used-bit : (fs : List Field) → isUsed n fs ≡ true → Reads (heldIn fs word) other → bitAt n other ≡ bitAt n word
-  unfolding isUsed heldIn Reads fieldOf
+  used-bit : (fs : List Field) → hasBit n fs ≡ true → Reads (heldIn fs word) other → bitAt n other ≡ bitAt n word
+  unfolding hasBit heldIn Reads fieldOf
   used-bit [] e r = absurd (true≢false (sym e))
   used-bit (f ∷ fs) e r =
       either (leb (f .place) n && ltb n (f .place + f .width))
@@ -303,11 +262,11 @@ module _ (n word other : ℕ) where
       (λ t. used-bit fs (rw t at e) (r .1))
 
 -- a bit of none of them
-bit-apart : (n : ℕ) (fs : List Field) → isUsed n fs ≡ false → disjointFrom (record { place = n; width = 1 }) fs ≡ true
-unfolding isUsed disjointFrom disjoint
+bit-apart : (n : ℕ) (fs : List Field) → hasBit n fs ≡ false → disjointFrom (record { place = n; width = 1 }) fs ≡ true
+unfolding hasBit disjointFrom disjoint
 bit-apart n [] e = refl
 bit-apart n (f ∷ fs) e =
-    let t = or-parts (leb (f .place) n && ltb n (f .place + f .width)) (isUsed n fs) e in
+    let t = or-parts (leb (f .place) n && ltb n (f .place + f .width)) (hasBit n fs) e in
     and-both (disjoint (record { place = n; width = 1 }) f) (disjointFrom (record { place = n; width = 1 }) fs)
     (either (leb (n + 1) (f .place))
     (λ a. rw a)
@@ -317,13 +276,41 @@ bit-apart n (f ∷ fs) e =
     rw a (le-leb (f .place + f .width) n (ltb-false n (f .place + f .width) c))))
     (bit-apart n fs (t .1))
 
-pub kept-bit : (fs : List Field) (word n : ℕ) → separate fs ≡ true → bitAt n (keptIn fs word) ≡ isUsed n fs && bitAt n word
+-- the pieces hold what they held
+kept-read : (fs : List Field) (word : ℕ) → separate fs ≡ true → Reads (heldIn fs word) (keptIn fs word)
+kept-read fs word s = subst (Reads (heldIn fs word)) (held-sum fs word) (all-read (heldIn fs word) (ap separate (held-places fs word) ∙ s) (held-fits fs word))
+
+pub kept-bit : (fs : List Field) (word n : ℕ) → separate fs ≡ true → bitAt n (keptIn fs word) ≡ hasBit n fs && bitAt n word
 unfolding fieldOf
 kept-bit fs word n s =
     let held = heldIn fs word in
     let apart : separate (places held) ≡ true = ap separate (held-places fs word) ∙ s in
-    either (isUsed n fs)
-    (λ t. rw t (used-bit n word (keptIn fs word) fs t (subst (Reads held) (held-sum fs word) (all-read held apart (held-fits fs word)))))
+    either (hasBit n fs)
+    (λ t. rw t (used-bit n word (keptIn fs word) fs t (kept-read fs word s)))
     (λ t.
     let none = clear (record { place = n; width = 1 }) held (ap (disjointFrom (record { place = n; width = 1 })) (held-places fs word) ∙ bit-apart n fs t) apart (held-fits fs word) in
     rw t (ap (λ (x : ℕ). eqb x 1) (ap (λ (w : ℕ). w / 2 ^ n % 2) (sym (held-sum fs word)) ∙ none)))
+
+-- what a kept piece holds
+kept-piece : (f : Field) (fs : List Field) (word other : ℕ) → isOne f fs ≡ true → Reads (heldIn fs word) other → fieldOf f other ≡ fieldOf f word
+unfolding isOne heldIn Reads
+kept-piece f [] word other e r = absurd (true≢false (sym e))
+kept-piece f (g ∷ gs) word other e r =
+    either (eqb (f .place) (g .place) && eqb (f .width) (g .width))
+    (λ t.
+    let u = and-parts (eqb (f .place) (g .place)) (eqb (f .width) (g .width)) t in
+    let place : f .place ≡ g .place = eqb-true (f .place) (g .place) (u .0) in
+    let width : f .width ≡ g .width = eqb-true (f .width) (g .width) (u .1) in
+    let same : f ≡ g = λ i. record { place = place i; width = width i } in
+    ap (λ (h : Field). fieldOf h other) same ∙ r .0 ∙ ap (λ (h : Field). fieldOf h word) (sym same))
+    (λ t. kept-piece f gs word other (rw t at e) (r .1))
+
+-- pieces that are among those kept hold what they held
+pub kept-fields : (gs fs : List Field) (word : ℕ) → separate fs ≡ true → areAmong gs fs ≡ true → fieldsOf gs (keptIn fs word) ≡ fieldsOf gs word
+unfolding fieldsOf areAmong
+kept-fields [] fs word s e = refl
+kept-fields (g ∷ gs) fs word s e =
+    let t = and-parts (isOne g fs) (areAmong gs fs) e in
+    let first = kept-piece g fs word (keptIn fs word) (t .0) (kept-read fs word s) in
+    let rest = kept-fields gs fs word s (t .1) in
+    cc (first, rest)

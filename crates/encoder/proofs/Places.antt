@@ -9,7 +9,7 @@ use lib.Dec.{leb, ltb, eqb}
 use lib.IntN.{ℤ}
 use lib.ListN.{length}
 use lib.Pow.{pow-mono}
-use borrow.Author.Tests.{ltb-true, ltb-false, leb-true, lt-ltb, le-ltb, le-leb, eq-eqb}
+use borrow.Author.Tests.{ltb-true, ltb-false, leb-true, lt-ltb, le-ltb, le-leb, eqb-true, eq-eqb}
 use Rattle.word.specs.Word.{Field, bitOf, signedOf}
 use Rattle.word.proofs.Tests.{either, and-parts}
 use Rattle.word.proofs.Integers.{double, signed-either}
@@ -17,11 +17,12 @@ use Rattle.isa.specs.Operation.{Operation, operationOf, Width, w16, w32}
 use Rattle.isa.specs.Format.{fieldsWidth, placedIn, lieBelow, separate}
 use Rattle.isa.specs.Used.{shownFields, Reading, Natural, Signed, High, leastOf, shownReading}
 use Rattle.isa.specs.Computed.{instructions}
-use Rattle.operands.specs.Slots.{lowerPiece, upperPiece, readingLetter, slotAt, slots}
-use Rattle.operands.specs.declared.Slot.{Slot}
+use Rattle.operands.specs.Places.{lowerPiece, upperPiece, readingLetter, fieldAt, placing}
+use Rattle.operands.specs.declared.OperandField.{OperandField}
 use Rattle.operands.proofs.Table.{valuesFrom, constant-is}
-use Rattle.encoder.specs.Encode.{fits}
-use Rattle.encoder.proofs.Pieces.{placed-below}
+use Rattle.encoder.specs.Encode.{operandPart, fits, partFits}
+use Rattle.isa.proofs.Pieces.{placed-below}
+use Rattle.encoder.specs.Theorems.{NarrowBits}
 use Rattle.encoder.proofs.Values.{ranges-are}
 
 -- ---- fields of at most two pieces
@@ -53,6 +54,15 @@ two-inside k (f ∷ g ∷ d ∷ fs) h e = absurd (omega arith)
 
 -- ---- the operands of every row
 
+-- a test of operands, computed of all
+computed-true : (test : Operation → ℕ → Bool) → valuesFrom (λ o k. bitOf (test o k)) 0 256 ≡ valuesFrom (λ o k. 1) 0 256 → (op k : ℕ) → op < 64 → k < 4
+    → test (operationOf op) k ≡ true
+computed-true test e op k h l = bit-true (test (operationOf op) k) (constant-is (λ o k. bitOf (test o k)) 1 op k h l e)
+  where
+    bit-true : (b : Bool) → 1 ≡ bitOf b → b ≡ true
+    bit-true true e = refl
+    bit-true false e = absurd (omega arith)
+
 -- the fields of an operand, computed of every row: short and disjoint pieces inside the word, two at most
 unfoldable sizes : Width → Operation → (k : ℕ) → Bool
 sizes width o k =
@@ -62,19 +72,12 @@ sizes width o k =
     && ((ltb (lowerPiece fs .place) 32 && ltb (upperPiece fs .place) 32) && (not (eqb (readingLetter (shownReading width o k)) 115) || leb 1 (fieldsWidth fs))))
 
 computed : (width : Width) → valuesFrom (λ o k. bitOf (sizes width o k)) 0 256 ≡ valuesFrom (λ o k. 1) 0 256
-unfolding instructions slots sizes valuesFrom
+unfolding instructions placing sizes valuesFrom
 computed w16 = refl
 computed w32 = refl
 
-sizes-hold : (width : Width) (op k : ℕ) → op < 64 → k < 4 → sizes width (operationOf op) k ≡ true
-sizes-hold width op k h l = bit-true (sizes width (operationOf op) k) (constant-is (λ o k. bitOf (sizes width o k)) 1 op k h l (computed width))
-  where
-    bit-true : (b : Bool) → 1 ≡ bitOf b → b ≡ true
-    bit-true true e = refl
-    bit-true false e = absurd (omega arith)
-
--- what holds of the slot of operand k
-pub record SlotIs (width : Width) (o : Operation) (k : ℕ) (s : Slot) : Type 0 where
+-- what holds of the field of operand k, as the code has it
+pub record FieldIs (width : Width) (o : Operation) (k : ℕ) (s : OperandField) : Type 0 where
   pub bits : s .width + s .extra ≡ fieldsWidth (shownFields width o k)
   pub short : s .width + s .extra ≤ 25
   pub place : s .place < 32
@@ -86,12 +89,12 @@ pub record SlotIs (width : Width) (o : Operation) (k : ℕ) (s : Slot) : Type 0 
   pub reading : s .reading ≡ readingLetter (shownReading width o k)
   pub signed : s .reading ≡ 115 → 0 < s .width + s .extra
 
-slot-at-is : (width : Width) (op k : ℕ) → op < 64 → k < 4 → SlotIs width (operationOf op) k (slotAt width (operationOf op) k)
-unfolding sizes slotAt
-slot-at-is width op k h l =
+field-at-is : (width : Width) (op k : ℕ) → op < 64 → k < 4 → FieldIs width (operationOf op) k (fieldAt width (operationOf op) k)
+unfolding sizes fieldAt
+field-at-is width op k h l =
     let o = operationOf op in
     let fs = shownFields width o k in
-    let t = and-parts (leb (length fs) 2 && leb (fieldsWidth fs) 25) _ (sizes-hold width op k h l) in
+    let t = and-parts (leb (length fs) 2 && leb (fieldsWidth fs) 25) _ (computed-true (sizes width) (computed width) op k h l) in
     let a = and-parts (leb (length fs) 2) _ (t .0) in
     let u = and-parts (lieBelow 32 fs && separate fs) _ (t .1) in
     let b = and-parts (lieBelow 32 fs) _ (u .0) in
@@ -113,14 +116,28 @@ slot-at-is width op k h l =
       signed = λ e. omega (arith, leb-true 1 (fieldsWidth fs) (rw (eq-eqb _ 115 e) at (v .1)));
     }
 
-pub slot-is : (width : Width) (op k : ℕ) (s : Slot) → op < 64 → k < 4 → s ≡ slotAt width (operationOf op) k → SlotIs width (operationOf op) k s
-slot-is width op k s h l e = subst (SlotIs width (operationOf op) k) (sym e) (slot-at-is width op k h l)
+pub field-is : (width : Width) (op k : ℕ) (s : OperandField) → op < 64 → k < 4 → s ≡ fieldAt width (operationOf op) k → FieldIs width (operationOf op) k s
+field-is width op k s h l e = subst (FieldIs width (operationOf op) k) (sym e) (field-at-is width op k h l)
 
--- whether a number fits, by the slot's bits and reading
-pub fits-by : {width : Width} {o : Operation} {k : ℕ} {s : Slot} → SlotIs width o k s → (r : Reading) → shownReading width o k ≡ r → (z : ℤ)
-    → fits (s .width + s .extra) (leastOf r (s .width + s .extra)) z
-    ≡ fits (fieldsWidth (shownFields width o k)) (leastOf (shownReading width o k) (fieldsWidth (shownFields width o k))) z
+-- whether a number fits, by the field's bits and reading
+pub fits-by : {width : Width} {o : Operation} {k : ℕ} {s : OperandField} → FieldIs width o k s → (r : Reading) → shownReading width o k ≡ r → (z : ℤ)
+    → fits (s .width + s .extra) (leastOf r (s .width + s .extra)) z ≡ partFits (operandPart width o k z)
+unfolding partFits
 fits-by i r e z = rw (e, i .bits)
+
+-- registers of 16-bit words have three bits, computed
+unfoldable narrow : Operation → (k : ℕ) → Bool
+narrow o k = not (eqb (readingLetter (shownReading w16 o k)) 104) || eqb (fieldsWidth (shownFields w16 o k)) 3
+
+narrow-computed : valuesFrom (λ o k. bitOf (narrow o k)) 0 256 ≡ valuesFrom (λ o k. 1) 0 256
+unfolding instructions placing narrow valuesFrom
+narrow-computed = refl
+
+pub narrow-bits : NarrowBits
+unfolding narrow readingLetter
+narrow-bits n k h l e =
+    let t = computed-true narrow narrow-computed n k h l in
+    eqb-true _ 3 (rw e at t)
 
 -- ---- letters of readings
 

@@ -5,7 +5,7 @@ use Prim.Native.Nat.{ℕ}
 use Rattle.word.specs.Word.{Field}
 use Rattle.isa.specs.Operation.{Operation, Width}
 use Rattle.isa.specs.Used.{shownFields, Reading, Natural, Signed, High, shownReading}
-use Rattle.operands.specs.declared.Slot.{Slot}
+use Rattle.operands.specs.declared.OperandField.{OperandField}
 
 abbrev noBits : Field
 noBits = record { place = 0; width = 0 }
@@ -28,8 +28,8 @@ readingLetter Signed = 115  -- s
 readingLetter High = 104  -- h
 
 -- of operand k of an operation, from 0 on
-unfoldable pub slotAt : Width → Operation → (k : ℕ) → Slot
-slotAt width o k =
+unfoldable pub fieldAt : Width → Operation → (k : ℕ) → OperandField
+fieldAt width o k =
     let fs = shownFields width o k in
     record {
       place = lowerPiece fs .place;
@@ -40,6 +40,6 @@ slotAt width o k =
     }
 
 -- to unfold all of these
-unfoldable pub slots : Unit {0}
-unfolding lowerPiece upperPiece readingLetter slotAt
-slots = tt
+unfoldable pub placing : Unit {0}
+unfolding lowerPiece upperPiece readingLetter fieldAt
+placing = tt
