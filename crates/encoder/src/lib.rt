@@ -51,7 +51,7 @@ fn operand_bits(op: u32, wide: bool, k: usize, n: u32) -> u32
     put(n >> f.width, f.extra, f.upper) + put(n, f.width, f.place)
 }
 
-// ---- words
+// ---- words, of operands in two's complement
 
 // Whether an operation has this form in this width, with or without a condition.
 fn has_form(operation: u32, wide: bool, conditional: bool) -> bool
@@ -102,7 +102,7 @@ fn guard_bits(conditional: bool, creg: u32, condition: u32) -> u32
     }
 }
 
-// The word of a choice.
+// The sum of all bits.
 fn word_of(
     op: u32,
     wide: bool,
@@ -125,7 +125,30 @@ fn word_of(
         + operand_bits(op, wide, 3, d)
 }
 
-// The word of an operation with the operands in the order in which a listing shows them, and with a condition where `conditional` says so; or
+// The word of a choice, or the refusal.
+fn encode_words(
+    operation: u32,
+    wide: bool,
+    conditional: bool,
+    creg: u32,
+    condition: u32,
+    a: u32,
+    b: u32,
+    c: u32,
+    d: u32,
+) -> Encoded
+    ensures { λ r. ⌜ encodingOf r ≡ encodeOf (widthBy wide) (chosen operation conditional creg condition (signedOf 32 a) (signedOf 32 b) (signedOf 32 c) (signedOf 32 d)) ⌝ }
+{
+    if !has_form(operation, wide, conditional) {
+        Encoded::Refusal(18)
+    } else if !all_fit(operation, wide, conditional, creg, condition, a, b, c, d) {
+        Encoded::Refusal(19)
+    } else {
+        Encoded::Word(word_of(operation, wide, conditional, creg, condition, a, b, c, d))
+    }
+}
+
+// The word of an operation with its operands in the order in which a listing shows them, and with a condition where `conditional` says so; or
 // the refusal, 18 or 19.
 pub fn encode(
     operation: u32,
@@ -140,15 +163,15 @@ pub fn encode(
 ) -> Encoded
     ensures { λ r. ⌜ encodingOf r ≡ encodeOf (widthBy wide) (chosen operation conditional creg condition a b c d) ⌝ }
 {
-    let a = word::word(a);
-    let b = word::word(b);
-    let c = word::word(c);
-    let d = word::word(d);
-    if !has_form(operation, wide, conditional) {
-        Encoded::Refusal(18)
-    } else if !all_fit(operation, wide, conditional, creg, condition, a, b, c, d) {
-        Encoded::Refusal(19)
-    } else {
-        Encoded::Word(word_of(operation, wide, conditional, creg, condition, a, b, c, d))
-    }
+    encode_words(
+        operation,
+        wide,
+        conditional,
+        creg,
+        condition,
+        word::word(a),
+        word::word(b),
+        word::word(c),
+        word::word(d),
+    )
 }
