@@ -8,7 +8,7 @@
 #include <stdlib.h>
 #include <string.h>
 
-/* Joins the words after WIDTH to one text, blanks between them; or gives NULL and the reason. */
+/* Joins the words after WIDTH to one text, blanks between them; or gives NULL, with errno set. */
 static char *join_words(const struct arguments *arguments)
 {
     size_t len = 1;

@@ -13,17 +13,13 @@ enum {
     OPERATIONS = 64,
     CONDITION_NAMES = 8,
     MOST_OPERANDS = 4,
+    /* The least register of 16-bit words. */
+    LEAST_REGISTER = 24,
     /* Condition, its register, name and operands, and one that is too many. */
     MOST_PARTS = 3 + MOST_OPERANDS + 1,
     /* Of a line of a listing: where the condition stands, and the characters from there on. */
     CONDITION_COLUMN = 18,
-    COLUMNS = COFFEE_LINE - 1 - CONDITION_COLUMN,
-    /* The lowest bit of an operation's number in each width, and of a condition's. */
-    OPERATION_32 = 26,
-    OPERATION_16 = 10,
-    CONDITION_32 = 19,
-    /* add, under condition 0. */
-    CONDITIONAL_ADD = 0x06000000
+    COLUMNS = COFFEE_LINE - 1 - CONDITION_COLUMN
 };
 
 /* The parts of a text, which blanks separate; those past the last that is kept are left out. */
@@ -76,22 +72,6 @@ static bool list_word(uint32_t word, bool wide, struct line *line)
     return true;
 }
 
-/* Finds the name that the line of a word begins with, among `count` words of 32 bits from `first`
-   on that are `step` apart. Its number is `count` where there is none. */
-static bool find_name(const char *name, uint32_t first, uint32_t step, uint32_t count,
-                      uint32_t *number)
-{
-    struct line line;
-
-    for (*number = 0; *number < count; ++*number) {
-        if (!list_word(first + *number * step, true, &line))
-            return false;
-        if (strcmp(line.parts.at[0], name) == 0)
-            break;
-    }
-    return true;
-}
-
 /* The parts of a line, single blanks between them. */
 static const char *join_parts(const struct line *line, char text[COLUMNS + 1])
 {
@@ -99,81 +79,6 @@ static const char *join_parts(const struct line *line, char text[COLUMNS + 1])
     for (size_t i = 0; i < line->parts.count; i++)
         strcat(strcat(text, i == 0 ? "" : " "), line->parts.at[i]);
     return text;
-}
-
-/* ---- reading what was typed */
-
-/* Reads the number of an operand, a register or a plain number, in any spelling: as_listed sees to
-   the right one. A number outside 32 bits, which fits nowhere, gives the nearest one inside. */
-static bool read_operand(const char *text, int32_t *number)
-{
-    uint64_t size;
-    bool minus;
-
-    if (*text == 'R' || *text == 'C' || *text == 'r' || *text == 'c')
-        text++;
-    minus = *text == '-';
-    if (minus || *text == '+')
-        text++;
-    if (!read_decimal(text, &size))
-        return false;
-    if (size > INT32_MAX)
-        *number = minus ? INT32_MIN : INT32_MAX;
-    else
-        *number = minus ? -(int32_t)size : (int32_t)size;
-    return true;
-}
-
-/* Reads the condition, if there is one: then two parts come before the name. */
-static bool read_condition(const struct parts *parts, struct instruction *instruction)
-{
-    int32_t creg;
-
-    if (parts->count == 0)
-        return complain("NAME", "is missing");
-    if (!find_name(parts->at[0], CONDITIONAL_ADD, 1u << CONDITION_32, CONDITION_NAMES,
-                   &instruction->condition))
-        return false;
-    if (instruction->condition == CONDITION_NAMES)
-        return true;
-    if (parts->count < 2 || !read_operand(parts->at[1], &creg))
-        return complain(parts->at[0], "a condition has its register after it, as C7");
-    instruction->creg = (uint32_t)creg;
-    instruction->conditional = true;
-    instruction->name = 2;
-    return true;
-}
-
-/* Reads the operation's name. */
-static bool read_name(const struct parts *parts, struct instruction *instruction)
-{
-    const char *name;
-
-    if (instruction->name == parts->count)
-        return complain("NAME", "is missing");
-    name = parts->at[instruction->name];
-    if (!find_name(name, 0, 1u << OPERATION_32, OPERATIONS, &instruction->operation))
-        return false;
-    if (instruction->operation < OPERATIONS)
-        return true;
-    return complain(name, instruction->conditional ? "no such operation"
-                                                   : "neither an operation nor a condition");
-}
-
-/* Reads the operands, which follow the name. */
-static bool read_operands(const struct parts *parts, struct instruction *instruction)
-{
-    const char *const *operands = parts->at + instruction->name + 1;
-
-    instruction->count = parts->count - instruction->name - 1;
-    if (instruction->count > MOST_OPERANDS)
-        return complain(operands[MOST_OPERANDS], "no operation has more than %d operands",
-                        MOST_OPERANDS);
-    for (size_t i = 0; i < instruction->count; i++) {
-        if (!read_operand(operands[i], &instruction->operands[i]))
-            return complain(operands[i], "neither a register, as R5 or C5, nor a decimal number");
-    }
-    return true;
 }
 
 /* ---- asking the library */
@@ -199,6 +104,125 @@ static bool is_refused(const struct instruction *instruction)
     return ask(instruction, &word) != 0;
 }
 
+/* Asks for the word of a sample: an instruction with the first operands that the library takes,
+   each 0 or the least register of 16-bit words. Gives the refusal, or 0. */
+static uint32_t ask_sample(struct instruction *sample, uint32_t *word)
+{
+    uint32_t refusal = 0;
+
+    for (unsigned choice = 0; choice < 1u << MOST_OPERANDS; choice++) {
+        for (size_t i = 0; i < MOST_OPERANDS; i++)
+            sample->operands[i] = (choice >> i & 1) != 0 ? LEAST_REGISTER : 0;
+        refusal = ask(sample, word);
+        if (refusal == 0)
+            break;
+    }
+    return refusal;
+}
+
+/* Counts `number`, which is one of the sample's, up from 0 until the line of its word begins with
+   this name; a number without a word is passed over. It is `count` where there is no such name. */
+static bool find_name(const char *name, struct instruction *sample, uint32_t *number,
+                      uint32_t count)
+{
+    struct line line;
+    uint32_t word;
+
+    for (*number = 0; *number < count; ++*number) {
+        if (ask_sample(sample, &word) != 0)
+            continue;
+        if (!list_word(word, sample->wide, &line))
+            return false;
+        if (strcmp(line.parts.at[0], name) == 0)
+            break;
+    }
+    return true;
+}
+
+/* ---- reading what was typed */
+
+/* Reads the number of an operand, a register or a plain number, in any spelling: as_listed sees to
+   the right one. A number outside 32 bits, which fits nowhere, gives the nearest one inside. */
+static bool read_operand(const char *text, int32_t *number)
+{
+    uint64_t size;
+    bool minus;
+
+    if (*text == 'R' || *text == 'C' || *text == 'r' || *text == 'c')
+        text++;
+    minus = *text == '-';
+    if (minus || *text == '+')
+        text++;
+    if (!read_decimal(text, &size))
+        return false;
+    if (size > INT32_MAX)
+        *number = minus ? INT32_MIN : INT32_MAX;
+    else
+        *number = minus ? -(int32_t)size : (int32_t)size;
+    return true;
+}
+
+/* Reads the condition, if there is one: then two parts come before the name. It is looked for with
+   the first operation that can have one. */
+static bool read_condition(const struct parts *parts, struct instruction *instruction)
+{
+    struct instruction sample = {.wide = true, .conditional = true};
+    uint32_t word;
+    int32_t creg;
+
+    if (parts->count == 0)
+        return complain("NAME", "is missing");
+    while (sample.operation < OPERATIONS && ask_sample(&sample, &word) != 0)
+        sample.operation++;
+    if (!find_name(parts->at[0], &sample, &sample.condition, CONDITION_NAMES))
+        return false;
+    if (sample.condition == CONDITION_NAMES)
+        return true;
+    if (parts->count < 2 || !read_operand(parts->at[1], &creg))
+        return complain(parts->at[0], "a condition has its register after it, as C7");
+    instruction->creg = (uint32_t)creg;
+    instruction->condition = sample.condition;
+    instruction->conditional = true;
+    instruction->name = 2;
+    return true;
+}
+
+/* Reads the operation's name. It is looked for in 32-bit words, where every one has a form. */
+static bool read_name(const struct parts *parts, struct instruction *instruction)
+{
+    struct instruction sample = {.wide = true};
+    const char *name;
+
+    if (instruction->name == parts->count)
+        return complain("NAME", "is missing");
+    name = parts->at[instruction->name];
+    if (!find_name(name, &sample, &sample.operation, OPERATIONS))
+        return false;
+    instruction->operation = sample.operation;
+    if (instruction->operation < OPERATIONS)
+        return true;
+    return complain(name, instruction->conditional ? "no such operation"
+                                                   : "neither an operation nor a condition");
+}
+
+/* Reads the operands, which follow the name. */
+static bool read_operands(const struct parts *parts, struct instruction *instruction)
+{
+    const char *const *operands = parts->at + instruction->name + 1;
+
+    instruction->count = parts->count - instruction->name - 1;
+    if (instruction->count > MOST_OPERANDS)
+        return complain(operands[MOST_OPERANDS], "no operation has more than %d operands",
+                        MOST_OPERANDS);
+    for (size_t i = 0; i < instruction->count; i++) {
+        if (!read_operand(operands[i], &instruction->operands[i]))
+            return complain(operands[i], "neither a register, as R5 or C5, nor a decimal number");
+    }
+    return true;
+}
+
+/* ---- what is wrong, if anything */
+
 /* The bits of an instruction's word. */
 static unsigned bits_of(const struct instruction *instruction)
 {
@@ -217,18 +241,19 @@ static bool complain_of_form(const char *name, const struct instruction *instruc
                     ask(&plain, &word) == 18 ? "" : "conditional ", bits_of(instruction));
 }
 
-/* Makes an instruction of the same operation that is right: what the word of its number alone is
-   listed as. Sees that no operand is missing. */
+/* Makes an instruction of the same operation that is right. Sees that no operand is missing. */
 static bool make_right(const char *name, const struct instruction *instruction,
                        struct instruction *right)
 {
     char text[COLUMNS + 1];
     struct line line;
+    uint32_t word, refusal;
 
     *right = (struct instruction){.operation = instruction->operation, .wide = instruction->wide};
-    if (!list_word(right->operation << (right->wide ? OPERATION_32 : OPERATION_16), right->wide,
-                   &line) ||
-        !read_operands(&line.parts, right))
+    refusal = ask_sample(right, &word);
+    if (refusal != 0)
+        return complain_of_refusal(name, refusal);
+    if (!list_word(word, right->wide, &line) || !read_operands(&line.parts, right))
         return false;
     return instruction->count >= right->count ||
            complain(name, "an operand is missing; a right one in %u-bit words is '%s'",

@@ -22,7 +22,6 @@ static const char *const reasons[] = {
     [8] = "a buffer too short for an image",
     [16] = "a program that is no whole number of words",
     [17] = "a buffer too short for a listing",
-    [18] = "an operation that has no such form in this width",
     [19] = "an operand or a condition register that does not fit its bits",
 };
 

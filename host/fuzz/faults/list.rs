@@ -983,7 +983,7 @@ pub const FAULTS: &[Fault] = &[
         "    if operation.may_be_conditional(length) {\n        numbers.push((Field::CONDITIONAL, i64::from(conditional)));\n")]),
     choice_fault("cmp's register from the condition", &[change("encode",
         "        numbers.push((field, i64::from(operand)));\n",
-        "        match (operation, field == condition_register(operation, length)) {\n            (Operation::Cmp, true) => numbers.push((field, i64::from(choice.creg))),\n            _ => numbers.push((field, i64::from(operand))),\n        }\n")]),
+        "        match (operation, field == Field::CONDITION_REGISTER) {\n            (Operation::Cmp, true) => numbers.push((field, i64::from(choice.creg))),\n            _ => numbers.push((field, i64::from(operand))),\n        }\n")]),
 
     // Written words: what fits.
     choice_fault("all numbers fit by their low bits", &[change("decode",
@@ -1059,8 +1059,8 @@ pub const FAULTS: &[Fault] = &[
         "(Operand::Target, Lli | Lui) => unsigned(&[(20, 16)]),",
         "(Operand::Target, Lli | Lui) => unsigned(&[(14, 10)]),")]),
     choice_fault("condition register written at 21..19", &[change("decode",
-        "(Operand::ConditionRegister, _) => unsigned(&[(24, 22)]),",
-        "(Operand::ConditionRegister, _) => unsigned(&[(21, 19)]),")]),
+        "CONDITION_REGISTER: Field = unsigned(&[(24, 22)]);",
+        "CONDITION_REGISTER: Field = unsigned(&[(21, 19)]);")]),
     choice_fault("exbfi's length written at 25..20", &[change("decode",
         "(Operand::Length, Exbfi) => unsigned(&[(24, 19)]),",
         "(Operand::Length, Exbfi) => unsigned(&[(25, 20)]),")]),

@@ -298,6 +298,8 @@ impl Field {
     pub const NONE: Field = unsigned(&[]);
     /// "bit 25 conditional"
     pub const CONDITIONAL: Field = unsigned(&[(25, 25)]);
+    /// "24..22 condition register"
+    pub const CONDITION_REGISTER: Field = unsigned(&[(24, 22)]);
     /// "21..19 condition"
     pub const CONDITION: Field = unsigned(&[(21, 19)]);
 
@@ -397,7 +399,7 @@ const fn short_register(parts: &'static [(u32, u32)]) -> Field {
 /// 20..16." exbfi: "length in bits 24..19, position in 4..0".
 fn operand_32(operand: Operand, operation: Operation) -> Field {
     match (operand, operation) {
-        (Operand::ConditionRegister, _) => unsigned(&[(24, 22)]),
+        (Operand::ConditionRegister, _) => Field::CONDITION_REGISTER,
         (Operand::Target, Lli | Lui) => unsigned(&[(20, 16)]),
         (Operand::Target, _) => unsigned(&[(14, 10)]),
         (Operand::Source1, _) => unsigned(&[(9, 5)]),

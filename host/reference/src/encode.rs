@@ -1,6 +1,6 @@
 //! Writing words: from operation, width, condition and operands to the word (02, wish 7).
 
-use crate::decode::{decode, operation_number, Field, Operand, Operation, WordLength};
+use crate::decode::{decode, operation_number, Field, Operation, WordLength};
 use crate::operands::operands;
 use std::iter::repeat;
 use std::ops::RangeInclusive;
@@ -46,7 +46,7 @@ pub fn encode(choice: &Choice) -> u64 {
 }
 
 /// The word of a choice, or the refusal: 18, "asked first", or 19.
-pub fn word(choice: &Choice) -> Result<u32, u32> {
+pub(crate) fn word(choice: &Choice) -> Result<u32, u32> {
     let length = WordLength::from_wide(choice.wide);
     let operation = with_form(choice.operation, length).ok_or(NO_FORM)?;
     let conditional = choice.conditional != 0;
@@ -57,10 +57,7 @@ pub fn word(choice: &Choice) -> Result<u32, u32> {
     let mut numbers = vec![(Field::operation(length), i64::from(choice.operation))];
     if conditional {
         numbers.push((Field::CONDITIONAL, 1));
-        numbers.push((
-            condition_register(operation, length),
-            i64::from(choice.creg),
-        ));
+        numbers.push((Field::CONDITION_REGISTER, i64::from(choice.creg)));
         numbers.push((Field::CONDITION, i64::from(choice.condition)));
     }
     // Operands that the operation does not have have no bits, which nothing but 0 fits.
@@ -85,11 +82,6 @@ fn with_form(number: u32, length: WordLength) -> Option<Operation> {
 fn operand_fields(operation: Operation, length: WordLength) -> impl Iterator<Item = Field> {
     let operands = operands(operation, length).iter();
     operands.map(move |&operand| Field::operand(operand, operation, length))
-}
-
-/// The place of the condition's register.
-fn condition_register(operation: Operation, length: WordLength) -> Field {
-    Field::operand(Operand::ConditionRegister, operation, length)
 }
 
 /// What a listing shows of a word, as a choice; nothing where it shows `?`.
@@ -129,7 +121,7 @@ pub fn cleared(word: u32, wide: u32) -> Option<u32> {
     // Without a condition bit 25 is 0 or ignored.
     if instruction.condition.is_some() {
         used |= Field::CONDITIONAL.mask();
-        used |= condition_register(operation, length).mask();
+        used |= Field::CONDITION_REGISTER.mask();
         used |= Field::CONDITION.mask();
     }
     for field in operand_fields(operation, length) {

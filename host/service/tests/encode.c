@@ -308,25 +308,33 @@ static void test_command_line(void)
     REFUSED("without memory", "encode: Cannot allocate memory", "encode", "32", "nop");
 }
 
-/* The library, by a stand-in for it, has another answer for every instruction. */
-static void answered(uint64_t answer, const char *instruction, const char *line)
+/* The library, by a stand-in for it, has another answer in place of a word. */
+static void answered(const char *width, uint32_t word, uint64_t answer, const char *instruction,
+                     const char *line)
 {
+    fault_setting.word = word;
     fault_setting.encoded = answer;
-    has_none("32", instruction, line);
+    has_none(width, instruction, line);
 }
 
 static void test_library(void)
 {
     section("encode: other answers (from a stand-in for the library)");
     fresh();
-    answered(0x04000444, "add R1 R2 R3", "R3" LISTED "'add R1 R2 R4'");
-    answered(0x06000443, "add R1 R2 R3", "add" LISTED "'c C0 add R1 R2 R3'");
-    answered(0x04000443, "c C0 add R1 R2 R3", "c" LISTED "'add R1 R2 R3'");
-    answered(0x08000443, "add R1 R2 R3", "add" LISTED "'addu R1 R2 R3'");
-    answered(COFFEE_REFUSED + 19, "nop",
-             "nop: refused with 19: an operand or a condition register that does not fit its bits");
-    answered(COFFEE_REFUSED + 17, "nop", "nop: refused with 17: a buffer too short for a listing");
-    answered(COFFEE_REFUSED + 99, "nop", "nop: refused with 99: no reason that is known here");
+    answered("32", 0x04000443, 0x04000444, "add R1 R2 R3", "R3" LISTED "'add R1 R2 R4'");
+    answered("32", 0x04000443, 0x06000443, "add R1 R2 R3", "add" LISTED "'c C0 add R1 R2 R3'");
+    answered("32", 0x06000443, 0x04000443, "c C0 add R1 R2 R3", "c" LISTED "'add R1 R2 R3'");
+    answered("32", 0x04000443, 0x08000443, "add R1 R2 R3", "add" LISTED "'addu R1 R2 R3'");
+#define ANY_FIT ": refused with 19: an operand or a condition register that does not fit its bits"
+    answered("32", 0x04000443, COFFEE_REFUSED + 19, "add R1 R2 R3", "add" ANY_FIT);
+    answered("32", 0x04000443, COFFEE_REFUSED + 17, "add R1 R2 R3",
+             "add: refused with 17: a buffer too short for a listing");
+    answered("32", 0x04000443, COFFEE_REFUSED + 99, "add R1 R2 R3",
+             "add: refused with 99: no reason that is known here");
+    /* Without a word of 'add R24 R24' there is no right one to go by. */
+    answered("16", 0x0400, COFFEE_REFUSED + 19, "add R24 R25", "add" ANY_FIT);
+    /* Without a word of an operation there is no such name. */
+    answered("32", 0, COFFEE_REFUSED + 18, "nop", "nop" NEITHER);
     fault_setting.refusal = 17;
     has_none("32", "nop", "encode: refused with 17: a buffer too short for a listing");
 }

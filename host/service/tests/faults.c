@@ -262,7 +262,10 @@ uint64_t __wrap_coffee_encode(uint32_t operation, uint32_t wide, uint32_t condit
                               uint32_t creg, uint32_t condition, int32_t a, int32_t b, int32_t c,
                               int32_t d)
 {
-    if (in_child && fault_setting.encoded != 0)
+    uint64_t answer = __real_coffee_encode(operation, wide, conditional, creg, condition, a, b, c,
+                                           d);
+
+    if (in_child && fault_setting.encoded != 0 && answer == fault_setting.word)
         return fault_setting.encoded;
-    return __real_coffee_encode(operation, wide, conditional, creg, condition, a, b, c, d);
+    return answer;
 }

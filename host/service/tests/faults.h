@@ -22,7 +22,8 @@ extern struct fault_setting {
     int error;        /* of FAIL and DEAD; 0 is EIO */
     void (*hook)(void);
     uint32_t refusal; /* with which the library refuses */
-    uint64_t encoded; /* what coffee_encode answers, or 0 */
+    uint32_t word;    /* in place of which coffee_encode answers `encoded` */
+    uint64_t encoded; /* that answer, or 0 */
     long file_system; /* the kind that a folder is on, or 0 */
     int log;          /* gets a line for each call, if above 0 */
 } fault_setting;

@@ -96,7 +96,7 @@ impl Coverage {
         }
         let misfits: Vec<_> = forms.misfits(choice).collect();
         let refusal = answer.refusal();
-        if refusal == 18 {
+        if refusal == Some(18) {
             for &(part, _, _) in &misfits {
                 let place = usize::from(matches!(part, Part::Operand(_)));
                 self.together[width][place] += 1;
@@ -109,7 +109,7 @@ impl Coverage {
         };
         let operation = choice.operation as usize;
         match refusal {
-            0 => {
+            None => {
                 by_answer[0] += 1;
                 for (part, number, range) in forms.parts(choice) {
                     if let Part::Operand(index) = part {
@@ -125,8 +125,8 @@ impl Coverage {
                     self.no_condition[width] += 1;
                 }
             }
-            18 => by_answer[1] += 1,
-            _ => {
+            Some(18) => by_answer[1] += 1,
+            Some(_) => {
                 by_answer[2] += 1;
                 match misfits[..] {
                     [alone] => self.count_misfit(width, operation, alone),

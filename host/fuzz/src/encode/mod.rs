@@ -42,17 +42,17 @@ impl Answer {
         u32::try_from(self.0).ok()
     }
 
-    /// The refusal, 0 for none.
-    pub fn refusal(self) -> u64 {
-        self.0.saturating_sub(REFUSED)
+    /// The number of the refusal, where it is one.
+    pub fn refusal(self) -> Option<u64> {
+        self.0.checked_sub(REFUSED)
     }
 }
 
 impl fmt::Display for Answer {
     fn fmt(&self, f: &mut fmt::Formatter<'_>) -> fmt::Result {
-        match self.word() {
-            Some(word) => write!(f, "{word:08X}h"),
-            None => write!(f, "refusal {}", self.refusal()),
+        match self.refusal() {
+            None => write!(f, "{:08X}h", self.0),
+            Some(refusal) => write!(f, "refusal {refusal}"),
         }
     }
 }
@@ -103,11 +103,10 @@ fn agreed(choice: &Choice, sides: Sides) -> Result<Answer, Difference> {
 /// from, and a second writing alters nothing. A word that came in is written with zeros.
 fn as_promised(input: &Input, answer: Answer, sides: Sides) -> Result<(), Difference> {
     let both = |what: String| Err(Difference::Both(what));
-    let meant = u64::from(input.refusal);
+    // No refusal has the number 0, so 2^32 is neither that nor a word.
+    let meant = Some(u64::from(input.refusal)).filter(|&refusal| refusal != 0);
     if answer.refusal() != meant {
-        return both(format!(
-            "{answer} where the generator meant refusal {meant}"
-        ));
+        return both(format!("{answer} is not what the generator meant"));
     }
     let Some(word) = answer.word() else {
         return Ok(());
@@ -298,6 +297,14 @@ mod tests {
         }
     }
 
+    /// The reference, but nop is refused with 0.
+    fn refusal_0(choice: &Choice) -> u64 {
+        match encode(choice) {
+            0 => REFUSED,
+            answer => answer,
+        }
+    }
+
     /// The reference, but a shift by 32 is written as one by 0.
     fn shift_by_32(choice: &Choice) -> u64 {
         let mut choice = *choice;
@@ -310,7 +317,7 @@ mod tests {
     /// What both sides do wrong is found too.
     #[test]
     fn both_sides_wrong() {
-        for wrong in [ignored_bit, shift_by_32, wrong_at_13] {
+        for wrong in [ignored_bit, refusal_0, shift_by_32, wrong_at_13] {
             let sides = Sides {
                 reference: wrong,
                 library: wrong,
