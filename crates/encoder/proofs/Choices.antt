@@ -1,24 +1,23 @@
 -- The parts of a choice and the word: what a word is read as stands in its parts' fields, and the fields of a choice's parts are those used.
 -- Assumes nothing.
-use mathlib.Core.Path.{_≡_, refl, sym, ap, _∙_, subst}
-use mathlib.Core.Bool.{Bool, true, false, not, _&&_, _||_, true≢false, and-true}
+use mathlib.Core.Path.{_≡_, refl, sym, ap, _∙_}
+use mathlib.Core.Bool.{Bool, true, false, _&&_, and-true}
 use mathlib.Core.Logic.{_≢_}
 use mathlib.Core.List.{List, [], _∷_, _++_}
 use mathlib.Core.Option.{Option, none, some}
-use Prim.Native.Nat.{ℕ, _+_, _%_, _^_, _≤_, _<_}
+use Prim.Native.Nat.{ℕ, _+_, _^_, _<_}
 use native.Mathlib.Nat.{lt-of-lt-of-le}
 use native.Mathlib.Omega.{arith}
-use lib.Dec.{leb, eqb}
-use lib.IntN.{pos}
+use lib.Dec.{eqb}
 use lib.Pow.{pow-mono}
 use borrow.Author.Tests.{eqb-true, eqb-false}
 use Rattle.word.specs.Choice.{if_then_else_}
 use Rattle.word.specs.Word.{Field, wordOf}
-use Rattle.word.proofs.Tests.{either, and-parts, and-both, if-true, if-false}
+use Rattle.word.proofs.Tests.{either, and-parts, and-both}
 use Rattle.isa.specs.Operation.{Operation, operationOf, Width, w16, w32, properties}
 use Rattle.isa.specs.Format.{fieldsWidth, fieldsOf, placedIn, keptIn, operationField, conditionalField, cregField, conditionField}
 use Rattle.isa.specs.Decode.{opcodeOf, assembled, decode}
-use Rattle.isa.specs.Used.{shownFields, leastOf, guardFields, usedFields}
+use Rattle.isa.specs.Used.{shownFields, guardFields, usedFields}
 use Rattle.isa.proofs.Fields.{fields-below}
 use Rattle.encoder.specs.Encode.{Guard, Choice, guardBy, guardOf, choiceOf, Part, guardParts, partsOf, partFits, allFit, written, given}
 use Rattle.encoder.specs.Theorems.{piecesOf}

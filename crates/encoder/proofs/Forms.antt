@@ -1,22 +1,22 @@
 -- Choices whose form there is, as the code takes them: what fits, and the sum of the parts. Assumes nothing.
 use mathlib.Core.Path.{_≡_, refl, sym, ap, _∙_, subst}
-use mathlib.Core.Bool.{Bool, true, false, not, _&&_, _||_, true≢false, and-assoc, and-true}
-use mathlib.Core.List.{List, [], _∷_, _++_}
-use Prim.Native.Nat.{ℕ, _+_, _*_, _%_, _^_, _≤_, _<_}
+use mathlib.Core.Bool.{Bool, true, false, not, _&&_, _||_, true≢false, and-true}
+use mathlib.Core.List.{List, [], _∷_}
+use Prim.Native.Nat.{ℕ, _+_, _*_, _^_, _≤_, _<_}
 use native.Mathlib.Omega.{arith}
 use lib.Dec.{ltb}
 use lib.IntN.{ℤ, pos}
 use lib.Pow.{pow-pos, pow-mono}
 use borrow.Author.Tests.{ltb-true, lt-ltb}
 use Rattle.word.specs.Choice.{if_then_else_}
-use Rattle.word.specs.Word.{signedOf, modZ, wordOf}
+use Rattle.word.specs.Word.{signedOf, modZ}
 use Rattle.word.proofs.Tests.{either, and-parts, and-both}
 use Rattle.word.proofs.Integers.{word-signed, word-natural}
 use Rattle.isa.specs.Operation.{Operation, operationOf, Width, w16, w32, properties}
 use Rattle.isa.specs.Format.{fieldsWidth, placedIn, operationField, conditionalField, cregField, conditionField}
 use Rattle.isa.specs.Decode.{wordBytes}
 use Rattle.isa.specs.Shown.{hasForm}
-use Rattle.isa.specs.Used.{shownFields, Natural, leastOf, shownReading}
+use Rattle.isa.specs.Used.{shownFields}
 use Rattle.isa.proofs.Decoded.{bytes-most}
 use Rattle.encoder.specs.Encode.{Choice, guardBy, chosen, Part, natural, guardParts, operandPart, partsOf, fits, partFits, allFit, written, given, conditionalForm, chosenForm, RefusedWith, Encodes, encodeOf}
 use Rattle.encoder.proofs.Parts.{fit-append, written-append}

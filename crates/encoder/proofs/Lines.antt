@@ -8,10 +8,10 @@ use lib.IntN.{ℤ, pos}
 use lib.ListN.{length, getElem?}
 use Rattle.word.specs.Choice.{if_then_else_}
 use Rattle.word.proofs.Tests.{either}
-use Rattle.isa.specs.Operation.{operationOf, Width}
+use Rattle.isa.specs.Operation.{operationOf}
 use Rattle.isa.specs.Condition.{conditionOf, nameOf}
 use Rattle.isa.specs.Format.{Role, Creg}
-use Rattle.isa.specs.Decode.{opcodeOf, decode, assembled}
+use Rattle.isa.specs.Decode.{decode}
 use Rattle.isa.specs.Shown.{shownRoles, shownValue}
 use Rattle.isa.specs.declared.Instruction.{Instruction}
 use Rattle.listing.specs.Line.{integerText, prefixOf, operandText, joined, operandsText, nameText, conditionText}

@@ -2,9 +2,8 @@
 use mathlib.Core.Path.{_≡_, refl, sym, ap, _∙_, subst}
 use mathlib.Core.Bool.{Bool, true, false, not, _&&_, true≢false}
 use mathlib.Core.List.{List, [], _∷_}
-use mathlib.Core.Option.{Option, none, some}
+use mathlib.Core.Option.{Option, some}
 use Prim.Native.Nat.{ℕ, zero, suc, _+_, _*_, _^_, _≤_, _<_}
-use native.Mathlib.Nat.{mul-one, add-zero}
 use native.Mathlib.Omega.{arith}
 use lib.Dec.{leb, eqb}
 use lib.IntN.{ℤ, pos}
@@ -14,17 +13,17 @@ use Rattle.word.specs.Choice.{if_then_else_}
 use Rattle.word.specs.Word.{Field, bits_to_, fieldOf, wordOf}
 use Rattle.word.proofs.Tests.{either, and-parts, if-false}
 use Rattle.word.proofs.Bounds.{field-below}
-use Rattle.isa.specs.Operation.{operationOf, Operation, Width, w16, w32, Form, properties}
+use Rattle.isa.specs.Operation.{operationOf, Width, w16, w32, Form, properties}
 use Rattle.isa.specs.Format.{fieldsWidth, fieldsOf, operationField, conditionalField, cregField, conditionField, Role, Dreg, Sreg1, Sreg2, Creg, Imm, Length, Position, Immediate, layoutOf, operandFields}
 use Rattle.isa.specs.Decode.{registerOf, immediateOf, operandsOf, opcodeOf, assembled, decode}
 use Rattle.isa.specs.Shown.{shownRoles, shownValue}
-use Rattle.isa.specs.Used.{shownRole, fieldsFor, shownFields, leastOf, registerReading, immediateReading, readingFor, shownReading}
+use Rattle.isa.specs.Used.{shownRole, fieldsFor, leastOf, registerReading, immediateReading, readingFor}
 use Rattle.isa.specs.Computed.{instructions}
 use Rattle.isa.proofs.Fields.{fields-below}
 use Rattle.isa.proofs.Table.{values, by-number}
 use Rattle.isa.proofs.Rows.{immediateFits, rows-sound}
 use Rattle.isa.proofs.Showing.{length-position}
-use Rattle.encoder.specs.Encode.{valueFor, valueAt}
+use Rattle.encoder.specs.Encode.{valueFor}
 use Rattle.encoder.proofs.Values.{Held, natural-held, high-held, signed-held}
 
 -- ---- the bits of a register, of an immediate and of its two parts

@@ -4,7 +4,7 @@ use mathlib.Core.Bool.{true, _&&_, true≢false}
 use Prim.Native.Nat.{ℕ, zero, suc, _+_, _-_, _*_, _/_, _%_, _^_, _≤_, _<_}
 use native.Mathlib.Nat.{add-zero, add-mod-mod, add-mod-right, mul-add-mod-self-right, mod-eq-of-lt, mod-lt}
 use native.Mathlib.Omega.{arith}
-use lib.IntN.{ℤ, pos, negsuc, negℤ, negℤ-negℤ, subℕ, _+ℤ_, _-ℤ_, -ℤ-+ℤ-cancel}
+use lib.IntN.{ℤ, pos, negsuc, negℤ, negℤ-negℤ, _+ℤ_, _-ℤ_, -ℤ-+ℤ-cancel}
 use lib.Pow.{pow-pos, split}
 use lib.Signed.{mag}
 use lib.Dec.{ltb, leb, eqb, ltb→lt, lt→ltb}

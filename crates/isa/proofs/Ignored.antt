@@ -1,14 +1,14 @@
 -- A word with its ignored bits 0: it is read alike, and its bits. Assumes nothing.
 use mathlib.Core.Path.{_≡_, refl, sym, ap, _∙_, subst}
-use mathlib.Core.Bool.{Bool, true, false, _&&_, and-false}
+use mathlib.Core.Bool.{Bool, true, _&&_, and-false}
 use mathlib.Core.List.{List, [], _∷_, _++_}
 use Prim.Native.Nat.{ℕ, _+_}
 use lib.Dec.{eqb}
-use lib.IntN.{ℤ, pos}
+use lib.IntN.{pos}
 use Rattle.word.specs.Choice.{if_then_else_}
 use Rattle.word.specs.Word.{Field, signedOf}
 use Rattle.word.proofs.Tests.{either, and-parts, and-both}
-use Rattle.isa.specs.Operation.{Operation, operationOf, Width, w16, w32, Properties, properties}
+use Rattle.isa.specs.Operation.{Operation, operationOf, Width, w16, w32, properties}
 use Rattle.isa.specs.Format.{fieldsWidth, fieldsOf, operationField, conditionalField, cregField, conditionField, Immediate, Layout, layoutOf}
 use Rattle.isa.specs.Decode.{registerOf, immediateOf, operandsOf, opcodeOf, assembled, decode}
 use Rattle.isa.specs.Used.{guardFields, usedFields, cleared}

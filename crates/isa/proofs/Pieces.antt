@@ -1,14 +1,14 @@
 -- Numbers written into pieces of a word that share no bit are read back, whatever their places and widths. Assumes nothing.
 use mathlib.Core.Path.{_≡_, refl, sym, ap, _∙_, subst}
-use mathlib.Core.Bool.{Bool, true, false, _&&_, _||_, true≢false}
+use mathlib.Core.Bool.{Bool, true, false, _&&_, true≢false}
 use mathlib.Core.List.{List, [], _∷_, _++_}
-use Prim.Native.Nat.{ℕ, zero, suc, _+_, _-_, _*_, _/_, _%_, _^_, _≤_, _<_}
-use native.Mathlib.Nat.{add-mul-div-right, add-mul-mod-self-right, mul-add-mod-self-right, mod-lt, mod-eq-of-lt, div-lt-iff-lt-mul, mul-assoc, add-comm, zero-div, zero-mod}
+use Prim.Native.Nat.{ℕ, _+_, _-_, _*_, _/_, _%_, _^_, _≤_, _<_}
+use native.Mathlib.Nat.{add-mul-div-right, add-mul-mod-self-right, mod-lt, mod-eq-of-lt, div-lt-iff-lt-mul, mul-assoc, add-comm, zero-div, zero-mod}
 use native.Mathlib.Omega.{arith}
 use lib.Dec.{leb, ltb, eqb}
 use lib.Pow.{pow-pos, pow-add, shr-shr, split, high, low, mod-pow-add, mod-mod-pow, field}
 use borrow.Author.Tests.{ltb-true, ltb-false, leb-true, leb-false, le-leb, eqb-true}
-use Rattle.word.specs.Word.{Field, fieldOf, bitAt, wordOf}
+use Rattle.word.specs.Word.{Field, fieldOf, bitAt}
 use Rattle.word.proofs.Tests.{either, and-parts, and-both, or-parts}
 use Rattle.word.proofs.Bounds.{field-below}
 use Rattle.isa.specs.Format.{fieldsWidth, fieldsOf, placedIn, keptIn, hasBit, lieBelow, disjoint, disjointFrom, separate}

@@ -4,7 +4,7 @@ ghost use Prim.Native.Nat.{_+_, _<_, _≤_, _^_};
 ghost use lib.IntN.{pos};
 ghost use lib.ListN.{length};
 ghost use Rattle.word.specs.Word.{signedOf};
-ghost use Rattle.isa.specs.Operation.{operationOf, properties, Properties, widthBy, unavailable, codeOf};
+ghost use Rattle.isa.specs.Operation.{operationOf, properties, widthBy, unavailable, codeOf};
 ghost use Rattle.isa.specs.Condition.{conditionOf, holds};
 ghost use Rattle.isa.specs.Decode.{wordBytes, wordAt, opcodeOf, operandsOf, decode};
 

@@ -1,19 +1,15 @@
 -- Values that operations move: condition registers in a word, a stack that is empty or not, targets. Assumes nothing.
-use mathlib.Core.Path.{_≡_, refl, ap, _∙_}
+use mathlib.Core.Path.{_≡_, refl, _∙_}
 use mathlib.Core.Bool.{true, false}
 use mathlib.Core.List.{List, [], _∷_}
-use Prim.Native.Nat.{ℕ, zero, suc, _+_, _-_, _*_, _/_, _%_, _^_, _≤_, _<_}
-use native.Mathlib.Nat.{mod-lt}
+use Prim.Native.Nat.{ℕ, zero, suc, _+_, _-_, _*_, _%_, _^_, _≤_, _<_}
 use native.Mathlib.Omega.{arith}
-use lib.IntN.{ℤ, pos, negsuc}
+use lib.IntN.{ℤ}
 use lib.ListN.{length, getD, drop}
-use lib.Pow.{pow-pos, pow-add, mod-pow-add, mod-mod-pow, low}
 use lib.Seq.{drop-cons}
 use lib.Signed.{mag}
 use mir.Syntax.{w32, w64}
 use mir.Val.{toZ, ofZ}
-use Rattle.word.specs.Word.{modZ, wordOf}
-use Rattle.machine.specs.Machine.{Machine}
 use Rattle.machine.specs.Words.{WORDS, CONDITIONS, machineOf}
 use Rattle.machine.proofs.Flat.{section-length}
 use Rattle.word.proofs.Handed.{handed}

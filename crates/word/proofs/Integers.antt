@@ -1,7 +1,7 @@
 -- Signed numbers: their words, and what i32 and i64 hold. omega does not read ℤ: each law here takes a statement on ℤ to one on ℕ.
 -- address-word and natural-address are for reachability. Assumes nothing.
 use mathlib.Core.Path.{_≡_, refl, sym, ap, _∙_}
-use mathlib.Core.Bool.{Bool, true, false, true≢false}
+use mathlib.Core.Bool.{true, false, true≢false}
 use Prim.Native.Nat.{ℕ, zero, suc, _+_, _-_, _*_, _/_, _%_, _^_, _≤_, _<_}
 use native.Mathlib.Nat.{pow-suc, not-suc-le-zero, one-mul, mod-eq-of-lt, mod-lt, mul-le-mul, mul-le-mul-left, mul-lt-mul-of-pos-right, add-le-add, le-of-lt, le-trans, lt-of-le-of-lt}
 use native.Mathlib.Omega.{arith}

@@ -1,6 +1,5 @@
 -- `encoder::all_fit` meets its contract: the condition and each operand, by itself. Assumes nothing.
 use native.Mathlib.Omega.{arith}
-use borrow.Author.Needs.{needs}
 use Rattle.word.specs.Word.{signedOf}
 use Rattle.isa.specs.Operation.{widthBy}
 use Rattle.encoder.proofs.Forms.{operation-below, all-fit-is}

@@ -1,12 +1,8 @@
 -- `encoder::operand_bits` meets its contract: the two pieces are those of the operand's field. Assumes nothing.
-use mathlib.Core.Path.{_≡_, _∙_, ap}
-use Prim.Native.Nat.{ℕ, _+_}
 use native.Mathlib.Omega.{arith}
 use borrow.Author.Needs.{needs}
-use Rattle.isa.specs.Operation.{widthBy, operationOf}
-use Rattle.isa.specs.Used.{shownFields}
-use Rattle.isa.specs.Format.{placedIn}
-use Rattle.encoder.proofs.Places.{FieldIs, field-is}
+use Rattle.isa.specs.Operation.{widthBy}
+use Rattle.encoder.proofs.Places.{field-is}
 use Rattle.encoder.proofs.operand_bits.Statement.{statement}
 use Rattle.encoder.proofs.operand_bits.Tie as tie
 

@@ -1,6 +1,6 @@
 -- `encoder::operand_fits` meets its contract: a test for each reading. Assumes nothing.
-use mathlib.Core.Path.{_≡_, sym, _∙_}
-use Prim.Native.Nat.{ℕ, _+_, _-_, _^_, _≤_, _<_}
+use mathlib.Core.Path.{sym, _∙_}
+use Prim.Native.Nat.{_+_, _-_, _^_, _≤_}
 use native.Mathlib.Omega.{arith}
 use lib.Pow.{pow-mono}
 use borrow.Author.Needs.{needs}
@@ -8,7 +8,7 @@ use Rattle.word.specs.Word.{signedOf}
 use Rattle.word.proofs.Integers.{one-shifted}
 use Rattle.isa.specs.Operation.{widthBy}
 use Rattle.isa.specs.Used.{Natural, Signed, High}
-use Rattle.encoder.proofs.Places.{FieldIs, field-is, fits-by, signed-letter, high-letter, other-letter, natural-test, high-test, signed-test}
+use Rattle.encoder.proofs.Places.{field-is, fits-by, signed-letter, high-letter, other-letter, natural-test, high-test, signed-test}
 use Rattle.encoder.proofs.operand_fits.Statement.{statement}
 use Rattle.encoder.proofs.operand_fits.Tie as tie
 

@@ -1,6 +1,5 @@
 -- `encoder::put` meets its contract: 1 shifted by less than the width is a power of 2, and nothing is shifted out. Assumes nothing.
-use Prim.Native.Nat.{_%_, _^_, _<_}
-use native.Mathlib.Nat.{mod-lt, add-comm}
+use native.Mathlib.Nat.{mod-lt}
 use native.Mathlib.Omega.{arith}
 use lib.Pow.{pow-pos, shl-exact}
 use borrow.Author.Needs.{needs}
