@@ -87,7 +87,7 @@ fn examples(text: &[u8], names: &[u8]) {
 
 // Reads the two files, and runs the examples.
 fn main() {
-    let mut text = [0u8; 16384];
+    let mut text = [0u8; 32768];
     let n = runner::load(b"examples.txt", &mut text);
     let mut names = [0u8; 2048];
     let m = runner::load(b"image.txt", &mut names);
