@@ -3,7 +3,7 @@
 use mathlib.Core.Path.{_≡_, refl, sym, ap, _∙_}
 use mathlib.Core.Bool.{Bool, true, false, _&&_, and-true}
 use mathlib.Core.Logic.{_≢_}
-use mathlib.Core.List.{List, [], _∷_, _++_}
+use mathlib.Core.List.{List, [], _∷_, _++_, append-nil}
 use mathlib.Core.Option.{Option, none, some}
 use Prim.Native.Nat.{ℕ, _+_, _^_, _<_}
 use native.Mathlib.Nat.{lt-of-lt-of-le}
@@ -21,7 +21,7 @@ use Rattle.isa.specs.Used.{shownFields, guardFields, usedFields}
 use Rattle.isa.proofs.Fields.{fields-below}
 use Rattle.encoder.specs.Encode.{Guard, Choice, guardBy, guardOf, choiceOf, Part, guardParts, partsOf, partFits, allFit, written, given}
 use Rattle.encoder.specs.Theorems.{piecesOf}
-use Rattle.isa.proofs.Pieces.{append-none, placed-low, placed-held, kept-append}
+use Rattle.isa.proofs.Pieces.{placed-low, placed-held, kept-append}
 use Rattle.encoder.proofs.Values.{Held}
 use Rattle.encoder.proofs.Operands.{field-held, short, operand-held}
 
@@ -109,4 +109,4 @@ unfolding partsOf piecesOf usedFields
 pieces-used width c h =
     let p = operationOf (c .operation) in
     ap (λ (l : List Field). operationField width ++ l) (guard-pieces width p (c .guard) _ h)
-    ∙ ap (λ (l : List Field). operationField width ++ (guardFields width p (given (c .guard)) ++ (shownFields width p 0 ++ (shownFields width p 1 ++ (shownFields width p 2 ++ l))))) (append-none (shownFields width p 3))
+    ∙ ap (λ (l : List Field). operationField width ++ (guardFields width p (given (c .guard)) ++ (shownFields width p 0 ++ (shownFields width p 1 ++ (shownFields width p 2 ++ l))))) (append-nil (shownFields width p 3))

@@ -97,7 +97,6 @@ unfolding cleared choiceOf decode assembled
 decode-encode width word e =
     let c = choiceOf width word in
     let h = choice-held width word in
-    let i = decode width word in
     asked-in-order width c .others (read-form width word e) (held-fit (partsOf width c) word h)
     ∙ ap Encodes (held-written (partsOf width c) word h ∙ ap (λ (fs : List Field). keptIn fs word) (used width word))
   where

@@ -1,7 +1,8 @@
--- Numbers written into pieces of a word that share no bit are read back, whatever their places and widths. Assumes nothing.
+-- Numbers written into pieces of a word that share no bit are read back, and kept pieces hold what they held, whatever their places and widths.
+-- Assumes nothing.
 use mathlib.Core.Path.{_≡_, refl, sym, ap, _∙_, subst}
 use mathlib.Core.Bool.{Bool, true, false, _&&_, true≢false}
-use mathlib.Core.List.{List, [], _∷_, _++_}
+use mathlib.Core.List.{List, [], _∷_, _++_, append-nil}
 use Prim.Native.Nat.{ℕ, _+_, _-_, _*_, _/_, _%_, _^_, _≤_, _<_}
 use native.Mathlib.Nat.{add-mul-div-right, add-mul-mod-self-right, mod-lt, mod-eq-of-lt, div-lt-iff-lt-mul, mul-assoc, add-comm, zero-div, zero-mod}
 use native.Mathlib.Omega.{arith}
@@ -64,10 +65,6 @@ module _ (f g : Field) (v w : ℕ) (empty : fieldOf g w ≡ 0) (fits : v < 2 ^ g
   over : g .place + g .width ≤ f .place → fieldOf f (v * 2 ^ g .place + w) ≡ fieldOf f w
   unfolding fieldOf
   over h = ap (λ (u : ℕ). u % 2 ^ f .width) (above (g .place) (g .width) v w empty fits (f .place) h)
-
-pub append-none : {A : Type 0} (xs : List A) → xs ++ [] ≡ xs
-append-none [] = refl
-append-none (x ∷ xs) = ap (λ (l : List _). x ∷ l) (append-none xs)
 
 -- ---- pieces with what goes into them
 
@@ -174,7 +171,7 @@ pub placed-below : (k : ℕ) (fs : List Field) (n : ℕ) → lieBelow k fs ≡ t
 unfolding sumOf places Fit
 placed-below k fs n l s =
     let filled = spread fs n [] in
-    let pieces : places filled ≡ fs = spread-places fs n [] ∙ append-none fs in
+    let pieces : places filled ≡ fs = spread-places fs n [] ∙ append-nil fs in
     let sum = spread-sum fs n [] in
     let e = none-above k filled (ap (lieBelow k) pieces ∙ l) (ap separate pieces ∙ s) (spread-fits fs n [] tt) in
     let b = no-quotient k (sumOf filled) e in
