@@ -18,10 +18,14 @@ use Rattle.isa.specs.Decode.{wordBytes}
 use Rattle.isa.specs.Shown.{hasForm}
 use Rattle.isa.specs.Used.{shownFields}
 use Rattle.isa.proofs.Decoded.{bytes-most}
+use Rattle.operands.specs.Places.{putInto}
+use Rattle.operands.specs.declared.OperandFields.{OperandFields}
+use Rattle.encoder.specs.Fields.{allFieldsFit}
 use Rattle.encoder.specs.Encode.{Choice, guardBy, chosen, Part, natural, guardParts, operandPart, partsOf, fits, partFits, allFit, written, given, conditionalForm, chosenForm, RefusedWith, Encodes, encodeOf}
 use Rattle.encoder.proofs.Parts.{fit-append, written-append}
 use Rattle.encoder.proofs.Values.{natural-fits}
 use Rattle.encoder.proofs.Choices.{given-by}
+use Rattle.encoder.proofs.Places.{FieldsAre, field-fits}
 use Rattle.encoder.proofs.Theorems.{asked-in-order, operation-bits, size}
 
 -- ---- the condition
@@ -85,30 +89,30 @@ module _ (width : Width) (n : ℕ) (conditional : Bool) (creg condition : ℕ) (
   operation-fits =
       natural-fits (fieldsWidth (operationField width)) n ∙ lt-ltb n (2 ^ fieldsWidth (operationField width)) (subst (λ (k : ℕ). n < 2 ^ k) (sym (operation-bits width)) operation-below)
 
-  pub all-fit-is : (a b c d : ℤ)
-      → (((not conditional || (ltb creg 8 && ltb condition 8)) && partFits (operandPart width o 0 a) && partFits (operandPart width o 1 b)) && partFits (operandPart width o 2 c)) && partFits (operandPart width o 3 d)
-      ≡ allFit (partsOf width (chosen n conditional creg condition a b c d))
+  pub all-fit-is : {f : OperandFields} → FieldsAre width o f → (a b c d : ℤ)
+      → allFieldsFit f conditional creg condition a b c d ≡ allFit (partsOf width (chosen n conditional creg condition a b c d))
   unfolding partsOf allFit
-  all-fit-is a b c d =
-      in-order (not conditional || (ltb creg 8 && ltb condition 8)) (partFits (operandPart width o 0 a)) (partFits (operandPart width o 1 b)) (partFits (operandPart width o 2 c)) (partFits (operandPart width o 3 d))
+  all-fit-is i a b c d =
+      rw (field-fits (i .first) a, field-fits (i .second) b, field-fits (i .third) c, field-fits (i .fourth) d)
+      (in-order (not conditional || (ltb creg 8 && ltb condition 8)) (partFits (operandPart width o 0 a)) (partFits (operandPart width o 1 b)) (partFits (operandPart width o 2 c)) (partFits (operandPart width o 3 d))
       ∙ sym
-      (rw (operation-fits, fit-append guard (operandPart width o 0 a ∷ operandPart width o 1 b ∷ operandPart width o 2 c ∷ operandPart width o 3 d ∷ []), guard-fits width n conditional creg condition form))
+      (rw (operation-fits, fit-append guard (operandPart width o 0 a ∷ operandPart width o 1 b ∷ operandPart width o 2 c ∷ operandPart width o 3 d ∷ []), guard-fits width n conditional creg condition form)))
 
   -- the sum of all, of operands that are words
-  abbrev sumOf : (a b c d : ℕ) → ℕ
-  sumOf a b c d =
+  abbrev sumOf : OperandFields → (a b c d : ℕ) → ℕ
+  sumOf f a b c d =
       placedIn (operationField width) n
       + guardBits conditional creg condition
-      + placedIn (shownFields width o 0) a
-      + placedIn (shownFields width o 1) b
-      + placedIn (shownFields width o 2) c
-      + placedIn (shownFields width o 3) d
+      + putInto (f .first) a
+      + putInto (f .second) b
+      + putInto (f .third) c
+      + putInto (f .fourth) d
 
-  module _ (a b c d : ℕ) (h : a < 2 ^ 32) (i : b < 2 ^ 32) (j : c < 2 ^ 32) (k : d < 2 ^ 32) where
+  module _ {f : OperandFields} (are : FieldsAre width o f) (a b c d : ℕ) (h : a < 2 ^ 32) (i : b < 2 ^ 32) (j : c < 2 ^ 32) (k : d < 2 ^ 32) where
     abbrev choice : Choice
     choice = chosen n conditional creg condition (signedOf 32 a) (signedOf 32 b) (signedOf 32 c) (signedOf 32 d)
 
-    pub sum-is : sumOf a b c d ≡ written (partsOf width choice)
+    pub sum-is : sumOf f a b c d ≡ written (partsOf width choice)
     unfolding partsOf written
     sum-is =
         let small = operation-below in
@@ -116,14 +120,14 @@ module _ (width : Width) (n : ℕ) (conditional : Bool) (creg condition : ℕ) (
         let others = written-append guard
         (operandPart width o 0 (signedOf 32 a) ∷ operandPart width o 1 (signedOf 32 b) ∷ operandPart width o 2 (signedOf 32 c) ∷ operandPart width o 3 (signedOf 32 d) ∷ [])
         in
-        let first = ap (placedIn (shownFields width o 0)) (word-signed 32 (omega arith) a h) in
-        let second = ap (placedIn (shownFields width o 1)) (word-signed 32 (omega arith) b i) in
-        let third = ap (placedIn (shownFields width o 2)) (word-signed 32 (omega arith) c j) in
-        let fourth = ap (placedIn (shownFields width o 3)) (word-signed 32 (omega arith) d k) in
+        let first = are .first .placed a ∙ sym (ap (placedIn (shownFields width o 0)) (word-signed 32 (omega arith) a h)) in
+        let second = are .second .placed b ∙ sym (ap (placedIn (shownFields width o 1)) (word-signed 32 (omega arith) b i)) in
+        let third = are .third .placed c ∙ sym (ap (placedIn (shownFields width o 2)) (word-signed 32 (omega arith) c j)) in
+        let fourth = are .fourth .placed d ∙ sym (ap (placedIn (shownFields width o 3)) (word-signed 32 (omega arith) d k)) in
         let bits = guard-written width n conditional creg condition form in
         omega arith
 
-    pub sum-below : sumOf a b c d < 2 ^ 32
+    pub sum-below : sumOf f a b c d < 2 ^ 32
     sum-below =
         let bytes = bytes-most width in
         let most : 2 ^ (8 * wordBytes width) ≤ 2 ^ 32 = pow-mono {j = 32} (omega arith) in

@@ -10,6 +10,7 @@ use lib.IntN.{ℤ}
 use lib.ListN.{length}
 use lib.Pow.{pow-mono}
 use borrow.Author.Tests.{ltb-true, ltb-false, leb-true, lt-ltb, le-ltb, le-leb, eqb-true, eq-eqb}
+use Rattle.word.specs.Choice.{if_then_else_}
 use Rattle.word.specs.Word.{Field, bitOf, signedOf}
 use Rattle.word.proofs.Tests.{either, and-parts}
 use Rattle.word.proofs.Integers.{double, signed-either}
@@ -17,11 +18,13 @@ use Rattle.isa.specs.Operation.{Operation, operationOf, Width, w16, w32}
 use Rattle.isa.specs.Format.{fieldsWidth, placedIn, lieBelow, separate}
 use Rattle.isa.specs.Used.{shownFields, Reading, Natural, Signed, High, leastOf, shownReading}
 use Rattle.isa.specs.Computed.{instructions}
-use Rattle.operands.specs.Places.{lowerPiece, upperPiece, readingLetter, fieldAt, placing}
+use Rattle.operands.specs.Places.{lowerPiece, upperPiece, readingLetter, fieldAt, fieldsAt, bitsOf, readingBy, putInto, Placeable, placing}
 use Rattle.operands.specs.declared.OperandField.{OperandField}
+use Rattle.operands.specs.declared.OperandFields.{OperandFields}
 use Rattle.operands.proofs.Table.{valuesFrom, constant-is}
 use Rattle.encoder.specs.Encode.{operandPart, fits, partFits}
 use Rattle.isa.proofs.Pieces.{placed-below}
+use Rattle.encoder.specs.Fields.{fieldFits, AllPlaceable}
 use Rattle.encoder.specs.Theorems.{NarrowBits}
 use Rattle.encoder.proofs.Values.{ranges-are}
 
@@ -77,21 +80,21 @@ computed w16 = refl
 computed w32 = refl
 
 -- what holds of the field of operand k, as the code has it
-pub record FieldIs (width : Width) (o : Operation) (k : ℕ) (s : OperandField) : Type 0 where
-  pub bits : s .width + s .extra ≡ fieldsWidth (shownFields width o k)
-  pub short : s .width + s .extra ≤ 25
-  pub place : s .place < 32
-  pub inside : s .place + s .width ≤ 32
-  pub upper : s .upper < 32
-  pub upperInside : s .upper + s .extra ≤ 32
-  pub placed : (n : ℕ) → n / 2 ^ s .width % 2 ^ s .extra * 2 ^ s .upper + n % 2 ^ s .width * 2 ^ s .place ≡ placedIn (shownFields width o k) n
-  pub below : (n : ℕ) → placedIn (shownFields width o k) n < 2 ^ 32
-  pub reading : s .reading ≡ readingLetter (shownReading width o k)
-  pub signed : s .reading ≡ 115 → 0 < s .width + s .extra
+pub record FieldIs (width : Width) (o : Operation) (k : ℕ) (f : OperandField) : Type 0 where
+  pub placeable : Placeable f
+  pub bits : bitsOf f ≡ fieldsWidth (shownFields width o k)
+  pub placed : (n : ℕ) → putInto f n ≡ placedIn (shownFields width o k) n
+  pub reading : readingBy (f .reading) ≡ shownReading width o k
 
-field-at-is : (width : Width) (op k : ℕ) → op < 64 → k < 4 → FieldIs width (operationOf op) k (fieldAt width (operationOf op) k)
+letter-reading : (r : Reading) → readingBy (readingLetter r) ≡ r
+unfolding readingBy readingLetter if_then_else_
+letter-reading Natural = refl
+letter-reading Signed = refl
+letter-reading High = refl
+
+pub field-is : (width : Width) (op k : ℕ) → op < 64 → k < 4 → FieldIs width (operationOf op) k (fieldAt width (operationOf op) k)
 unfolding sizes fieldAt
-field-at-is width op k h l =
+field-is width op k h l =
     let o = operationOf op in
     let fs = shownFields width o k in
     let t = and-parts (leb (length fs) 2 && leb (fieldsWidth fs) 25) _ (computed-true (sizes width) (computed width) op k h l) in
@@ -104,26 +107,40 @@ field-at-is width op k h l =
     let size = two-width fs two in
     let inside = two-inside 32 fs two (b .0) in
     record {
+      placeable =
+          record {
+            short = omega (arith, leb-true (fieldsWidth fs) 25 (a .1));
+            place = ltb-true _ 32 (d .0);
+            inside = inside .0;
+            upper = ltb-true _ 32 (d .1);
+            upperInside = inside .1;
+            below = λ n. omega (arith, placed-below 32 fs n (b .0) (b .1), two-placed fs n two);
+            signed = λ e. omega (arith, leb-true 1 (fieldsWidth fs) (rw (eq-eqb _ 115 e) at (v .1)));
+          };
       bits = sym size;
-      short = omega (arith, leb-true (fieldsWidth fs) 25 (a .1));
-      place = ltb-true _ 32 (d .0);
-      inside = inside .0;
-      upper = ltb-true _ 32 (d .1);
-      upperInside = inside .1;
       placed = λ n. sym (two-placed fs n two);
-      below = λ n. placed-below 32 fs n (b .0) (b .1);
-      reading = refl;
-      signed = λ e. omega (arith, leb-true 1 (fieldsWidth fs) (rw (eq-eqb _ 115 e) at (v .1)));
+      reading = letter-reading (shownReading width o k);
     }
 
-pub field-is : (width : Width) (op k : ℕ) (s : OperandField) → op < 64 → k < 4 → s ≡ fieldAt width (operationOf op) k → FieldIs width (operationOf op) k s
-field-is width op k s h l e = subst (FieldIs width (operationOf op) k) (sym e) (field-at-is width op k h l)
-
 -- whether a number fits, by the field's bits and reading
-pub fits-by : {width : Width} {o : Operation} {k : ℕ} {s : OperandField} → FieldIs width o k s → (r : Reading) → shownReading width o k ≡ r → (z : ℤ)
-    → fits (s .width + s .extra) (leastOf r (s .width + s .extra)) z ≡ partFits (operandPart width o k z)
+pub field-fits : {width : Width} {o : Operation} {k : ℕ} {f : OperandField} → FieldIs width o k f → (z : ℤ) → fieldFits f z ≡ partFits (operandPart width o k z)
 unfolding partFits
-fits-by i r e z = rw (e, i .bits)
+field-fits i z = rw (i .reading, i .bits)
+
+-- of all four
+pub record FieldsAre (width : Width) (o : Operation) (f : OperandFields) : Type 0 where
+  pub first : FieldIs width o 0 (f .first)
+  pub second : FieldIs width o 1 (f .second)
+  pub third : FieldIs width o 2 (f .third)
+  pub fourth : FieldIs width o 3 (f .fourth)
+
+pub fields-are : (width : Width) (op : ℕ) {f : OperandFields} → op < 64 → f ≡ fieldsAt width (operationOf op) → FieldsAre width (operationOf op) f
+fields-are width op h e =
+    subst (FieldsAre width (operationOf op)) (sym e)
+    (record { first = field-is width op 0 h (omega arith); second = field-is width op 1 h (omega arith); third = field-is width op 2 h (omega arith); fourth = field-is width op 3 h (omega arith) })
+
+pub all-placeable : {width : Width} {o : Operation} {f : OperandFields} → FieldsAre width o f → AllPlaceable f
+all-placeable i = record { first = i .first .placeable; second = i .second .placeable; third = i .third .placeable; fourth = i .fourth .placeable }
 
 -- registers of 16-bit words have three bits, computed
 unfoldable narrow : Operation → (k : ℕ) → Bool
@@ -138,26 +155,6 @@ unfolding narrow readingLetter
 narrow-bits n k h l e =
     let t = computed-true narrow narrow-computed n k h l in
     eqb-true _ 3 (rw e at t)
-
--- ---- letters of readings
-
-pub signed-letter : (r : Reading) → readingLetter r ≡ 115 → r ≡ Signed
-unfolding readingLetter
-signed-letter Natural e = absurd (omega arith)
-signed-letter Signed e = refl
-signed-letter High e = absurd (omega arith)
-
-pub high-letter : (r : Reading) → readingLetter r ≡ 104 → r ≡ High
-unfolding readingLetter
-high-letter Natural e = absurd (omega arith)
-high-letter Signed e = absurd (omega arith)
-high-letter High e = refl
-
-pub other-letter : (r : Reading) → (readingLetter r ≡ 115 → ⊥) → (readingLetter r ≡ 104 → ⊥) → r ≡ Natural
-unfolding readingLetter
-other-letter Natural s h = refl
-other-letter Signed s h = absurd (s refl)
-other-letter High s h = absurd (h refl)
 
 -- ---- tests of a number in two's complement
 

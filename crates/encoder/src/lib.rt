@@ -6,8 +6,11 @@ ghost use Rattle.word.specs.Choice.{if_then_else_};
 ghost use Rattle.word.specs.Word.{signedOf};
 ghost use Rattle.isa.specs.Operation.{operationOf, w32, widthBy};
 ghost use Rattle.isa.specs.Format.{placedIn, operationField, conditionalField, cregField, conditionField};
-ghost use Rattle.isa.specs.Used.{shownFields};
-ghost use Rattle.encoder.specs.Encode.{chosen, operandPart, partsOf, partFits, allFit, written, chosenForm, encodingOf, encodeOf};
+ghost use Rattle.operands.specs.Places.{fieldsAt, putInto, Placeable};
+ghost use Rattle.encoder.specs.Encode.{chosen, partsOf, written, chosenForm, encodingOf, encodeOf};
+ghost use Rattle.encoder.specs.Fields.{fieldFits, AllPlaceable, allFieldsFit};
+use operands::OperandField;
+use operands::OperandFields;
 
 // What is answered.
 pub enum Encoded {
@@ -19,12 +22,11 @@ pub enum Encoded {
 
 // ---- operands, in two's complement
 
-// Whether a number fits the bits of operand k.
-fn operand_fits(op: u32, wide: bool, k: usize, n: u32) -> bool
-    requires { ⌜ (op < 64) × (k < 4) ⌝ }
-    ensures { λ r. ⌜ r ≡ partFits (operandPart (widthBy wide) (operationOf op) k (signedOf 32 n)) ⌝ }
+// Whether a number fits the bits of a field.
+fn operand_fits(f: OperandField, n: u32) -> bool
+    requires { ⌜ Placeable f ⌝ }
+    ensures { λ r. ⌜ r ≡ fieldFits f (signedOf 32 n) ⌝ }
 {
-    let f = operands::field_at(op, wide, k);
     let count = 1 << (f.width + f.extra);
     let reading = f.reading;
     match reading {
@@ -42,12 +44,11 @@ fn put(n: u32, width: u32, place: u32) -> u32
     n % (1 << width) << place
 }
 
-// The bits of operand k of a word, where it is a number.
-fn operand_bits(op: u32, wide: bool, k: usize, n: u32) -> u32
-    requires { ⌜ (op < 64) × (k < 4) ⌝ }
-    ensures { λ r. ⌜ r ≡ placedIn (shownFields (widthBy wide) (operationOf op) k) n ⌝ }
+// The bits of a number in a field.
+fn operand_bits(f: OperandField, n: u32) -> u32
+    requires { ⌜ Placeable f ⌝ }
+    ensures { λ r. ⌜ r ≡ putInto f n ⌝ }
 {
-    let f = operands::field_at(op, wide, k);
     put(n >> f.width, f.extra, f.upper) + put(n, f.width, f.place)
 }
 
@@ -64,8 +65,7 @@ fn has_form(operation: u32, wide: bool, conditional: bool) -> bool
 
 // Whether the condition and all operands fit.
 fn all_fit(
-    op: u32,
-    wide: bool,
+    fields: OperandFields,
     conditional: bool,
     creg: u32,
     condition: u32,
@@ -74,14 +74,14 @@ fn all_fit(
     c: u32,
     d: u32,
 ) -> bool
-    requires { ⌜ chosenForm (widthBy wide) op conditional ≡ true ⌝ }
-    ensures { λ r. ⌜ r ≡ allFit (partsOf (widthBy wide) (chosen op conditional creg condition (signedOf 32 a) (signedOf 32 b) (signedOf 32 c) (signedOf 32 d))) ⌝ }
+    requires { ⌜ AllPlaceable fields ⌝ }
+    ensures { λ r. ⌜ r ≡ allFieldsFit fields conditional creg condition (signedOf 32 a) (signedOf 32 b) (signedOf 32 c) (signedOf 32 d) ⌝ }
 {
     (!conditional | (creg < 8) & (condition < 8))
-        & operand_fits(op, wide, 0, a)
-        & operand_fits(op, wide, 1, b)
-        & operand_fits(op, wide, 2, c)
-        & operand_fits(op, wide, 3, d)
+        & operand_fits(fields.first, a)
+        & operand_fits(fields.second, b)
+        & operand_fits(fields.third, c)
+        & operand_fits(fields.fourth, d)
 }
 
 // The bits of an operation.
@@ -106,6 +106,7 @@ fn guard_bits(conditional: bool, creg: u32, condition: u32) -> u32
 fn word_of(
     op: u32,
     wide: bool,
+    fields: OperandFields,
     conditional: bool,
     creg: u32,
     condition: u32,
@@ -114,15 +115,15 @@ fn word_of(
     c: u32,
     d: u32,
 ) -> u32
-    requires { ⌜ chosenForm (widthBy wide) op conditional ≡ true ⌝ }
+    requires { ⌜ (chosenForm (widthBy wide) op conditional ≡ true) × (fields ≡ fieldsAt (widthBy wide) (operationOf op)) ⌝ }
     ensures { λ r. ⌜ r ≡ written (partsOf (widthBy wide) (chosen op conditional creg condition (signedOf 32 a) (signedOf 32 b) (signedOf 32 c) (signedOf 32 d))) ⌝ }
 {
     operation_bits(op, wide)
         + guard_bits(conditional, creg, condition)
-        + operand_bits(op, wide, 0, a)
-        + operand_bits(op, wide, 1, b)
-        + operand_bits(op, wide, 2, c)
-        + operand_bits(op, wide, 3, d)
+        + operand_bits(fields.first, a)
+        + operand_bits(fields.second, b)
+        + operand_bits(fields.third, c)
+        + operand_bits(fields.fourth, d)
 }
 
 // The word of a choice, or the refusal.
@@ -140,12 +141,24 @@ fn encode_words(
     ensures { λ r. ⌜ encodingOf r ≡ encodeOf (widthBy wide) (chosen operation conditional creg condition (signedOf 32 a) (signedOf 32 b) (signedOf 32 c) (signedOf 32 d)) ⌝ }
 {
     if !has_form(operation, wide, conditional) {
-        Encoded::Refusal(18)
-    } else if !all_fit(operation, wide, conditional, creg, condition, a, b, c, d) {
-        Encoded::Refusal(19)
-    } else {
-        Encoded::Word(word_of(operation, wide, conditional, creg, condition, a, b, c, d))
+        return Encoded::Refusal(18);
     }
+    let fields = operands::fields(operation, wide);
+    if !all_fit(fields, conditional, creg, condition, a, b, c, d) {
+        return Encoded::Refusal(19);
+    }
+    Encoded::Word(word_of(
+        operation,
+        wide,
+        fields,
+        conditional,
+        creg,
+        condition,
+        a,
+        b,
+        c,
+        d,
+    ))
 }
 
 // The word of an operation with its operands in the order in which a listing shows them, and with a condition where `conditional` says so; or

@@ -6,7 +6,8 @@ use native.Mathlib.Omega.{arith}
 use native.Mathlib.Nat.{add-zero}
 use lib.ListN.{getD}
 use Rattle.isa.specs.Operation.{Operation, operationOf}
-use Rattle.operands.specs.Table.{entryIn}
+use Rattle.operands.specs.Table.{entryIn, entriesIn}
+use Rattle.operands.specs.declared.Entries.{Entries}
 
 -- the values of f at `count` places from place n on: operand n % 4 of operation n / 4
 unfoldable pub valuesFrom : (Operation → ℕ → ℕ) → (n count : ℕ) → List ℕ
@@ -43,3 +44,33 @@ pub constant-is : (f : Operation → ℕ → ℕ) (r op k : ℕ) → op < 64 →
 constant-is f r op k h l t =
     let n = 4 * op + k in
     sym (at-place (λ o k. r) 0 256 n 0 (omega arith)) ∙ ap (λ (xs : List ℕ). getD xs n 0) (sym t) ∙ at-operand f op k 0 h l
+
+-- ---- four entries
+
+-- of which g gives the values of f at the operands of an operation
+pub record Column (f : Operation → ℕ → ℕ) (g : ℕ → ℕ) (o : Operation) (e : Entries) : Type 0 where
+  pub first : g (e .first) ≡ f o 0
+  pub second : g (e .second) ≡ f o 1
+  pub third : g (e .third) ≡ f o 2
+  pub fourth : g (e .fourth) ≡ f o 3
+
+pub column-is : (f : Operation → ℕ → ℕ) (g : ℕ → ℕ) (op : ℕ) {e : Entries} (table : List ℕ) → op < 64 → e ≡ entriesIn table op → map g table ≡ valuesFrom f 0 256
+    → Column f g (operationOf op) e
+column-is f g op table h e t =
+    record {
+      first = entry-is f g op 0 table h (omega arith) (ap (λ (x : Entries). g (x .first)) e) t;
+      second = entry-is f g op 1 table h (omega arith) (ap (λ (x : Entries). g (x .second)) e) t;
+      third = entry-is f g op 2 table h (omega arith) (ap (λ (x : Entries). g (x .third)) e) t;
+      fourth = entry-is f g op 3 table h (omega arith) (ap (λ (x : Entries). g (x .fourth)) e) t;
+    }
+
+-- one value for all four
+pub constant-column : (f : Operation → ℕ → ℕ) (g : ℕ → ℕ) (n op : ℕ) → op < 64 → valuesFrom f 0 256 ≡ valuesFrom (λ o k. g n) 0 256
+    → Column f g (operationOf op) (record { first = n; second = n; third = n; fourth = n })
+constant-column f g n op h t =
+    record {
+      first = constant-is f (g n) op 0 h (omega arith) t;
+      second = constant-is f (g n) op 1 h (omega arith) t;
+      third = constant-is f (g n) op 2 h (omega arith) t;
+      fourth = constant-is f (g n) op 3 h (omega arith) t;
+    }

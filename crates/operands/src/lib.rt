@@ -1,13 +1,13 @@
 // The operands of an instruction that a listing shows: what each is to the operation, as a letter, where it stands in a word, and its value.
 ghost use mathlib.Core.Path.{_≡_};
-ghost use Prim.Native.Nat.{_%_, _<_};
+ghost use Prim.Native.Nat.{_<_};
 ghost use lib.ListN.{length};
 ghost use Rattle.word.specs.Word.{wordOf};
 ghost use Rattle.isa.specs.Operation.{operationOf, widthBy};
 ghost use Rattle.isa.specs.Shown.{shownValue};
 ghost use Rattle.operands.specs.Letters.{roleOf, letterAt};
-ghost use Rattle.operands.specs.Places.{fieldAt};
-ghost use Rattle.operands.specs.Table.{entryIn};
+ghost use Rattle.operands.specs.Places.{fieldsAt, fieldBy, fieldsBy};
+ghost use Rattle.operands.specs.Table.{entryIn, entriesIn};
 use isa::Instruction;
 
 // Where an operand that is shown stands in a word, in at most two pieces, and how its bits are read.
@@ -22,6 +22,22 @@ pub struct OperandField {
     pub reading: u8,
 }
 
+// Those of the operands of an operation, of which there are at most four.
+pub struct OperandFields {
+    pub first: OperandField,
+    pub second: OperandField,
+    pub third: OperandField,
+    pub fourth: OperandField,
+}
+
+// What a table has of an operation: four characters.
+pub struct Entries {
+    pub first: u8,
+    pub second: u8,
+    pub third: u8,
+    pub fourth: u8,
+}
+
 // The entry of operand k of an operation in a table with four for each operation.
 fn entry(table: &[u8], op: u32, k: usize) -> u8
     requires { ⌜ (length (now table) ≡ 256) × (op < 64) × (k < 4) ⌝ }
@@ -30,12 +46,17 @@ fn entry(table: &[u8], op: u32, k: usize) -> u8
     table[4 * op as usize + k]
 }
 
-// The same of a table of numbers: a blank is 0, A is 1, Z is 26.
-fn number(table: &[u8], op: u32, k: usize) -> u32
-    requires { ⌜ (length (now table) ≡ 256) × (op < 64) × (k < 4) ⌝ }
-    ensures { λ r. ⌜ r ≡ entryIn (now (table .entry)) op k % 32 ⌝ }
+// All four.
+fn entries_of(table: &[u8], op: u32) -> Entries
+    requires { ⌜ (length (now table) ≡ 256) × (op < 64) ⌝ }
+    ensures { λ r. ⌜ r ≡ entriesIn (now (table .entry)) op ⌝ }
 {
-    entry(table, op, k) as u32 % 32
+    Entries {
+        first: entry(table, op, 0),
+        second: entry(table, op, 1),
+        third: entry(table, op, 2),
+        fourth: entry(table, op, 3),
+    }
 }
 
 // What operand k of operation op is, k from 0 on: 0 dreg, 1 sreg1, 2 sreg2, c creg, i the immediate, l and p its length and position;
@@ -59,59 +80,112 @@ pub fn letter(op: u32, wide: bool, k: usize) -> u8
     }
 }
 
-// Where operand k of operation op stands, k from 0 on. 16-bit words have no field in two pieces.
-pub fn field_at(op: u32, wide: bool, k: usize) -> OperandField
-    requires { ⌜ (op < 64) × (k < 4) ⌝ }
-    ensures { λ r. ⌜ r ≡ fieldAt (widthBy wide) (operationOf op) k ⌝ }
+// A field from characters of tables. Of numbers a blank is 0, A is 1, Z is 26.
+fn field(place: u8, width: u8, upper: u8, extra: u8, reading: u8) -> OperandField
+    ensures { λ r. ⌜ r ≡ fieldBy place width upper extra reading ⌝ }
+{
+    OperandField {
+        place: place as u32 % 32,
+        width: width as u32 % 32,
+        upper: upper as u32 % 32,
+        extra: extra as u32 % 32,
+        reading,
+    }
+}
+
+// The fields of four operands from five tables.
+fn fields_by(
+    place: Entries,
+    width: Entries,
+    upper: Entries,
+    extra: Entries,
+    reading: Entries,
+) -> OperandFields
+    ensures { λ r. ⌜ r ≡ fieldsBy place width upper extra reading ⌝ }
+{
+    OperandFields {
+        first: field(
+            place.first,
+            width.first,
+            upper.first,
+            extra.first,
+            reading.first,
+        ),
+        second: field(
+            place.second,
+            width.second,
+            upper.second,
+            extra.second,
+            reading.second,
+        ),
+        third: field(
+            place.third,
+            width.third,
+            upper.third,
+            extra.third,
+            reading.third,
+        ),
+        fourth: field(
+            place.fourth,
+            width.fourth,
+            upper.fourth,
+            extra.fourth,
+            reading.fourth,
+        ),
+    }
+}
+
+// Where the operands of operation op stand. 16-bit words have no field in two pieces.
+pub fn fields(op: u32, wide: bool) -> OperandFields
+    requires { ⌜ op < 64 ⌝ }
+    ensures { λ r. ⌜ r ≡ fieldsAt (widthBy wide) (operationOf op) ⌝ }
 {
     if wide {
-        OperandField {
-            place: number(
+        fields_by(
+            entries_of(
                 b"    JE  JE  JE  JE  JE  JE  JE  JE  JE  JE  JE  JE  JE  JE  JE  JE  JE  JE  JE  JE  JE  JE  JE  JE  JE  JE  JE  JE  JE  JE  J   VE  VE  P   P           E   E   V   V   V   V   V   V   V   V                                   J   E   JE  J E JE  JE  JE  JES ",
                 op,
-                k,
             ),
-            width: number(
+            entries_of(
                 b"    EEE EEE EEE EEE EEE EEE EEE EEE EEE EEE EEE EEE EEE EEE EEE EEE EEE EEE EEE EEE EEE EEE EEE EEE EEE EEE EEE EEE EE  EE  E   CEE CEE EP  EP  Y   Y   E   E   CV  CV  CV  CV  CV  CV  CV  CV              B           A   E   E   E   EEE EEE EEB EEA EEE EEFE",
                 op,
-                k,
             ),
-            upper: number(
+            entries_of(
                 b"                                                                          O   O   O   O   O                   O   O                   O                                                                                                                         ",
                 op,
-                k,
             ),
-            extra: number(
+            entries_of(
                 b"                                                                          D   D   D   D   D                   D   D                   D                                                                                                                         ",
                 op,
-                k,
             ),
-            reading: entry(
+            entries_of(
                 b"                                                                          s               s                   s   s                   s         s   s            s   s   s   s   s   s   s   s                                                                  ",
                 op,
-                k,
             ),
-        }
+        )
     } else {
-        OperandField {
-            place: number(
+        let none = Entries {
+            first: b' ',
+            second: b' ',
+            third: b' ',
+            fourth: b' ',
+        };
+        fields_by(
+            entries_of(
                 b"     C   C   C   C   C   C   C   C   C   C   C   C   C   C   C   C   C   C   C   C   C   C   C   C   C   C   CF  CF  C   C      C    C                  C   C                                                                       C    C   C   C   C   C      ",
                 op,
-                k,
             ),
-            width: number(
+            entries_of(
                 b"    CC  CC  CC  CC  CC  CC  CC  CC  CC  CC  CC  CC  CC  CC  CC  CC  CC  CG  CG  CG  CG  CG  CE  CE  CE  CE  CCD CCD CC  CC  C   CC  CG          J   J   C   C   J   J   J   J   J   J   J   J               B           A   E   C   C   CC  CC  CB  CA  CC      ",
                 op,
-                k,
             ),
-            upper: 0,
-            extra: 0,
-            reading: entry(
+            none,
+            none,
+            entries_of(
                 b"    hh  hh  hh  hh  hh  hh  hh  hh  hh  hh  hh  hh  hh  hh  hh  hh  hh  hs  h   h   h   hs  h   h   h   h   hhs hhs hh  hh  h   hh  hs          s   s   h   h   s   s   s   s   s   s   s   s                                   h   h   hh  hh  h   h   hh      ",
                 op,
-                k,
             ),
-        }
+        )
     }
 }
 

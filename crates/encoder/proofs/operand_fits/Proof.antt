@@ -1,74 +1,55 @@
 -- `encoder::operand_fits` meets its contract: a test for each reading. Assumes nothing.
-use mathlib.Core.Path.{sym, _∙_}
-use Prim.Native.Nat.{_+_, _-_, _^_, _≤_}
+use mathlib.Core.Path.{_≡_}
+use Prim.Native.Nat.{_^_, _≤_}
 use native.Mathlib.Omega.{arith}
 use lib.Pow.{pow-mono}
 use borrow.Author.Needs.{needs}
-use Rattle.word.specs.Word.{signedOf}
+use borrow.Author.Tests.{ne-eqb}
+use Rattle.word.specs.Choice.{if_then_else_}
 use Rattle.word.proofs.Integers.{one-shifted}
-use Rattle.isa.specs.Operation.{widthBy}
-use Rattle.isa.specs.Used.{Natural, Signed, High}
-use Rattle.encoder.proofs.Places.{field-is, fits-by, signed-letter, high-letter, other-letter, natural-test, high-test, signed-test}
+use Rattle.operands.specs.Places.{bitsOf, readingBy}
+use Rattle.encoder.proofs.Places.{natural-test, high-test, signed-test}
 use Rattle.encoder.proofs.operand_fits.Statement.{statement}
 use Rattle.encoder.proofs.operand_fits.Tie as tie
 
-add-count : tie.Need-add-count
-add-count c =
-    let start = c .before .before in
-    let f = field-is (widthBy (start .args .wide)) (start .args .op) (start .args .k) _ (start .pre .0) (start .pre .1) (c .before .field-at .ensures) in
-    record { fits = omega (arith, f .short) }
-
-shl-count : tie.Need-shl-count
-shl-count c =
-    let start = c .before .before in
-    let f = field-is (widthBy (start .args .wide)) (start .args .op) (start .args .k) _ (start .pre .0) (start .pre .1) (c .before .field-at .ensures) in
-    omega (arith, f .short)
-
 add-result : tie.Need-add-result
 add-result c =
-    let start = c .before .before .before in
-    let f = field-is (widthBy (start .args .wide)) (start .args .op) (start .args .k) _ (start .pre .0) (start .pre .1) (c .before .before .field-at .ensures) in
-    let bits = c .before .before .field-at .result .width + c .before .before .field-at .result .extra in
-    let most : 2 ^ bits ≤ 2 ^ 25 = pow-mono (f .short) in
-    rw (one-shifted 32 bits (omega (arith, f .short))) (record { fits = omega arith })
+    let start = c .before .before in
+    let short = start .pre .short in
+    let bits = bitsOf (start .args .f) in
+    let most : 2 ^ bits ≤ 2 ^ 25 = pow-mono short in
+    rw (one-shifted 32 bits (omega arith)) (record { fits = omega arith })
 
 returns : tie.Need-returns
+unfolding readingBy if_then_else_
 returns c =
-    let start = c .before .before .before in
-    let a = start .args in
-    let f = field-is (widthBy (a .wide)) (a .op) (a .k) _ (start .pre .0) (start .pre .1) (c .before .before .field-at .ensures) in
-    let bits = c .before .before .field-at .result .width + c .before .before .field-at .result .extra in
-    rw (one-shifted 32 bits (omega (arith, f .short)))
-    (signed-test bits (a .n) (f .short) (omega arith) (f .signed (c .match .keys1)) ∙ fits-by f Signed (signed-letter _ (sym (f .reading) ∙ c .match .keys1)) (signedOf 32 (a .n)))
+    let start = c .before .before in
+    let short = start .pre .short in
+    rw (c .match .keys1, one-shifted 32 (bitsOf (start .args .f)) (omega arith))
+    (signed-test (bitsOf (start .args .f)) (start .args .n) short (omega arith) (start .pre .signed (c .match .keys1)))
 
 returns-2 : tie.Need-returns-2
+unfolding readingBy if_then_else_
 returns-2 c =
-    let start = c .before .before .before in
-    let a = start .args in
-    let f = field-is (widthBy (a .wide)) (a .op) (a .k) _ (start .pre .0) (start .pre .1) (c .before .before .field-at .ensures) in
-    let bits = c .before .before .field-at .result .width + c .before .before .field-at .result .extra in
-    rw (one-shifted 32 bits (omega (arith, f .short)))
-    (high-test bits (a .n) (f .short) (omega arith) ∙ fits-by f High (high-letter _ (sym (f .reading) ∙ c .match .keys2)) (signedOf 32 (a .n)))
+    let start = c .before .before in
+    let short = start .pre .short in
+    rw (c .match .keys2, one-shifted 32 (bitsOf (start .args .f)) (omega arith)) (high-test (bitsOf (start .args .f)) (start .args .n) short (omega arith))
 
 returns-3 : tie.Need-returns-3
+unfolding readingBy if_then_else_
 returns-3 c =
-    let start = c .before .before .before in
-    let a = start .args in
-    let f = field-is (widthBy (a .wide)) (a .op) (a .k) _ (start .pre .0) (start .pre .1) (c .before .before .field-at .ensures) in
-    let bits = c .before .before .field-at .result .width + c .before .before .field-at .result .extra in
+    let start = c .before .before in
+    let short = start .pre .short in
+    let letter = start .args .f .reading in
     let others = c .match .rest in
-    rw (one-shifted 32 bits (omega (arith, f .short)))
-    (natural-test bits (a .n) (f .short) (omega arith)
-    ∙ fits-by f Natural (other-letter _ (λ e. others .0 .1 (f .reading ∙ e)) (λ e. others .1 (f .reading ∙ e))) (signedOf 32 (a .n)))
+    rw (ne-eqb letter 115 (others .0 .1), ne-eqb letter 104 (others .1), one-shifted 32 (bitsOf (start .args .f)) (omega arith))
+    (natural-test (bitsOf (start .args .f)) (start .args .n) short (omega arith))
 
 pub operand-fits-spec : {M : Type 1} → statement M
 operand-fits-spec =
     tie.close
     (tie.spec
-    (λ c κs. search needs)
-    add-count
-    shl-count
-    (λ c. search needs)
+    (λ c. search needs) (λ c. search needs) (λ c. search needs)
     add-result
     returns
     returns-2
