@@ -3,18 +3,14 @@
 use crate::call::Call;
 use crate::guarded::Guarded;
 use crate::image;
+use crate::series;
 use coffee_reference::Answer;
 use std::fmt;
 
 /// A run call: program, cells, image, requests, step limit, image buffer.
 pub type Run = fn(&[u8], &mut [u32], &[u8], &[u32], u32, &mut [u8]) -> Answer;
 
-/// The two sides that are compared.
-#[derive(Clone, Copy)]
-pub struct Sides {
-    pub reference: Run,
-    pub library: Run,
-}
+pub type Sides = series::Sides<Run>;
 
 /// A cell or byte that the sides leave different.
 #[derive(Clone, Debug, PartialEq, Eq)]

@@ -6,9 +6,9 @@ use crate::call::{Call, Expected};
 use crate::compare::{Bench, Difference, Run, Sides};
 use crate::damage::DAMAGES;
 use crate::image::*;
+use crate::met::{line, put, Met, Unmet, WIDTH_NAMES};
 use crate::words::{self, *};
 use coffee_reference::Answer;
-use std::fmt::Write;
 
 /// Longer runs and larger memories are not repeated step by step.
 const TRACED_STEPS: u32 = 600;
@@ -294,51 +294,47 @@ impl Coverage {
         self.positions[kind][position as usize] += 1;
         self.beyond[kind] += u64::from(length.min(32) + position > 32);
     }
+}
 
-    /// A line for each thing that a session should meet and did not.
-    pub fn unmet(&self) -> Vec<String> {
-        let mut unmet = Vec::new();
-        let mut need = |count: u64, what: String| {
-            if count == 0 {
-                unmet.push(what);
-            }
-        };
+impl Met for Coverage {
+    fn unmet(&self) -> Vec<String> {
+        let mut unmet = Unmet::default();
         for refusal in 1..=8 {
-            need(self.refusals[refusal], format!("refusal {refusal}"));
+            unmet.need(self.refusals[refusal], format!("refusal {refusal}"));
         }
         for (damage, &count) in DAMAGES.iter().zip(&self.damages) {
-            need(count, format!("damage {damage:?} alone"));
+            unmet.need(count, format!("damage {damage:?} alone"));
         }
         for ending in [0, 11, 12, 13, 14, 15] {
-            need(self.endings[ending], format!("ending {ending}"));
+            unmet.need(self.endings[ending], format!("ending {ending}"));
         }
         for code in CODES {
-            need(self.exceptions[code], format!("exception {code:02X}h"));
+            unmet.need(self.exceptions[code], format!("exception {code:02X}h"));
         }
         for code in 224..=255 {
-            need(self.exceptions[code], format!("trap {}", code - 224));
+            unmet.need(self.exceptions[code], format!("trap {}", code - 224));
         }
-        need(self.exceptions_user, "exception in user mode".into());
-        need(self.exceptions_in_slot, "exception in a slot".into());
-        need(
+        unmet.need(self.exceptions_user, "exception in user mode".into());
+        unmet.need(self.exceptions_in_slot, "exception in a slot".into());
+        unmet.need(
             self.exceptions_with_product,
             "exception with a product held".into(),
         );
         for (above, side) in ["below 0", "above 32 bits"].into_iter().enumerate() {
-            need(
+            unmet.need(
                 self.wrapped_violations[above],
                 format!("07h by a wrapped address, {side}"),
             );
-            need(
+            unmet.need(
                 self.user_overflows[above],
                 format!("08h in user mode where the wrapped address is not protected, {side}"),
             );
-            need(
+            unmet.need(
                 self.super_user_overflows[above],
                 format!("08h in super user mode where the wrapped address is protected, {side}"),
             );
         }
-        for (width, name) in ["16-bit", "32-bit"].into_iter().enumerate() {
+        for (width, name) in WIDTH_NAMES.into_iter().enumerate() {
             for (operation, mnemonic) in NAMES.iter().enumerate() {
                 if width == 0 && only_wide(operation as u32) {
                     continue;
@@ -347,17 +343,17 @@ impl Coverage {
                     NOP => self.done[width][operation],
                     _ => self.effect[width][operation],
                 };
-                need(count, format!("{name} {mnemonic} with its effect"));
+                unmet.need(count, format!("{name} {mnemonic} with its effect"));
             }
             for (byte, &count) in self.bytes[width].iter().enumerate() {
-                need(count, format!("{name} exb of byte {byte}"));
+                unmet.need(count, format!("{name} exb of byte {byte}"));
             }
             for (halfword, &count) in self.halfwords[width].iter().enumerate() {
-                need(count, format!("{name} exh of halfword {halfword}"));
+                unmet.need(count, format!("{name} exh of halfword {halfword}"));
             }
             for condition in 0..8 {
                 for (taken, word) in ["not taken", "taken"].into_iter().enumerate() {
-                    need(
+                    unmet.need(
                         self.branches[width][condition][taken],
                         format!("{name} branch on condition {condition} {word}"),
                     );
@@ -366,22 +362,22 @@ impl Coverage {
         }
         for (kind, name) in FIELD_KINDS.into_iter().enumerate() {
             for length in END_LENGTHS {
-                need(
+                unmet.need(
                     self.lengths[kind][length],
                     format!("{name} of length {length}"),
                 );
             }
             for position in END_POSITIONS {
-                need(
+                unmet.need(
                     self.positions[kind][position],
                     format!("{name} at position {position}"),
                 );
             }
-            need(self.beyond[kind], format!("{name} that passes bit 31"));
+            unmet.need(self.beyond[kind], format!("{name} that passes bit 31"));
         }
         for condition in 0..8 {
             for (passed, word) in ["false", "true"].into_iter().enumerate() {
-                need(
+                unmet.need(
                     self.conditional[condition][passed],
                     format!("condition {condition} {word}"),
                 );
@@ -389,47 +385,46 @@ impl Coverage {
         }
         for psr in 0..32_u32 {
             if psr & UM == 0 || psr & (RSRD | RSWR) == 0 {
-                need(self.status[psr as usize], format!("PSR {psr:02X}h"));
+                unmet.need(self.status[psr as usize], format!("PSR {psr:02X}h"));
             }
         }
         for (kind, name) in ["load", "store"].into_iter().enumerate() {
             for offset in 0..=CONTROL_REGISTERS {
-                need(
+                unmet.need(
                     self.control[kind][offset],
                     format!("{name} at control block offset {offset:02X}h"),
                 );
             }
-            need(self.cells[kind], format!("{name} of a cell"));
-            need(
+            unmet.need(self.cells[kind], format!("{name} of a cell"));
+            unmet.need(
                 self.over_cells[kind],
                 format!("{name} of the control block over cells"),
             );
         }
         for (source, &count) in self.accepted_source.iter().enumerate() {
-            need(count, format!("interrupt of source {source}"));
+            unmet.need(count, format!("interrupt of source {source}"));
         }
         for depth in 1..=SOURCES {
-            need(
+            unmet.need(
                 self.accepted_depth[depth],
                 format!("interrupt nested to depth {depth}"),
             );
         }
-        need(self.accepted_user[0], "super user interrupt".into());
-        need(self.accepted_user[1], "user mode interrupt".into());
-        need(self.accepted_width[0], "16-bit interrupt".into());
-        need(self.accepted_width[1], "32-bit interrupt".into());
-        need(self.accepted_tie, "interrupt with a tie".into());
-        need(
+        unmet.need(self.accepted_user[0], "super user interrupt".into());
+        unmet.need(self.accepted_user[1], "user mode interrupt".into());
+        unmet.need(self.accepted_width[0], "16-bit interrupt".into());
+        unmet.need(self.accepted_width[1], "32-bit interrupt".into());
+        unmet.need(self.accepted_tie, "interrupt with a tie".into());
+        unmet.need(
             self.accepted_with_product,
             "interrupt with a product held".into(),
         );
-        need(self.waited_for_slot, "interrupt held back by a slot".into());
-        need(self.waited_for_mulhi, "interrupt held back by mulhi".into());
-        unmet
+        unmet.need(self.waited_for_slot, "interrupt held back by a slot".into());
+        unmet.need(self.waited_for_mulhi, "interrupt held back by mulhi".into());
+        unmet.lines()
     }
 
-    /// The counts as text.
-    pub fn report(&self) -> String {
+    fn report(&self) -> String {
         let mut text = String::new();
         let out = &mut text;
         line(out, "refusals", self.refusals.iter().enumerate());
@@ -572,27 +567,6 @@ impl Default for Coverage {
     fn default() -> Coverage {
         Coverage::new()
     }
-}
-
-pub fn put(text: &mut String, line: String) {
-    text.push_str(&line);
-    text.push('\n');
-}
-
-/// One line of counts with their names.
-pub fn line<'a, N: std::fmt::Display>(
-    text: &mut String,
-    title: &str,
-    counts: impl IntoIterator<Item = (N, &'a u64)>,
-) {
-    text.push_str(title);
-    let mut mark = ':';
-    for (name, count) in counts {
-        // Writing to a string does not fail.
-        let _ = write!(text, "{mark} {name} {count}");
-        mark = ',';
-    }
-    text.push('\n');
 }
 
 /// The sources that are pending, masked in and above all in service, while IE is 1.

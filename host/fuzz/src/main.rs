@@ -12,10 +12,13 @@
 //! all that they should.
 
 use coffee_fuzz::compare::Sides;
+use coffee_fuzz::coverage::Coverage;
 use coffee_fuzz::encode;
 use coffee_fuzz::image::LONGEST;
 use coffee_fuzz::listing;
-use coffee_fuzz::session::{self, noted, Options};
+use coffee_fuzz::met::Met;
+use coffee_fuzz::series::{noted, Outcome};
+use coffee_fuzz::session::{self, Options};
 use std::process::ExitCode;
 use std::sync::atomic::{AtomicU64, Ordering};
 use std::time::Instant;
@@ -201,14 +204,10 @@ mod signals {
 
 fn main() -> ExitCode {
     let usual = Options {
-        seed: SEED,
         calls: Some(CALLS),
-        seconds: None,
         words: WORDS,
         choices: CHOICES,
-        case: None,
-        listing: None,
-        choice: None,
+        ..Options::of_seed(SEED)
     };
     let options = match session::options(usual, std::env::args().skip(1)) {
         Ok(options) => options,
@@ -245,32 +244,16 @@ fn compare_calls(options: &Options) -> bool {
         library: library::run,
     };
     let outcome = session::run(options, sides);
-    let coverage = &outcome.coverage;
-    println!(
-        "seed {}: {} calls in {} lists, {:.1} s",
-        options.seed,
-        coverage.calls,
-        coverage.cases,
-        start.elapsed().as_secs_f64()
-    );
-    print!("{}", coverage.report());
-    if let Some(found) = &outcome.found {
-        print!("{}", session::explain(found, sides));
-        return false;
-    }
-    let unmet = match options.case {
-        Some(_) => Vec::new(),
-        None => coverage.unmet(),
+    let Coverage { calls, cases, .. } = outcome.coverage;
+    let told = Told {
+        name: "calls",
+        compared: format!("{calls} calls in {cases} lists"),
+        agreed: format!("{calls} calls"),
+        alone: options.case.is_some(),
+        many: calls >= CALLS,
     };
-    for what in &unmet {
-        println!("not met: {what}");
-    }
-    println!("fuzz: {} calls, no difference", coverage.calls);
-    if coverage.calls >= CALLS && !unmet.is_empty() {
-        println!("fuzz: failed, for these calls should have met all");
-        return false;
-    }
-    true
+    let explain = |found: &session::Found| session::explain(found, sides);
+    tell(&outcome, options.seed, start, told, explain)
 }
 
 /// Compares listings, prints what they met, and says whether all is as it should be.
@@ -281,32 +264,15 @@ fn compare_listings(options: &Options) -> bool {
         library: library::listing,
     };
     let outcome = listing::run(options, sides);
-    let coverage = &outcome.coverage;
-    println!(
-        "seed {}: {} listings, {:.1} s",
-        options.seed,
-        coverage.listings,
-        start.elapsed().as_secs_f64()
-    );
-    print!("{}", coverage.report());
-    if let Some(found) = &outcome.found {
-        print!("{}", listing::explain(found));
-        return false;
-    }
-    let unmet = match options.listing {
-        Some(_) => Vec::new(),
-        None => coverage.unmet(),
+    let [short, wide] = outcome.coverage.lines;
+    let told = Told {
+        name: "listings",
+        compared: format!("{} listings", outcome.coverage.listings),
+        agreed: format!("{wide} 32-bit words and {short} 16-bit words listed"),
+        alone: options.listing.is_some(),
+        many: wide >= WORDS,
     };
-    for what in &unmet {
-        println!("not met: {what}");
-    }
-    let [short, wide] = coverage.lines;
-    println!("fuzz: {wide} 32-bit words and {short} 16-bit words listed, no difference");
-    if wide >= WORDS && !unmet.is_empty() {
-        println!("fuzz: failed, for these listings should have met all");
-        return false;
-    }
-    true
+    tell(&outcome, options.seed, start, told, listing::explain)
 }
 
 /// Compares written words, prints what they met, and says whether all is as it should be.
@@ -317,32 +283,58 @@ fn compare_choices(options: &Options) -> bool {
         library: library::encode,
     };
     let outcome = encode::run(options, sides);
-    let coverage = &outcome.coverage;
-    println!(
-        "seed {}: {} choices, {:.1} s",
-        options.seed,
-        coverage.choices,
-        start.elapsed().as_secs_f64()
-    );
-    print!("{}", coverage.report());
+    let choices = outcome.coverage.choices;
+    let [short, wide] = outcome.coverage.words();
+    let told = Told {
+        name: "choices",
+        compared: format!("{choices} choices"),
+        agreed: format!(
+            "{choices} choices compared, {wide} 32-bit words and {short} 16-bit words among them"
+        ),
+        alone: options.choice.is_some(),
+        many: choices >= CHOICES,
+    };
+    tell(&outcome, options.seed, start, told, encode::explain)
+}
+
+/// What is said of a session.
+struct Told {
+    name: &'static str,
+    compared: String,
+    /// On what there is no difference.
+    agreed: String,
+    /// Whether it was one alone, which need not meet all.
+    alone: bool,
+    /// Whether it should have met all.
+    many: bool,
+}
+
+/// Prints what a session met and what it came to, and says whether all is as it should be.
+fn tell<C: Met, F>(
+    outcome: &Outcome<C, F>,
+    seed: u64,
+    start: Instant,
+    told: Told,
+    explain: impl Fn(&F) -> String,
+) -> bool {
+    let seconds = start.elapsed().as_secs_f64();
+    println!("seed {seed}: {}, {seconds:.1} s", told.compared);
+    print!("{}", outcome.coverage.report());
     if let Some(found) = &outcome.found {
-        print!("{}", encode::explain(found));
+        print!("{}", explain(found));
         return false;
     }
-    let unmet = match options.choice {
-        Some(_) => Vec::new(),
-        None => coverage.unmet(),
+    let unmet = if told.alone {
+        Vec::new()
+    } else {
+        outcome.coverage.unmet()
     };
     for what in &unmet {
         println!("not met: {what}");
     }
-    let [short, wide] = coverage.words();
-    println!(
-        "fuzz: {} choices compared, {wide} 32-bit words and {short} 16-bit words among them, no difference",
-        coverage.choices
-    );
-    if coverage.choices >= CHOICES && !unmet.is_empty() {
-        println!("fuzz: failed, for these choices should have met all");
+    println!("fuzz: {}, no difference", told.agreed);
+    if told.many && !unmet.is_empty() {
+        println!("fuzz: failed, for these {} should have met all", told.name);
         return false;
     }
     true

@@ -4,40 +4,14 @@ use crate::call::{Call, Generator};
 use crate::compare::{Bench, Difference, Sides};
 use crate::coverage::{Coverage, Tracer};
 use crate::random::Random;
+use crate::series::{self, until_difference, Kind};
 use crate::shrink::{describe, shrink};
-use std::sync::atomic::{AtomicU64, AtomicUsize, Ordering};
 use std::time::{Duration, Instant};
 
 /// One call in this many is repeated step by step.
 const TRACED: u32 = 8;
 /// A case has at most this many calls.
 const LONGEST_LIST: u32 = 10;
-
-/// What is being compared, each with the option that repeats one of its kind.
-#[derive(Clone, Copy)]
-pub enum Kind {
-    Case,
-    Listing,
-    Choice,
-}
-
-const KIND_OPTIONS: [&str; 3] = ["--case", "--listing", "--choice"];
-
-/// The case, listing or choice that is being run, for a message where the process ends early.
-static CURRENT_NUMBER: AtomicU64 = AtomicU64::new(0);
-static CURRENT_KIND: AtomicUsize = AtomicUsize::new(0);
-
-/// Notes what is being run.
-pub fn note(kind: Kind, number: u64) {
-    CURRENT_KIND.store(kind as usize, Ordering::Relaxed);
-    CURRENT_NUMBER.store(number, Ordering::Relaxed);
-}
-
-/// The option that repeats what is being run, and its number.
-pub fn noted() -> (&'static str, u64) {
-    let kind = CURRENT_KIND.load(Ordering::Relaxed);
-    (KIND_OPTIONS[kind], CURRENT_NUMBER.load(Ordering::Relaxed))
-}
 
 /// What a session is to do.
 #[derive(Clone, Debug)]
@@ -57,23 +31,33 @@ pub struct Options {
     pub choice: Option<u64>,
 }
 
-/// A difference and where it was found.
-pub struct Found {
-    pub difference: Difference,
-    pub seed: u64,
-    pub case: u64,
-    /// The number of the call in the session, from 1.
-    pub call: u64,
-    /// Whether it showed only when the call was repeated step by step.
-    pub stepwise: bool,
-    pub input: Call,
+impl Options {
+    /// A session of a seed that is to do nothing yet.
+    pub const fn of_seed(seed: u64) -> Options {
+        Options {
+            seed,
+            calls: None,
+            seconds: None,
+            words: 0,
+            choices: 0,
+            case: None,
+            listing: None,
+            choice: None,
+        }
+    }
 }
 
-/// What a session came to.
-pub struct Outcome {
-    pub coverage: Coverage,
-    pub found: Option<Found>,
+/// The call that shows a difference.
+pub struct Input {
+    /// Its number in the session, from 1.
+    pub number: u64,
+    /// Whether the difference showed only when the call was repeated step by step.
+    pub stepwise: bool,
+    pub call: Call,
 }
+
+pub type Found = series::Found<Difference, Input>;
+pub type Outcome = series::Outcome<Coverage, Found>;
 
 /// Runs a session.
 pub fn run(options: &Options, sides: Sides) -> Outcome {
@@ -87,38 +71,23 @@ pub fn run(options: &Options, sides: Sides) -> Outcome {
         coverage: Coverage::new(),
         number: 0,
     };
-    let mut found = None;
-    let mut case = options.case.unwrap_or(0);
-    loop {
-        note(Kind::Case, case);
+    let found = until_difference(Kind::Case, options.seed, options.case, |case| {
         let mut random = Random::of_case(options.seed, case);
-        if let Err((difference, stepwise)) = session.case(&mut random) {
-            found = Some(Found {
-                difference,
-                seed: options.seed,
-                case,
-                call: session.number,
-                stepwise,
-                input: if stepwise {
-                    session.tracer.step().clone()
-                } else {
-                    session.call
-                },
-            });
-            break;
-        }
+        session.case(&mut random)?;
         session.coverage.cases += 1;
-        case += 1;
         let enough = options
             .calls
             .is_some_and(|calls| session.coverage.calls >= calls);
         let late = options
             .seconds
             .is_some_and(|seconds| start.elapsed() >= Duration::from_secs(seconds));
-        if enough || late || options.case.is_some() {
-            break;
-        }
-    }
+        Ok(enough || late)
+    });
+    let found = found.map(|(place, (difference, stepwise))| Found {
+        difference,
+        place,
+        input: session.shown(stepwise),
+    });
     Outcome {
         coverage: session.coverage,
         found,
@@ -191,30 +160,38 @@ impl Session {
         }
         Ok(())
     }
+
+    /// The present call, or the last step of it.
+    fn shown(&self, stepwise: bool) -> Input {
+        let call = if stepwise {
+            self.tracer.step()
+        } else {
+            &self.call
+        };
+        Input {
+            number: self.number,
+            stepwise,
+            call: call.clone(),
+        }
+    }
 }
 
 /// A found difference as text: how to repeat it, and the smallest call that shows it.
 pub fn explain(found: &Found, sides: Sides) -> String {
-    let mut text = format!(
-        "difference at call {}{}: {}\nrepeat with --seed {} --case {}\n",
-        found.call,
-        if found.stepwise {
-            ", repeated step by step"
-        } else {
-            ""
-        },
-        found.difference,
-        found.seed,
-        found.case
-    );
-    match shrink(&found.input, sides) {
+    let stepwise = if found.input.stepwise {
+        ", repeated step by step"
+    } else {
+        ""
+    };
+    let mut text = found.head(&format!("call {}{stepwise}", found.input.number));
+    match shrink(&found.input.call, sides) {
         Some((call, difference)) => {
             text.push_str(&format!("made smaller: {difference}\n"));
             text.push_str(&describe(&call));
         }
         None => {
             text.push_str("the call:\n");
-            text.push_str(&describe(&found.input));
+            text.push_str(&describe(&found.input.call));
         }
     }
     text
@@ -261,31 +238,21 @@ pub fn options(
 #[cfg(test)]
 mod tests {
     use super::*;
+    use crate::series::tests::{found_twice, no_difference_twice};
     use coffee_reference::Answer;
 
     const OPTIONS: Options = Options {
-        seed: 5,
         calls: Some(3000),
-        seconds: None,
-        words: 0,
-        choices: 0,
-        case: None,
-        listing: None,
-        choice: None,
+        ..Options::of_seed(5)
     };
 
     /// The reference agrees with itself, and a session can be repeated.
     #[test]
-    fn no_difference_twice() {
-        let sides = Sides {
-            reference: coffee_reference::run,
-            library: coffee_reference::run,
-        };
-        let first = run(&OPTIONS, sides);
-        let second = run(&OPTIONS, sides);
-        assert!(first.found.is_none());
-        assert!(first.coverage.calls >= 3000);
-        assert_eq!(first.coverage.report(), second.coverage.report());
+    fn no_difference() {
+        let sides = Sides::alike(coffee_reference::run);
+        let explain = |found: &Found| explain(found, sides);
+        let coverage = no_difference_twice(|| run(&OPTIONS, sides), explain);
+        assert!(coverage.calls >= 3000);
     }
 
     /// The reference, but a run of three steps or more leaves another R7.
@@ -311,14 +278,8 @@ mod tests {
             reference: coffee_reference::run,
             library: wrong_from_three_steps,
         };
-        let found = run(&OPTIONS, sides).found.expect("a difference");
-        let again = Options {
-            case: Some(found.case),
-            ..OPTIONS
-        };
-        let again = run(&again, sides).found.expect("a difference");
-        assert_eq!(found.difference, again.difference);
-        let (call, difference) = shrink(&found.input, sides).expect("a difference");
+        let [found, _] = found_twice(&OPTIONS, |options| run(options, sides));
+        let (call, difference) = shrink(&found.input.call, sides).expect("a difference");
         assert_eq!(call.limit, 3);
         assert!(matches!(difference, Difference::Byte(byte) if byte.index == 32));
     }

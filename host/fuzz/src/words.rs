@@ -10,6 +10,9 @@ pub const NAMES: [&str; 64] = [
     "exb", "exh", "exbf", "exbfi",
 ];
 
+/// The number of 16-bit words.
+pub const SHORT_WORDS: u64 = 0x1_0000;
+
 /// Operation numbers that the generator treats apart.
 pub const NOP: u32 = 0;
 pub const MULS: u32 = 8;

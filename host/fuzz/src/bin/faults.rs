@@ -10,6 +10,7 @@ use coffee_faults::FAULTS;
 use coffee_fuzz::compare::Sides;
 use coffee_fuzz::encode;
 use coffee_fuzz::listing;
+use coffee_fuzz::met::Met;
 use coffee_fuzz::session::{self, Options};
 use std::process::ExitCode;
 use std::time::Instant;
@@ -29,6 +30,8 @@ const CHOICES: u64 = 300_000;
 /// What the faults came to.
 #[derive(Default)]
 struct Tally {
+    /// Whether all is printed of what is found.
+    in_full: bool,
     tried: u64,
     /// Those that were not as they should be.
     wrong: u64,
@@ -38,16 +41,37 @@ struct Tally {
     latest_choice: u64,
 }
 
+impl Tally {
+    /// Prints where a fault was found, and what was found where all of it is wanted.
+    fn found(&mut self, fault: &str, start: Instant, at: &str, explain: impl Fn() -> String) {
+        let seconds = start.elapsed().as_secs_f64();
+        println!("{fault}: found at {at} ({seconds:.2} s)");
+        self.wrong += u64::from(fault == "none");
+        if self.in_full || fault == "none" {
+            print!("{}", explain());
+        }
+    }
+
+    /// Prints that there was no difference, and of the copy without a fault what it met.
+    fn agreed(&mut self, fault: &str, start: Instant, compared: &str, coverage: &impl Met) {
+        let seconds = start.elapsed().as_secs_f64();
+        println!("{fault}: no difference in {compared} ({seconds:.2} s)");
+        self.wrong += u64::from(fault != "none");
+        if fault == "none" && self.in_full {
+            print!("{}", coverage.report());
+            for what in coverage.unmet() {
+                println!("not met: {what}");
+            }
+        }
+    }
+}
+
 fn main() -> ExitCode {
     let usual = Options {
-        seed: SEED,
         calls: Some(CALLS),
-        seconds: None,
         words: WORDS,
         choices: CHOICES,
-        case: None,
-        listing: None,
-        choice: None,
+        ..Options::of_seed(SEED)
     };
     let mut arguments: Vec<String> = std::env::args().skip(1).collect();
     let name = match arguments.len() % 2 {
@@ -64,7 +88,10 @@ fn main() -> ExitCode {
             return ExitCode::from(2);
         }
     };
-    let mut tally = Tally::default();
+    let mut tally = Tally {
+        in_full: name.is_some(),
+        ..Tally::default()
+    };
     for copy in FAULTS {
         if name.as_deref().is_some_and(|name| name != copy.name) {
             continue;
@@ -75,21 +102,21 @@ fn main() -> ExitCode {
                 reference: coffee_reference::run,
                 library: run,
             };
-            try_calls(copy.name, sides, &options, name.is_some(), &mut tally);
+            try_calls(copy.name, sides, &options, &mut tally);
         }
         if let Some(listing) = copy.listing {
             let sides = listing::Sides {
                 reference: coffee_reference::listing,
                 library: listing,
             };
-            try_listings(copy.name, sides, &options, name.is_some(), &mut tally);
+            try_listings(copy.name, sides, &options, &mut tally);
         }
         if let Some(encode) = copy.encode {
             let sides = encode::Sides {
                 reference: coffee_reference::encode,
                 library: encode,
             };
-            try_choices(copy.name, sides, &options, name.is_some(), &mut tally);
+            try_choices(copy.name, sides, &options, &mut tally);
         }
     }
     if tally.tried == 0 {
@@ -116,114 +143,61 @@ fn main() -> ExitCode {
 }
 
 /// Compares the run calls of a copy.
-fn try_calls(fault: &str, sides: Sides, options: &Options, in_full: bool, tally: &mut Tally) {
+fn try_calls(fault: &str, sides: Sides, options: &Options, tally: &mut Tally) {
     let start = Instant::now();
     let mut options = options.clone();
     if fault == "none" {
         options.calls = options.calls.map(|calls| calls.min(UNCHANGED_CALLS));
     }
     let outcome = session::run(&options, sides);
-    let seconds = start.elapsed().as_secs_f64();
     match &outcome.found {
         Some(found) => {
-            println!(
-                "{fault}: found at call {}{} ({seconds:.2} s)",
-                found.call,
-                if found.stepwise { ", step by step" } else { "" }
-            );
-            tally.latest_call = tally.latest_call.max(found.call);
-            tally.wrong += u64::from(fault == "none");
-            if in_full || fault == "none" {
-                print!("{}", session::explain(found, sides));
-            }
+            let session::Input {
+                number, stepwise, ..
+            } = found.input;
+            tally.latest_call = tally.latest_call.max(number);
+            let stepwise = if stepwise { ", step by step" } else { "" };
+            let at = format!("call {number}{stepwise}");
+            tally.found(fault, start, &at, || session::explain(found, sides));
         }
         None => {
-            println!(
-                "{fault}: no difference in {} calls ({seconds:.2} s)",
-                outcome.coverage.calls
-            );
-            tally.wrong += u64::from(fault != "none");
-            if fault == "none" && in_full {
-                print!("{}", outcome.coverage.report());
-                for what in outcome.coverage.unmet() {
-                    println!("not met: {what}");
-                }
-            }
+            let compared = format!("{} calls", outcome.coverage.calls);
+            tally.agreed(fault, start, &compared, &outcome.coverage);
         }
     }
 }
 
 /// Compares the listings of a copy.
-fn try_listings(
-    fault: &str,
-    sides: listing::Sides,
-    options: &Options,
-    in_full: bool,
-    tally: &mut Tally,
-) {
+fn try_listings(fault: &str, sides: listing::Sides, options: &Options, tally: &mut Tally) {
     let start = Instant::now();
     let outcome = listing::run(options, sides);
-    let seconds = start.elapsed().as_secs_f64();
+    let words = outcome.coverage.words();
     match &outcome.found {
         Some(found) => {
-            println!(
-                "{fault}: found at listing {}, after {} words ({seconds:.2} s)",
-                found.listing, found.words
-            );
-            tally.latest_listing = tally.latest_listing.max(found.listing);
-            tally.wrong += u64::from(fault == "none");
-            if in_full || fault == "none" {
-                print!("{}", listing::explain(found));
-            }
+            tally.latest_listing = tally.latest_listing.max(found.place.number);
+            let at = format!("listing {}, after {words} words", found.place.number);
+            tally.found(fault, start, &at, || listing::explain(found));
         }
         None => {
-            println!(
-                "{fault}: no difference in {} listed words ({seconds:.2} s)",
-                outcome.coverage.words()
-            );
-            tally.wrong += u64::from(fault != "none");
-            if fault == "none" && in_full {
-                print!("{}", outcome.coverage.report());
-                for what in outcome.coverage.unmet() {
-                    println!("not met: {what}");
-                }
-            }
+            let compared = format!("{words} listed words");
+            tally.agreed(fault, start, &compared, &outcome.coverage);
         }
     }
 }
 
 /// Compares the written words of a copy.
-fn try_choices(
-    fault: &str,
-    sides: encode::Sides,
-    options: &Options,
-    in_full: bool,
-    tally: &mut Tally,
-) {
+fn try_choices(fault: &str, sides: encode::Sides, options: &Options, tally: &mut Tally) {
     let start = Instant::now();
     let outcome = encode::run(options, sides);
-    let seconds = start.elapsed().as_secs_f64();
     match &outcome.found {
         Some(found) => {
-            println!("{fault}: found at choice {} ({seconds:.2} s)", found.choice);
-            tally.latest_choice = tally.latest_choice.max(found.choice);
-            tally.wrong += u64::from(fault == "none");
-            if in_full || fault == "none" {
-                print!("{}", encode::explain(found));
-            }
+            tally.latest_choice = tally.latest_choice.max(found.place.number);
+            let at = format!("choice {}", found.place.number);
+            tally.found(fault, start, &at, || encode::explain(found));
         }
         None => {
-            println!(
-                "{fault}: no difference in {} choices ({seconds:.2} s)",
-                outcome.coverage.choices
-            );
-            tally.wrong += u64::from(fault != "none");
-            if fault == "none" && in_full {
-                print!("{}", outcome.coverage.report());
-                for what in outcome.coverage.unmet() {
-                    println!("not met: {what}");
-                }
-            }
+            let compared = format!("{} choices", outcome.coverage.choices);
+            tally.agreed(fault, start, &compared, &outcome.coverage);
         }
     }
 }

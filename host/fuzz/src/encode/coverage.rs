@@ -1,12 +1,11 @@
 //! What the written words of a session met.
 
-use super::generate::{may_be_conditional, Forms, Part, Range, OPERANDS, SHORT_WORDS};
+use super::generate::{may_be_conditional, Forms, Part, Range, OPERANDS};
 use super::{Answer, Input};
-use crate::coverage::{line, put};
+use crate::met::{line, put, yes_place, Conditions, Met, Unmet, Words, WIDTH_NAMES, YES};
 use crate::words::{only_wide, NAMES};
 use coffee_reference::cleared;
 
-const WIDTH_NAMES: [&str; 2] = ["16-bit", "32-bit"];
 /// The answers.
 const ANSWERS: [&str; 3] = ["a word", "18", "19"];
 /// Operands at their ends and one past them, where all other parts of the choice fit.
@@ -18,14 +17,6 @@ const PARTS: [&str; 2] = ["creg", "condition"];
 const LARGE: [&str; 3] = ["8", "9", "more"];
 /// Reasons for 18 and 19 that stand together.
 const TOGETHER: [&str; 2] = ["a part of the condition", "an operand"];
-/// The numbers that say yes or no.
-const YES: [(u32, &str); 5] = [
-    (0, "0"),
-    (1, "1"),
-    (2, "2"),
-    (u32::MAX, "FFFFFFFFh"),
-    (3, "another"),
-];
 
 /// Counts of what was met, by width (0 for 16 bits, 1 for 32) where an array has 2 parts.
 pub struct Coverage {
@@ -37,8 +28,8 @@ pub struct Coverage {
     /// By operation and operand, and by the place in ENDS and in FAR.
     ends: [[[[u64; 4]; OPERANDS]; 64]; 2],
     far: [[[[u64; 3]; OPERANDS]; 64]; 2],
-    /// Conditions that were written, by their number and their register.
-    conditions: [[u64; 8]; 8],
+    /// Conditions that were written.
+    conditions: Conditions,
     /// By the place in PARTS and in LARGE.
     large: [[u64; 3]; 2],
     /// Words written without a condition, for a choice in which a part of one is above 7.
@@ -50,10 +41,8 @@ pub struct Coverage {
     /// The width and the condition, by the place in YES.
     wides: [u64; 5],
     conditionals: [u64; 5],
-    /// Words that came in: every 16-bit word; 32-bit words by operation, with bit 25 at 0 and
-    /// at 1; 32-bit words of which an ignored bit was 1, by operation.
-    short_words: Vec<bool>,
-    bit_25: [[u64; 2]; 64],
+    /// Words that came in; 32-bit words of which an ignored bit was 1, by operation.
+    words: Words,
     ignored: [u64; 64],
 }
 
@@ -65,23 +54,21 @@ impl Coverage {
             beyond: [[0; 2]; 2],
             ends: [[[[0; 4]; OPERANDS]; 64]; 2],
             far: [[[[0; 3]; OPERANDS]; 64]; 2],
-            conditions: [[0; 8]; 8],
+            conditions: Conditions::default(),
             large: [[0; 3]; 2],
             no_condition: [0; 2],
             together: [[0; 2]; 2],
             several: [0; 2],
             wides: [0; 5],
             conditionals: [0; 5],
-            short_words: vec![false; SHORT_WORDS as usize],
-            bit_25: [[0; 2]; 64],
+            words: Words::new(),
             ignored: [0; 64],
         }
     }
 
     /// The different 16-bit words that came in, and all 32-bit words.
     pub fn words(&self) -> [u64; 2] {
-        let short = self.short_words.iter().filter(|&&met| met).count();
-        [short as u64, self.bit_25.iter().flatten().sum()]
+        self.words.counts()
     }
 
     /// Counts a choice on which both sides agree.
@@ -92,7 +79,11 @@ impl Coverage {
         self.wides[yes_place(choice.wide)] += 1;
         self.conditionals[yes_place(choice.conditional)] += 1;
         if let Some(word) = input.came_in {
-            self.count_word(word, choice.wide);
+            self.words.count(word, width == 1);
+            if width == 1 {
+                let ignored = cleared(word, choice.wide) != Some(word);
+                self.ignored[(word >> 26) as usize] += u64::from(ignored);
+            }
         }
         let misfits: Vec<_> = forms.misfits(choice).collect();
         let refusal = answer.refusal();
@@ -119,8 +110,7 @@ impl Coverage {
                     }
                 }
                 if choice.conditional != 0 {
-                    let number = choice.condition as usize;
-                    self.conditions[number][choice.creg as usize] += 1;
+                    self.conditions.count(choice.condition, choice.creg);
                 } else if choice.creg > 7 || choice.condition > 7 {
                     self.no_condition[width] += 1;
                 }
@@ -159,40 +149,23 @@ impl Coverage {
             }
         }
     }
+}
 
-    /// Counts a word that came in.
-    fn count_word(&mut self, word: u32, wide: u32) {
-        if wide == 0 {
-            self.short_words[word as usize] = true;
-            return;
-        }
-        let operation = (word >> 26) as usize;
-        self.bit_25[operation][(word >> 25 & 1) as usize] += 1;
-        self.ignored[operation] += u64::from(cleared(word, wide) != Some(word));
-    }
-
-    /// A line for each thing that a session should meet and did not.
-    pub fn unmet(&self) -> Vec<String> {
+impl Met for Coverage {
+    fn unmet(&self) -> Vec<String> {
         let forms = Forms::new();
-        let mut unmet = Vec::new();
-        let mut need = |count: u64, what: String| {
-            if count == 0 {
-                unmet.push(what);
-            }
-        };
+        let mut unmet = Unmet::default();
         for (width, name) in WIDTH_NAMES.into_iter().enumerate() {
             for (operation, mnemonic) in NAMES.iter().enumerate() {
                 let number = operation as u32;
                 let has_form = width == 1 || !only_wide(number);
                 let never = !may_be_conditional(number, width == 1);
-                for (place, can_be) in [has_form, never, has_form].into_iter().enumerate() {
-                    if can_be {
-                        need(
-                            self.answers[width][operation][place],
-                            format!("{name} {mnemonic} answered with {}", ANSWERS[place]),
-                        );
-                    }
-                }
+                let answers = ANSWERS.iter().zip(&self.answers[width][operation]);
+                let can_be = answers.zip([has_form, never, has_form]);
+                unmet.need_each(
+                    can_be.filter_map(|(answer, can_be)| can_be.then_some(answer)),
+                    |answer| format!("{name} {mnemonic} answered with {answer}"),
+                );
                 if !has_form {
                     continue;
                 }
@@ -205,77 +178,51 @@ impl Coverage {
                     };
                     let ends = ENDS.iter().zip(&self.ends[width][operation][operand]);
                     let far = FAR.iter().zip(&self.far[width][operation][operand]);
-                    for (end, &count) in ends.chain(far) {
-                        need(
-                            count,
-                            format!("{name} {mnemonic} with {what} {operand}, {end}"),
-                        );
-                    }
+                    unmet.need_each(ends.chain(far), |end| {
+                        format!("{name} {mnemonic} with {what} {operand}, {end}")
+                    });
                 }
             }
-            for (place, numbers) in ["64 to 70", "above 70"].into_iter().enumerate() {
-                need(
-                    self.beyond[width][place],
-                    format!("{name} operation number {numbers}"),
-                );
-            }
-            for (place, reason) in TOGETHER.into_iter().enumerate() {
-                need(
-                    self.together[width][place],
-                    format!("{name} choice that answers 18, while {reason} does not fit"),
-                );
-            }
-            need(
+            let beyond = ["64 to 70", "above 70"].iter().zip(&self.beyond[width]);
+            unmet.need_each(beyond, |numbers| {
+                format!("{name} operation number {numbers}")
+            });
+            unmet.need_each(TOGETHER.iter().zip(&self.together[width]), |reason| {
+                format!("{name} choice that answers 18, while {reason} does not fit")
+            });
+            unmet.need(
                 self.several[width],
                 format!("{name} choice of which several parts do not fit"),
             );
-            need(
+            unmet.need(
                 self.no_condition[width],
                 format!("{name} word without a condition, for a choice with a part of one above 7"),
             );
         }
-        for (place, part) in PARTS.into_iter().enumerate() {
-            for (size, large) in LARGE.into_iter().enumerate() {
-                need(self.large[place][size], format!("{part} {large}"));
-            }
+        for (part, counts) in PARTS.iter().zip(&self.large) {
+            unmet.need_each(LARGE.iter().zip(counts), |large| format!("{part} {large}"));
         }
         for (place, (_, number)) in YES.into_iter().enumerate() {
-            need(self.wides[place], format!("{number} as the width"));
-            need(
+            unmet.need(self.wides[place], format!("{number} as the width"));
+            unmet.need(
                 self.conditionals[place],
                 format!("{number} for a condition or none"),
             );
         }
-        for condition in 0..8 {
-            for register in 0..8 {
-                need(
-                    self.conditions[condition][register],
-                    format!("condition {condition} of C{register} written"),
-                );
-            }
-        }
-        let missing = self.short_words.iter().filter(|&&met| !met).count();
-        need(
-            u64::from(missing == 0),
-            format!("every 16-bit word written again ({missing} are missing)"),
-        );
+        self.conditions.need(&mut unmet, "written");
+        self.words.need_short(&mut unmet, "written again");
         for (operation, mnemonic) in NAMES.iter().enumerate() {
-            for bit in 0..2 {
-                need(
-                    self.bit_25[operation][bit],
-                    format!("32-bit {mnemonic} written again, its bit 25 at {bit}"),
-                );
-            }
-            need(
+            self.words
+                .need_bit_25(&mut unmet, operation, "written again, its");
+            unmet.need(
                 self.ignored[operation],
                 format!("32-bit {mnemonic} written again, an ignored bit at 1"),
             );
         }
-        unmet
+        unmet.lines()
     }
 
-    /// The counts as text.
-    pub fn report(&self) -> String {
+    fn report(&self) -> String {
         let mut text = String::new();
         let out = &mut text;
         for (width, name) in WIDTH_NAMES.into_iter().enumerate().rev() {
@@ -311,7 +258,7 @@ impl Coverage {
                 LARGE.iter().zip(&self.large[place]),
             );
         }
-        let conditions: u64 = self.conditions.iter().flatten().sum();
+        let conditions = self.conditions.sum();
         let [short, wide] = self.words();
         let ignored: u64 = self.ignored.iter().sum();
         put(
@@ -337,12 +284,6 @@ impl Default for Coverage {
     fn default() -> Coverage {
         Coverage::new()
     }
-}
-
-/// The place of a number in YES.
-fn yes_place(number: u32) -> usize {
-    let place = YES.iter().position(|&(other, _)| other == number);
-    place.unwrap_or(YES.len() - 1)
 }
 
 /// The sums of two rows of counts.

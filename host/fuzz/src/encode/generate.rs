@@ -8,8 +8,6 @@ use coffee_reference::{operand_ranges, reading, Choice};
 
 /// Most operands that a choice gives.
 pub const OPERANDS: usize = 4;
-/// The number of 16-bit words.
-pub const SHORT_WORDS: u64 = 0x1_0000;
 /// One choice in this many is that of a 16-bit word, while there are any.
 const TURNS: u64 = 4;
 /// The choices of a session in which all 16-bit words have had their turn.

@@ -3,7 +3,8 @@
 mod coverage;
 mod generate;
 
-use crate::session::{note, Kind, Options};
+use crate::series::{self, until_difference, Kind};
+use crate::session::Options;
 use crate::words::{self, NAMES};
 use coffee_reference::{cleared, reading, Choice};
 pub use coverage::Coverage;
@@ -16,12 +17,7 @@ pub type Encode = fn(&Choice) -> u64;
 /// What a refusal is added to.
 const REFUSED: u64 = 1 << 32;
 
-/// The two sides that are compared.
-#[derive(Clone, Copy)]
-pub struct Sides {
-    pub reference: Encode,
-    pub library: Encode,
-}
+pub type Sides = series::Sides<Encode>;
 
 /// A choice, and what the generator knows of its answer.
 #[derive(Clone, Copy, Default)]
@@ -150,20 +146,8 @@ fn shown(choice: &Choice) -> Choice {
     }
 }
 
-/// A difference and where it was found.
-pub struct Found {
-    pub difference: Difference,
-    pub seed: u64,
-    /// The number of the choice in the session, from 0.
-    pub choice: u64,
-    pub input: Input,
-}
-
-/// What a session came to.
-pub struct Outcome {
-    pub coverage: Coverage,
-    pub found: Option<Found>,
-}
+pub type Found = series::Found<Difference, Input>;
+pub type Outcome = series::Outcome<Coverage, Found>;
 
 /// Writes every 16-bit word and random choices, by turns, until a difference or the number of
 /// choices that the options give.
@@ -171,29 +155,18 @@ pub fn run(options: &Options, sides: Sides) -> Outcome {
     let forms = Forms::new();
     let mut coverage = Coverage::new();
     let mut input = Input::default();
-    let mut found = None;
-    let mut number = options.choice.unwrap_or(0);
     let enough = options.choices.max(FEWEST);
-    loop {
-        note(Kind::Choice, number);
+    let found = until_difference(Kind::Choice, options.seed, options.choice, |number| {
         choice(options.seed, number, &forms, &mut input);
-        match compare(&input, sides) {
-            Ok(answer) => coverage.count(&input, answer, &forms),
-            Err(difference) => {
-                found = Some(Found {
-                    difference,
-                    seed: options.seed,
-                    choice: number,
-                    input,
-                });
-                break;
-            }
-        }
-        number += 1;
-        if number >= enough || options.choice.is_some() {
-            break;
-        }
-    }
+        let answer = compare(&input, sides)?;
+        coverage.count(&input, answer, &forms);
+        Ok(number + 1 >= enough)
+    });
+    let found = found.map(|(place, difference)| Found {
+        difference,
+        place,
+        input,
+    });
     Outcome { coverage, found }
 }
 
@@ -206,13 +179,9 @@ pub fn explain(found: &Found) -> String {
         None => String::new(),
     };
     format!(
-        "difference at choice {}: {}\nrepeat with --seed {} --choice {}\n  \
-         operation {} ({name}), wide {}, conditional {}, creg {}, condition {}, operands {:?}{came_in}, \
+        "{}  operation {} ({name}), wide {}, conditional {}, creg {}, condition {}, operands {:?}{came_in}, \
          meant to answer {}\n",
-        found.choice,
-        found.difference,
-        found.seed,
-        found.choice,
+        found.head(&format!("choice {}", found.place.number)),
         choice.operation,
         choice.wide,
         choice.conditional,
@@ -229,35 +198,23 @@ pub fn explain(found: &Found) -> String {
 #[cfg(test)]
 mod tests {
     use super::*;
+    use crate::met::Met;
+    use crate::series::tests::{found_twice, no_difference_twice};
     use coffee_reference::encode;
 
     const OPTIONS: Options = Options {
-        seed: 5,
-        calls: None,
-        seconds: None,
-        words: 0,
         choices: 1_000_000,
-        case: None,
-        listing: None,
-        choice: None,
+        ..Options::of_seed(5)
     };
 
     /// The reference agrees with itself, meets all that it should, and a session can be
     /// repeated.
     #[test]
-    fn no_difference_twice() {
-        let sides = Sides {
-            reference: encode,
-            library: encode,
-        };
-        let first = run(&OPTIONS, sides);
-        let second = run(&OPTIONS, sides);
-        if let Some(found) = &first.found {
-            panic!("{}", explain(found));
-        }
-        assert_eq!(first.coverage.choices, 1_000_000);
-        assert_eq!(first.coverage.unmet(), Vec::<String>::new());
-        assert_eq!(first.coverage.report(), second.coverage.report());
+    fn no_difference() {
+        let sides = Sides::alike(encode);
+        let coverage = no_difference_twice(|| run(&OPTIONS, sides), explain);
+        assert_eq!(coverage.choices, 1_000_000);
+        assert_eq!(coverage.unmet(), Vec::<String>::new());
     }
 
     /// The reference, but R13 as the second operand of a 32-bit word is written as R12.
@@ -277,15 +234,9 @@ mod tests {
             reference: encode,
             library: wrong_at_13,
         };
-        let found = run(&OPTIONS, sides).found.expect("a difference");
+        let [found, again] = found_twice(&OPTIONS, |options| run(options, sides));
         assert!(matches!(found.difference, Difference::Answer { .. }));
         assert_eq!(found.input.choice.operands[1], 13);
-        let again = Options {
-            choice: Some(found.choice),
-            ..OPTIONS
-        };
-        let again = run(&again, sides).found.expect("a difference");
-        assert_eq!(found.difference, again.difference);
         assert_eq!(explain(&found), explain(&again));
     }
 
@@ -318,10 +269,7 @@ mod tests {
     #[test]
     fn both_sides_wrong() {
         for wrong in [ignored_bit, refusal_0, shift_by_32, wrong_at_13] {
-            let sides = Sides {
-                reference: wrong,
-                library: wrong,
-            };
+            let sides = Sides::alike(wrong);
             let found = run(&OPTIONS, sides).found.expect("a difference");
             assert!(matches!(found.difference, Difference::Both(_)));
         }

@@ -3,7 +3,7 @@
 use super::generate::{used_immediate, used_width};
 use super::{Input, Text, LINE};
 use crate::call::MEMORY_LIMIT;
-use crate::coverage::{line, put};
+use crate::met::{line, put, yes_place, Conditions, Met, Unmet, Words, WIDTH_NAMES, YES};
 use crate::words::{self, *};
 
 /// The answers.
@@ -19,17 +19,8 @@ const TEXTS: [(Text, &str); 6] = [
 ];
 /// Reasons for a refusal that stand together.
 const TOGETHER: [&str; 4] = ["1 with 16", "1 with 17", "16 with 17", "all three"];
-/// The numbers that say the width, and any other.
-const WIDTHS: [(u32, &str); 5] = [
-    (0, "0"),
-    (1, "1"),
-    (2, "2"),
-    (u32::MAX, "FFFFFFFFh"),
-    (3, "another"),
-];
 /// The immediates at the ends.
 const ENDS: [&str; 4] = ["0", "all ones", "the top bit alone", "all but the top bit"];
-const WIDTH_NAMES: [&str; 2] = ["16-bit", "32-bit"];
 
 /// Counts of what was met, by width (0 for 16 bits, 1 for 32) where an array has 2 parts.
 pub struct Coverage {
@@ -37,12 +28,10 @@ pub struct Coverage {
     /// Lines that were written and compared.
     pub lines: [u64; 2],
     operations: [[u64; 64]; 2],
-    /// Every 16-bit word.
-    short_words: Vec<bool>,
-    /// 32-bit words by operation, with bit 25 at 0 and at 1.
-    bit_25: [[u64; 2]; 64],
-    /// Conditions that are shown, by their number and their register.
-    conditions: [[u64; 8]; 8],
+    /// Words that were listed.
+    words: Words,
+    /// Conditions that are shown.
+    conditions: Conditions,
     /// 32-bit words by operation, with an immediate of ENDS.
     ends: [[u64; 4]; 64],
     /// By the place in ANSWERS.
@@ -51,7 +40,7 @@ pub struct Coverage {
     together: [[u64; 4]; 2],
     /// Programs of one word or more and not too long, by the place in TEXTS.
     texts: [[u64; 6]; 2],
-    /// By the place in WIDTHS.
+    /// By the place in YES.
     widths: [u64; 5],
     /// Programs of no bytes, with an empty text and another; the longest that is listed;
     /// those of one byte and of one word more.
@@ -69,9 +58,8 @@ impl Coverage {
             listings: 0,
             lines: [0; 2],
             operations: [[0; 64]; 2],
-            short_words: vec![false; 0x1_0000],
-            bit_25: [[0; 2]; 64],
-            conditions: [[0; 8]; 8],
+            words: Words::new(),
+            conditions: Conditions::default(),
             ends: [[0; 4]; 64],
             answers: [[0; 4]; 2],
             together: [[0; 4]; 2],
@@ -97,9 +85,7 @@ impl Coverage {
         let length = input.program.len();
         let word_bytes = words::bytes(wide) as usize;
         self.listings += 1;
-        let other = WIDTHS.len() - 1;
-        let place = WIDTHS.iter().position(|&(number, _)| number == input.wide);
-        self.widths[place.unwrap_or(other)] += 1;
+        self.widths[yes_place(input.wide)] += 1;
         if let Some(place) = ANSWERS.iter().position(|&number| number == answer) {
             self.answers[width][place] += 1;
         }
@@ -144,15 +130,12 @@ impl Coverage {
         let operation = words::operation(word, wide);
         let index = operation as usize;
         self.operations[usize::from(wide)][index] += 1;
+        self.words.count(word, wide);
         if !wide {
-            self.short_words[word as usize] = true;
             return;
         }
-        let conditional = word >> 25 & 1;
-        self.bit_25[index][conditional as usize] += 1;
-        if conditional == 1 && !never_conditional(operation) {
-            let (number, register) = (word >> 19 & 7, word >> 22 & 7);
-            self.conditions[number as usize][register as usize] += 1;
+        if word >> 25 & 1 == 1 && !never_conditional(operation) {
+            self.conditions.count(word >> 19 & 7, word >> 22 & 7);
         }
         if let Some(ends) = ends(operation) {
             let number = used_immediate(operation, word);
@@ -165,105 +148,64 @@ impl Coverage {
             }
         }
     }
+}
 
-    /// A line for each thing that a session should meet and did not.
-    pub fn unmet(&self) -> Vec<String> {
-        let mut unmet = Vec::new();
-        let mut need = |count: u64, what: String| {
-            if count == 0 {
-                unmet.push(what);
-            }
-        };
+impl Met for Coverage {
+    fn unmet(&self) -> Vec<String> {
+        let mut unmet = Unmet::default();
         for (width, name) in WIDTH_NAMES.into_iter().enumerate() {
-            for (operation, mnemonic) in NAMES.iter().enumerate() {
-                need(
-                    self.operations[width][operation],
-                    format!("{name} {mnemonic} listed"),
-                );
-            }
-            for (place, answer) in ANSWERS.into_iter().enumerate() {
-                need(
-                    self.answers[width][place],
-                    format!("{name} listing that answers {answer}"),
-                );
-            }
-            for (place, reasons) in TOGETHER.into_iter().enumerate() {
-                need(
-                    self.together[width][place],
-                    format!("{name} listing with several reasons for a refusal, {reasons}"),
-                );
-            }
-            for (place, (_, text)) in TEXTS.into_iter().enumerate() {
-                need(
-                    self.texts[width][place],
-                    format!("{name} listing, its text {text}"),
-                );
-            }
-            for (place, text) in ["an empty", "another"].into_iter().enumerate() {
-                need(
-                    self.empty[width][place],
-                    format!("{name} listing of no bytes to {text} text"),
-                );
-            }
-            need(
+            unmet.need_each(NAMES.iter().zip(&self.operations[width]), |mnemonic| {
+                format!("{name} {mnemonic} listed")
+            });
+            unmet.need_each(ANSWERS.iter().zip(&self.answers[width]), |answer| {
+                format!("{name} listing that answers {answer}")
+            });
+            unmet.need_each(TOGETHER.iter().zip(&self.together[width]), |reasons| {
+                format!("{name} listing with several reasons for a refusal, {reasons}")
+            });
+            unmet.need_each(TEXTS.iter().zip(&self.texts[width]), |(_, text)| {
+                format!("{name} listing, its text {text}")
+            });
+            let empty = ["an empty", "another"].iter().zip(&self.empty[width]);
+            unmet.need_each(empty, |text| {
+                format!("{name} listing of no bytes to {text} text")
+            });
+            unmet.need(
                 self.longest[width],
                 format!("{name} listing of 65,536 bytes"),
             );
-            need(
+            unmet.need(
                 self.one_byte_more[width],
                 format!("{name} listing of 65,537 bytes"),
             );
-            need(
+            unmet.need(
                 self.one_word_more[width],
                 format!("{name} listing of one word more than 65,536 bytes"),
             );
             for left in 1..words::bytes(width == 1) as usize {
-                need(
+                unmet.need(
                     self.left_over[width][left],
                     format!("{name} listing with {left} bytes left over"),
                 );
             }
         }
-        let missing = self.short_words.iter().filter(|&&met| !met).count();
-        need(
-            u64::from(missing == 0),
-            format!("every 16-bit word listed ({missing} are missing)"),
-        );
-        for (place, (_, number)) in WIDTHS.into_iter().enumerate() {
-            need(
-                self.widths[place],
-                format!("listing with {number} as its width"),
-            );
-        }
+        self.words.need_short(&mut unmet, "listed");
+        unmet.need_each(YES.iter().zip(&self.widths), |(_, number)| {
+            format!("listing with {number} as its width")
+        });
         for (operation, mnemonic) in NAMES.iter().enumerate() {
-            for bit in 0..2 {
-                need(
-                    self.bit_25[operation][bit],
-                    format!("32-bit {mnemonic} listed with bit 25 at {bit}"),
-                );
-            }
+            self.words.need_bit_25(&mut unmet, operation, "listed with");
             if ends(operation as u32).is_some() {
-                for (place, end) in ENDS.into_iter().enumerate() {
-                    need(
-                        self.ends[operation][place],
-                        format!("32-bit {mnemonic} listed with immediate {end}"),
-                    );
-                }
+                unmet.need_each(ENDS.iter().zip(&self.ends[operation]), |end| {
+                    format!("32-bit {mnemonic} listed with immediate {end}")
+                });
             }
         }
-        for condition in 0..8 {
-            for register in 0..8 {
-                need(
-                    self.conditions[condition][register],
-                    format!("condition {condition} of C{register} listed"),
-                );
-            }
-        }
-        unmet
+        self.conditions.need(&mut unmet, "listed");
+        unmet.lines()
     }
 
-    /// The counts as text.
-    pub fn report(&self) -> String {
+    fn report(&self) -> String {
         let mut text = String::new();
         let out = &mut text;
         for (width, name) in WIDTH_NAMES.into_iter().enumerate().rev() {
@@ -284,8 +226,8 @@ impl Coverage {
                 kinds.zip(&self.texts[width]),
             );
         }
-        let different = self.short_words.iter().filter(|&&met| met).count();
-        let conditions: u64 = self.conditions.iter().flatten().sum();
+        let [different, _] = self.words.counts();
+        let conditions = self.conditions.sum();
         put(
             out,
             format!(

@@ -7,7 +7,8 @@ mod generate;
 use crate::compare::{first_difference, Unlike};
 use crate::guarded::Guarded;
 use crate::random::Random;
-use crate::session::{note, Kind, Options};
+use crate::series::{self, until_difference, Kind};
+use crate::session::Options;
 use crate::words::{self, word_at, NAMES};
 pub use coverage::Coverage;
 pub use generate::{every_short_word, longest, random_listing, short_word, wide_word, Text};
@@ -19,12 +20,7 @@ pub const LINE: usize = 48;
 /// A listing: program, width (0 for 16-bit words, any other number for 32-bit words), text.
 pub type Listing = fn(&[u8], u32, &mut [u8]) -> u32;
 
-/// The two sides that are compared.
-#[derive(Clone, Copy)]
-pub struct Sides {
-    pub reference: Listing,
-    pub library: Listing,
-}
+pub type Sides = series::Sides<Listing>;
 
 /// Everything that a listing lends or gives, and what the generator knows of its answer.
 #[derive(Clone, Default)]
@@ -216,22 +212,8 @@ fn hex(digits: &[u8], number: u32) -> bool {
         .all(|(value, &digit)| digit == b"0123456789ABCDEF"[value as usize])
 }
 
-/// A difference and where it was found.
-pub struct Found {
-    pub difference: Difference,
-    pub seed: u64,
-    /// The number of the listing in the session, from 0.
-    pub listing: u64,
-    /// The words that were listed before it.
-    pub words: u64,
-    pub input: Input,
-}
-
-/// What a session came to.
-pub struct Outcome {
-    pub coverage: Coverage,
-    pub found: Option<Found>,
-}
+pub type Found = series::Found<Difference, Input>;
+pub type Outcome = series::Outcome<Coverage, Found>;
 
 /// Lists every 16-bit word, the longest program of 32-bit words, and then random programs,
 /// until a difference or the number of 32-bit words that the options give.
@@ -239,47 +221,30 @@ pub fn run(options: &Options, sides: Sides) -> Outcome {
     let mut coverage = Coverage::new();
     let mut bench = Bench::default();
     let mut input = Input::default();
-    let mut found = None;
-    let mut listing = options.listing.unwrap_or(0);
-    loop {
-        note(Kind::Listing, listing);
+    let found = until_difference(Kind::Listing, options.seed, options.listing, |listing| {
         let mut random = Random::of_case(options.seed, listing);
         match listing {
             0 | 1 => every_short_word(options.seed, listing, &mut random, &mut input),
             2 => longest(&mut random, &mut input),
             _ => random_listing(&mut random, &mut input),
         }
-        match bench.compare(&input, sides) {
-            Ok(answer) => coverage.count(&input, answer),
-            Err(difference) => {
-                found = Some(Found {
-                    difference,
-                    seed: options.seed,
-                    listing,
-                    words: coverage.words(),
-                    input,
-                });
-                break;
-            }
-        }
-        listing += 1;
-        let enough = listing > 2 && coverage.lines[1] >= options.words;
-        if enough || options.listing.is_some() {
-            break;
-        }
-    }
+        let answer = bench.compare(&input, sides)?;
+        coverage.count(&input, answer);
+        Ok(listing >= 2 && coverage.lines[1] >= options.words)
+    });
+    let found = found.map(|(place, difference)| Found {
+        difference,
+        place,
+        input,
+    });
     Outcome { coverage, found }
 }
 
 /// A found difference as text, with everything that is needed to repeat it.
 pub fn explain(found: &Found) -> String {
     format!(
-        "difference at listing {}: {}\nrepeat with --seed {} --listing {}\n  \
-         width {}, program {} bytes, text {} bytes ({:?}), meant to answer {}\n",
-        found.listing,
-        found.difference,
-        found.seed,
-        found.listing,
+        "{}  width {}, program {} bytes, text {} bytes ({:?}), meant to answer {}\n",
+        found.head(&format!("listing {}", found.place.number)),
         found.input.wide,
         found.input.program.len(),
         found.input.text.len(),
@@ -291,34 +256,22 @@ pub fn explain(found: &Found) -> String {
 #[cfg(test)]
 mod tests {
     use super::*;
+    use crate::met::Met;
+    use crate::series::tests::{found_twice, no_difference_twice};
 
     const OPTIONS: Options = Options {
-        seed: 5,
-        calls: None,
-        seconds: None,
         words: 200_000,
-        choices: 0,
-        case: None,
-        listing: None,
-        choice: None,
+        ..Options::of_seed(5)
     };
 
     /// The reference agrees with itself, meets all that it should, and a session can be
     /// repeated.
     #[test]
-    fn no_difference_twice() {
-        let sides = Sides {
-            reference: coffee_reference::listing,
-            library: coffee_reference::listing,
-        };
-        let first = run(&OPTIONS, sides);
-        let second = run(&OPTIONS, sides);
-        if let Some(found) = &first.found {
-            panic!("{}", explain(found));
-        }
-        assert!(first.coverage.lines[1] >= 200_000);
-        assert_eq!(first.coverage.unmet(), Vec::<String>::new());
-        assert_eq!(first.coverage.report(), second.coverage.report());
+    fn no_difference() {
+        let sides = Sides::alike(coffee_reference::listing);
+        let coverage = no_difference_twice(|| run(&OPTIONS, sides), explain);
+        assert!(coverage.lines[1] >= 200_000);
+        assert_eq!(coverage.unmet(), Vec::<String>::new());
     }
 
     /// The reference, but a word of 32 bits that ends with ABh has another last column.
@@ -341,17 +294,12 @@ mod tests {
             reference: coffee_reference::listing,
             library: wrong_at_ab,
         };
-        let found = run(&OPTIONS, sides).found.expect("a difference");
+        let [found, again] = found_twice(&OPTIONS, |options| run(options, sides));
         assert!(matches!(
             found.difference,
             Difference::Line { word, .. } if word & 0xFF == 0xAB
         ));
-        let again = Options {
-            listing: Some(found.listing),
-            ..OPTIONS
-        };
-        let again = run(&again, sides).found.expect("a difference");
-        assert_eq!(found.difference, again.difference);
+        assert_eq!(explain(&found), explain(&again));
     }
 
     /// The reference, but the last byte of a text becomes 0.
@@ -366,10 +314,7 @@ mod tests {
     /// What both sides do wrong is found too.
     #[test]
     fn both_sides_wrong() {
-        let sides = Sides {
-            reference: writes_last,
-            library: writes_last,
-        };
+        let sides = Sides::alike(writes_last);
         let found = run(&OPTIONS, sides).found.expect("a difference");
         assert!(matches!(found.difference, Difference::Both(_)));
     }
