@@ -185,6 +185,24 @@ static int measure_listing(void)
     return 0;
 }
 
+// Times words of all operations, 32 bits each, with operands 0: the best nanoseconds of one.
+static int measure_encode(void)
+{
+    double best = 1e30;
+    for (int turn = 0; turn < ROUNDS; turn++) {
+        double start = now();
+        for (uint32_t i = 0; i < SHORT_CALLS; i++) {
+            if (coffee_encode(i % 64, 1, 0, 0, 0, 0, 0, 0, 0) >= COFFEE_REFUSED)
+                return 1;
+        }
+        double time = (now() - start) / SHORT_CALLS;
+        if (time < best)
+            best = time;
+    }
+    printf("a word encoded: %.1f ns\n", best);
+    return 0;
+}
+
 // Prints a line of the table.
 static void show(const char *name, const char *mode, const double best[SIDES])
 {
@@ -198,7 +216,7 @@ static void show(const char *name, const char *mode, const double best[SIDES])
 // Says what the program is called with.
 static int usage(void)
 {
-    fprintf(stderr, "bench [scenes | listing | library|baseline 0..%d]\n", SCENES);
+    fprintf(stderr, "bench [scenes | listing | encode | library|baseline 0..%d]\n", SCENES);
     return 2;
 }
 
@@ -234,6 +252,8 @@ int main(int argc, char **argv)
         return list();
     if (argc == 2 && strcmp(argv[1], "listing") == 0)
         return measure_listing();
+    if (argc == 2 && strcmp(argv[1], "encode") == 0)
+        return measure_encode();
     if (argc != 1)
         return usage();
 

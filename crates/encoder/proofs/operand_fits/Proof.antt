@@ -1,5 +1,4 @@
 -- `encoder::operand_fits` meets its contract: a test for each reading. Assumes nothing.
-use mathlib.Core.Path.{_≡_}
 use Prim.Native.Nat.{_^_, _≤_}
 use native.Mathlib.Omega.{arith}
 use lib.Pow.{pow-mono}

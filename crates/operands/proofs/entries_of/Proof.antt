@@ -1,5 +1,4 @@
 -- `operands::entries_of` meets its contract: one by one. Assumes nothing.
-use native.Mathlib.Omega.{arith}
 use borrow.Author.Needs.{needs}
 use Rattle.operands.proofs.entries_of.Statement.{statement}
 use Rattle.operands.proofs.entries_of.Tie as tie
