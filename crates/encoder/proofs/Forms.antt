@@ -20,12 +20,13 @@ use Rattle.isa.specs.Used.{shownFields}
 use Rattle.isa.proofs.Decoded.{bytes-most}
 use Rattle.operands.specs.Places.{putInto}
 use Rattle.operands.specs.declared.OperandFields.{OperandFields}
-use Rattle.encoder.specs.Fields.{allFieldsFit}
+use Rattle.operands.proofs.Places.{FieldsAre}
+use Rattle.encoder.specs.Fields.{allFieldsFit, guardBits}
 use Rattle.encoder.specs.Encode.{Choice, guardBy, chosen, Part, natural, guardParts, operandPart, partsOf, fits, partFits, allFit, written, given, conditionalForm, chosenForm, RefusedWith, Encodes, encodeOf}
 use Rattle.encoder.proofs.Parts.{fit-append, written-append}
 use Rattle.encoder.proofs.Values.{natural-fits}
 use Rattle.encoder.proofs.Choices.{given-by}
-use Rattle.encoder.proofs.Places.{FieldsAre, field-fits}
+use Rattle.encoder.proofs.Fits.{field-fits}
 use Rattle.encoder.proofs.Theorems.{asked-in-order, operation-bits, size}
 
 -- ---- the condition
@@ -51,10 +52,6 @@ guard-fits width n false creg condition form =
     either (properties (operationOf n) .conditional) (λ t. rw (t, natural-fits k 0) (and-both _ true (lt-ltb 0 (2 ^ k) (pow-pos k)) refl)) (λ t. rw t)
 guard-fits w16 n true creg condition form = absurd (no-condition n form)
 guard-fits w32 n true creg condition form = condition-fits creg condition
-
--- its bits, of 32-bit words
-abbrev guardBits : (conditional : Bool) (creg condition : ℕ) → ℕ
-guardBits conditional creg condition = if conditional then placedIn (conditionalField w32) 1 + placedIn (cregField w32) creg + placedIn (conditionField w32) condition else 0
 
 guard-written : (width : Width) (n : ℕ) (conditional : Bool) (creg condition : ℕ) → chosenForm width n conditional ≡ true
     → guardBits conditional creg condition ≡ written (guardParts width (operationOf n) (guardBy conditional creg condition))
@@ -141,14 +138,14 @@ module _ (width : Width) (n : ℕ) (conditional : Bool) (creg condition : ℕ) (
   whole = chosen n conditional creg condition a b c d
 
   -- the form of the choice
-  pub form-is : {t : Bool} → chosenForm width n conditional ≡ t → chosenForm width (whole .operation) (given (whole .guard)) ≡ t
-  form-is e = ap (chosenForm width n) (given-by conditional creg condition) ∙ e
+  chosen-form : {t : Bool} → chosenForm width n conditional ≡ t → chosenForm width (whole .operation) (given (whole .guard)) ≡ t
+  chosen-form e = ap (chosenForm width n) (given-by conditional creg condition) ∙ e
 
   pub refused-form : chosenForm width n conditional ≡ false → RefusedWith 18 ≡ encodeOf width whole
-  refused-form e = sym (asked-in-order width whole .formless (form-is e))
+  refused-form e = sym (asked-in-order width whole .formless (chosen-form e))
 
   pub refused-fit : chosenForm width n conditional ≡ true → allFit (partsOf width whole) ≡ false → RefusedWith 19 ≡ encodeOf width whole
-  refused-fit e f = sym (asked-in-order width whole .unfit (form-is e) f)
+  refused-fit e f = sym (asked-in-order width whole .unfit (chosen-form e) f)
 
   pub encoded : chosenForm width n conditional ≡ true → allFit (partsOf width whole) ≡ true → Encodes (written (partsOf width whole)) ≡ encodeOf width whole
-  encoded e f = sym (asked-in-order width whole .others (form-is e) f)
+  encoded e f = sym (asked-in-order width whole .others (chosen-form e) f)

@@ -5,6 +5,6 @@ pub mod Operands
 pub mod Choices
 pub mod Theorems
 pub mod Lines
-pub mod Places
+pub mod Fits
 pub mod Forms
 pub mod Worked

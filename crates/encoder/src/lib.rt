@@ -2,13 +2,12 @@
 ghost use mathlib.Core.Path.{_≡_};
 ghost use mathlib.Core.Bool.{true};
 ghost use Prim.Native.Nat.{_+_, _*_, _%_, _^_, _<_, _≤_};
-ghost use Rattle.word.specs.Choice.{if_then_else_};
 ghost use Rattle.word.specs.Word.{signedOf};
-ghost use Rattle.isa.specs.Operation.{operationOf, w32, widthBy};
-ghost use Rattle.isa.specs.Format.{placedIn, operationField, conditionalField, cregField, conditionField};
-ghost use Rattle.operands.specs.Places.{fieldsAt, putInto, Placeable};
+ghost use Rattle.isa.specs.Operation.{operationOf, widthBy};
+ghost use Rattle.isa.specs.Format.{placedIn, operationField};
+ghost use Rattle.operands.specs.Places.{fieldsAt, putInto, Placeable, AllPlaceable};
 ghost use Rattle.encoder.specs.Encode.{chosen, partsOf, written, chosenForm, encodingOf, encodeOf};
-ghost use Rattle.encoder.specs.Fields.{fieldFits, AllPlaceable, allFieldsFit};
+ghost use Rattle.encoder.specs.Fields.{fieldFits, allFieldsFit, guardBits};
 use operands::OperandField;
 use operands::OperandFields;
 
@@ -93,7 +92,7 @@ fn operation_bits(op: u32, wide: bool) -> u32
 
 // The bits of a condition of 32-bit words; without one there are none.
 fn guard_bits(conditional: bool, creg: u32, condition: u32) -> u32
-    ensures { λ r. ⌜ r ≡ if_then_else_ conditional (placedIn (conditionalField w32) 1 + placedIn (cregField w32) creg + placedIn (conditionField w32) condition) 0 ⌝ }
+    ensures { λ r. ⌜ r ≡ guardBits conditional creg condition ⌝ }
 {
     if conditional {
         0x0200_0000 + put(creg, 3, 22) + put(condition, 3, 19)

@@ -87,6 +87,13 @@ pub record Placeable (f : OperandField) : Type 0 where
   pub below : (n : ℕ) → putInto f n < 2 ^ 32
   pub signed : f .reading ≡ 115 → 0 < bitsOf f
 
+-- all four are
+pub record AllPlaceable (f : OperandFields) : Type 0 where
+  pub first : Placeable (f .first)
+  pub second : Placeable (f .second)
+  pub third : Placeable (f .third)
+  pub fourth : Placeable (f .fourth)
+
 -- to unfold all of these
 unfoldable pub placing : Unit {0}
 unfolding lowerPiece upperPiece readingLetter fieldAt readingBy

@@ -5,7 +5,7 @@ use borrow.Author.Tests.{not-true, not-false}
 use Rattle.word.specs.Word.{signedOf}
 use Rattle.isa.specs.Operation.{widthBy}
 use Rattle.encoder.specs.Encode.{Encodes, encodingOf}
-use Rattle.encoder.proofs.Places.{fields-are, all-placeable}
+use Rattle.operands.proofs.Places.{fields-are, all-placeable}
 use Rattle.encoder.proofs.Forms.{operation-below, all-fit-is, refused-form, refused-fit, encoded}
 use Rattle.encoder.proofs.encode_words.Statement.{statement}
 use Rattle.encoder.proofs.encode_words.Tie as tie

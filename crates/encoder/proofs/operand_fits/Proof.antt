@@ -7,7 +7,7 @@ use borrow.Author.Tests.{ne-eqb}
 use Rattle.word.specs.Choice.{if_then_else_}
 use Rattle.word.proofs.Integers.{one-shifted}
 use Rattle.operands.specs.Places.{bitsOf, readingBy}
-use Rattle.encoder.proofs.Places.{natural-test, high-test, signed-test}
+use Rattle.encoder.proofs.Fits.{natural-test, high-test, signed-test}
 use Rattle.encoder.proofs.operand_fits.Statement.{statement}
 use Rattle.encoder.proofs.operand_fits.Tie as tie
 

@@ -2,7 +2,7 @@
 use native.Mathlib.Omega.{arith}
 use borrow.Author.Needs.{needs}
 use Rattle.isa.specs.Operation.{widthBy}
-use Rattle.encoder.proofs.Places.{fields-are}
+use Rattle.operands.proofs.Places.{fields-are}
 use Rattle.encoder.proofs.Forms.{operation-below, sum-is, sum-below}
 use Rattle.encoder.proofs.word_of.Statement.{statement}
 use Rattle.encoder.proofs.word_of.Tie as tie

@@ -1,32 +1,25 @@
--- What the code has of an operand's fields: two pieces at most, short, inside the word; and its tests of numbers. Assumes nothing.
-use mathlib.Core.Path.{_≡_, refl, sym, _∙_, subst}
-use mathlib.Core.Bool.{Bool, true, false, not, _&&_, _||_, or-false}
+-- The fields of operands as the code has them: two pieces at most, short, inside the word. Assumes nothing.
+use mathlib.Core.Path.{_≡_, refl, sym, subst}
+use mathlib.Core.Bool.{Bool, true, false, not, _&&_, _||_}
 use mathlib.Core.List.{List, [], _∷_}
-use Prim.Native.Nat.{ℕ, suc, _+_, _-_, _*_, _/_, _%_, _^_, _≤_, _<_}
+use Prim.Native.Nat.{ℕ, _+_, _-_, _*_, _/_, _%_, _^_, _≤_, _<_}
 use native.Mathlib.Nat.{add-zero, div-one, mod-one}
 use native.Mathlib.Omega.{arith}
 use lib.Dec.{leb, ltb, eqb}
-use lib.IntN.{ℤ}
 use lib.ListN.{length}
-use lib.Pow.{pow-mono}
-use borrow.Author.Tests.{ltb-true, ltb-false, leb-true, lt-ltb, le-ltb, le-leb, eqb-true, eq-eqb}
+use borrow.Author.Tests.{ltb-true, leb-true, eqb-true, eq-eqb}
 use Rattle.word.specs.Choice.{if_then_else_}
-use Rattle.word.specs.Word.{Field, bitOf, signedOf}
-use Rattle.word.proofs.Tests.{either, and-parts}
-use Rattle.word.proofs.Integers.{double, signed-either}
+use Rattle.word.specs.Word.{Field, bitOf}
+use Rattle.word.proofs.Tests.{and-parts}
 use Rattle.isa.specs.Operation.{Operation, operationOf, Width, w16, w32}
 use Rattle.isa.specs.Format.{fieldsWidth, placedIn, lieBelow, separate}
-use Rattle.isa.specs.Used.{shownFields, Reading, Natural, Signed, High, leastOf, shownReading}
+use Rattle.isa.specs.Used.{shownFields, Reading, Natural, Signed, High, shownReading}
 use Rattle.isa.specs.Computed.{instructions}
-use Rattle.operands.specs.Places.{lowerPiece, upperPiece, readingLetter, fieldAt, fieldsAt, bitsOf, readingBy, putInto, Placeable, placing}
+use Rattle.operands.specs.Places.{lowerPiece, upperPiece, readingLetter, fieldAt, fieldsAt, bitsOf, readingBy, putInto, Placeable, AllPlaceable, placing}
 use Rattle.operands.specs.declared.OperandField.{OperandField}
 use Rattle.operands.specs.declared.OperandFields.{OperandFields}
 use Rattle.operands.proofs.Table.{valuesFrom, constant-is}
-use Rattle.encoder.specs.Encode.{operandPart, fits, partFits}
 use Rattle.isa.proofs.Pieces.{placed-below}
-use Rattle.encoder.specs.Fields.{fieldFits, AllPlaceable}
-use Rattle.encoder.specs.Theorems.{NarrowBits}
-use Rattle.encoder.proofs.Values.{ranges-are}
 
 -- ---- fields of at most two pieces
 
@@ -66,13 +59,15 @@ computed-true test e op k h l = bit-true (test (operationOf op) k) (constant-is 
     bit-true true e = refl
     bit-true false e = absurd (omega arith)
 
--- the fields of an operand, computed of every row: short and disjoint pieces inside the word, two at most
+-- the fields of an operand, computed of every row: short and disjoint pieces inside the word, two at most; a signed one has a bit, a register of
+-- 16-bit words three
 unfoldable sizes : Width → Operation → (k : ℕ) → Bool
 sizes width o k =
     let fs = shownFields width o k in
     (leb (length fs) 2 && leb (fieldsWidth fs) 25)
     && ((lieBelow 32 fs && separate fs)
-    && ((ltb (lowerPiece fs .place) 32 && ltb (upperPiece fs .place) 32) && (not (eqb (readingLetter (shownReading width o k)) 115) || leb 1 (fieldsWidth fs))))
+    && ((ltb (lowerPiece fs .place) 32 && ltb (upperPiece fs .place) 32)
+    && ((not (eqb (readingLetter (shownReading width o k)) 115) || leb 1 (fieldsWidth fs)) && (not (eqb (readingLetter (shownReading width o k)) 104) || eqb (fieldsWidth fs) 3))))
 
 computed : (width : Width) → valuesFrom (λ o k. bitOf (sizes width o k)) 0 256 ≡ valuesFrom (λ o k. 1) 0 256
 unfolding instructions placing sizes valuesFrom
@@ -85,6 +80,7 @@ pub record FieldIs (width : Width) (o : Operation) (k : ℕ) (f : OperandField) 
   pub bits : bitsOf f ≡ fieldsWidth (shownFields width o k)
   pub placed : (n : ℕ) → putInto f n ≡ placedIn (shownFields width o k) n
   pub reading : readingBy (f .reading) ≡ shownReading width o k
+  pub three : shownReading width o k ≡ High → fieldsWidth (shownFields width o k) ≡ 3
 
 letter-reading : (r : Reading) → readingBy (readingLetter r) ≡ r
 unfolding readingBy readingLetter if_then_else_
@@ -93,7 +89,7 @@ letter-reading Signed = refl
 letter-reading High = refl
 
 pub field-is : (width : Width) (op k : ℕ) → op < 64 → k < 4 → FieldIs width (operationOf op) k (fieldAt width (operationOf op) k)
-unfolding sizes fieldAt
+unfolding sizes fieldAt readingLetter
 field-is width op k h l =
     let o = operationOf op in
     let fs = shownFields width o k in
@@ -103,6 +99,7 @@ field-is width op k h l =
     let b = and-parts (lieBelow 32 fs) _ (u .0) in
     let v = and-parts (ltb (lowerPiece fs .place) 32 && ltb (upperPiece fs .place) 32) _ (u .1) in
     let d = and-parts (ltb (lowerPiece fs .place) 32) _ (v .0) in
+    let r = and-parts (not (eqb (readingLetter (shownReading width o k)) 115) || leb 1 (fieldsWidth fs)) _ (v .1) in
     let two = leb-true (length fs) 2 (a .0) in
     let size = two-width fs two in
     let inside = two-inside 32 fs two (b .0) in
@@ -115,17 +112,13 @@ field-is width op k h l =
             upper = ltb-true _ 32 (d .1);
             upperInside = inside .1;
             below = λ n. omega (arith, placed-below 32 fs n (b .0) (b .1), two-placed fs n two);
-            signed = λ e. omega (arith, leb-true 1 (fieldsWidth fs) (rw (eq-eqb _ 115 e) at (v .1)));
+            signed = λ e. omega (arith, leb-true 1 (fieldsWidth fs) (rw (eq-eqb _ 115 e) at (r .0)));
           };
       bits = sym size;
       placed = λ n. sym (two-placed fs n two);
       reading = letter-reading (shownReading width o k);
+      three = λ e. eqb-true (fieldsWidth fs) 3 (rw e at (r .1));
     }
-
--- whether a number fits, by the field's bits and reading
-pub field-fits : {width : Width} {o : Operation} {k : ℕ} {f : OperandField} → FieldIs width o k f → (z : ℤ) → fieldFits f z ≡ partFits (operandPart width o k z)
-unfolding partFits
-field-fits i z = rw (i .reading, i .bits)
 
 -- of all four
 pub record FieldsAre (width : Width) (o : Operation) (f : OperandFields) : Type 0 where
@@ -141,52 +134,3 @@ fields-are width op h e =
 
 pub all-placeable : {width : Width} {o : Operation} {f : OperandFields} → FieldsAre width o f → AllPlaceable f
 all-placeable i = record { first = i .first .placeable; second = i .second .placeable; third = i .third .placeable; fourth = i .fourth .placeable }
-
--- registers of 16-bit words have three bits, computed
-unfoldable narrow : Operation → (k : ℕ) → Bool
-narrow o k = not (eqb (readingLetter (shownReading w16 o k)) 104) || eqb (fieldsWidth (shownFields w16 o k)) 3
-
-narrow-computed : valuesFrom (λ o k. bitOf (narrow o k)) 0 256 ≡ valuesFrom (λ o k. 1) 0 256
-unfolding instructions placing narrow valuesFrom
-narrow-computed = refl
-
-pub narrow-bits : NarrowBits
-unfolding narrow readingLetter
-narrow-bits n k h l e =
-    let t = computed-true narrow narrow-computed n k h l in
-    eqb-true _ 3 (rw e at t)
-
--- ---- tests of a number in two's complement
-
-module _ (k n : ℕ) (short : k ≤ 25) (b : n < 2 ^ 32) where
-  most : 2 ^ k ≤ 2 ^ 25
-  most = pow-mono short
-
-  pub natural-test : ltb n (2 ^ k) ≡ fits k (leastOf Natural k) (signedOf 32 n)
-  natural-test =
-      let m = most in
-      signed-either 32 n (λ (z : ℤ). ltb n (2 ^ k) ≡ fits k (leastOf Natural k) z) b
-      (λ h. sym (ranges-are k n .natural))
-      (λ h. le-ltb n (2 ^ k) (omega arith) ∙ sym (ranges-are k (2 ^ 32 - suc n) .naturalBelow))
-
-  pub high-test : leb 24 n && ltb n (24 + 2 ^ k) ≡ fits k (leastOf High k) (signedOf 32 n)
-  high-test =
-      let m = most in
-      signed-either 32 n (λ (z : ℤ). leb 24 n && ltb n (24 + 2 ^ k) ≡ fits k (leastOf High k) z) b
-      (λ h. sym (ranges-are k n .high))
-      (λ h. rw (le-leb 24 n (omega arith), le-ltb n (24 + 2 ^ k) (omega arith)) (sym (ranges-are k (2 ^ 32 - suc n) .highBelow)))
-
-  pub signed-test : 0 < k → ltb n (2 ^ k / 2) || ltb (2 ^ 32 - 1 - 2 ^ k / 2) n ≡ fits k (leastOf Signed k) (signedOf 32 n)
-  signed-test p =
-      let half = 2 ^ (k - 1) in
-      let m = most in
-      let d = double k p in
-      let halved : 2 ^ k / 2 ≡ half = omega arith in
-      rw halved
-      (signed-either 32 n (λ (z : ℤ). ltb n half || ltb (2 ^ 32 - 1 - half) n ≡ fits k (leastOf Signed k) z) b
-      (λ h. rw (le-ltb (2 ^ 32 - 1 - half) n (omega arith)) (or-false (ltb n half) ∙ sym (ranges-are k n .signed p)))
-      (λ h.
-      rw (le-ltb n half (omega arith))
-      (either (ltb (2 ^ 32 - suc n) half)
-      (λ t. let l = ltb-true (2 ^ 32 - suc n) half t in lt-ltb (2 ^ 32 - 1 - half) n (omega arith) ∙ sym (ranges-are k (2 ^ 32 - suc n) .signedBelow p ∙ t))
-      (λ t. let l = ltb-false (2 ^ 32 - suc n) half t in le-ltb (2 ^ 32 - 1 - half) n (omega arith) ∙ sym (ranges-are k (2 ^ 32 - suc n) .signedBelow p ∙ t)))))
