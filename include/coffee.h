@@ -1,8 +1,8 @@
 /* A COFFEE RISC core that is run in steps: the C interface.
  *
  * Link with libcoffee.a, which `rt staticlib coffee` proves and writes to target/staticlib. Each function is proved equal to a definition:
- * crates/emulator/specs/Run.antt (runCall), crates/emulator/specs/Reset.antt (resetCall), crates/listing/specs/Listing.antt (listingCall) and
- * crates/encoder/specs/Encode.antt (encodeOf).
+ * crates/emulator/specs/Run.antt (runCall), crates/emulator/specs/Reset.antt (resetCall), crates/emulator/specs/CarryOver.antt (carryOverCall),
+ * crates/listing/specs/Listing.antt (listingCall) and crates/encoder/specs/Encode.antt (encodeOf).
  *
  * A slice is a pointer and then a count of elements; a slice of 0 elements may have a null pointer. A slice that is written (not const) must
  * overlap no other slice of the same call. Nothing is kept between calls, no memory is allocated, and nothing else is read or written, so
@@ -22,7 +22,7 @@ extern "C" {
 
 /* The version of this header and of the library that goes with it. The first number is that of the shared library's name: it changes when a
  * program has to be compiled anew. */
-#define COFFEE_VERSION "1.2.0"
+#define COFFEE_VERSION "2.0.0"
 
 /* Most bytes of program memory, and most cells of data memory. */
 #define COFFEE_MEMORY_MAX 65536
@@ -30,13 +30,21 @@ extern "C" {
 /* Largest step limit of one call. */
 #define COFFEE_STEPS_MAX 1000000
 
-/* Bytes of an image with an empty stack, of each stack entry, and of the longest image: the least size of an image buffer. */
-#define COFFEE_IMAGE_MIN 516
+/* An image is 32-bit numbers, high byte first, in sections, each after its count: set 1 (32), set 2 (32), conditions (8), control block (45),
+ * position (6: PC, slot flag, target, product flag, product high, low), stack (its count is entries, 0 to 12, of four numbers each, the top
+ * one last), and the dividers of both timers (2).
+ *
+ * Bytes of an image with an empty stack, of each stack entry, and of the longest image: the least size of an image buffer. */
+#define COFFEE_IMAGE_MIN 528
 #define COFFEE_IMAGE_ENTRY 16
-#define COFFEE_IMAGE_MAX 708
+#define COFFEE_IMAGE_MAX 720
 
 /* The number of stack entries, high byte first, is at this offset of an image: its length is COFFEE_IMAGE_MIN + COFFEE_IMAGE_ENTRY * entries. */
 #define COFFEE_IMAGE_ENTRIES 512
+
+/* The earlier layout, that of the versions before 2.0.0, has all sections but the last: bytes of such an image with an empty stack. No image
+ * of one layout is as long as one of the other. */
+#define COFFEE_EARLIER_IMAGE_MIN 516
 
 /* Bytes of a line of a listing: 47 characters and a newline. */
 #define COFFEE_LINE 48
@@ -52,6 +60,9 @@ struct coffee_answer {
 };
 
 /* Runs the machine that `image` says for at most `limit` steps.
+ *
+ * Each completed step is one clock of both timers, timer 0 first, after what the step stores; a stop is none. With WDOG 1 a tick that leaves a
+ * count at its maximum resets the core: the machine is then as coffee_reset writes it, the cells stay as they are, and the steps go on.
  *
  * program   bytes, high byte of a word first
  * cells     data memory, one 32-bit cell for each address; changed by the steps
@@ -69,12 +80,13 @@ struct coffee_answer {
  * Refusals, asked in this order:
  *   1  program longer than 65,536 bytes, or more than 65,536 cells
  *   2  image not exactly the sections and counts of an image
- *   3  a number in the image that its register cannot hold, PSR above 31, a flag other than 0 or 1, or numbers other than 0 of a 0 flag
+ *   3  a number in the image that its register cannot hold, PSR above 31, a flag other than 0 or 1, numbers other than 0 of a 0 flag, or a
+ *      divider above 255
  *   4  a current or stacked PSR with UM 1 whose set bits are not both 0
  *   5  stack sources not below 12, not all different or not those of INT_SERV; or RETI_ registers that do not show the stack's top
  *   6  a request above FFFh
  *   7  limit above 1,000,000
- *   8  buffer shorter than 708 bytes
+ *   8  buffer shorter than 720 bytes
  */
 struct coffee_answer coffee_run(
     const uint8_t *program, size_t program_bytes,
@@ -87,9 +99,22 @@ struct coffee_answer coffee_run(
 /* Writes the image of the machine at reset, COFFEE_IMAGE_MIN bytes, to the front of `buffer`; its further bytes stay as they are.
  *
  * Answers 0, or the refusal:
- *   8  buffer shorter than 708 bytes
+ *   8  buffer shorter than 720 bytes
  */
 uint32_t coffee_reset(uint8_t *buffer, size_t buffer_bytes);
+
+/* Carries an image of the earlier layout over: the same machine, with both dividers 0, is written as an image to the front of `buffer`; its
+ * further bytes stay as they are.
+ *
+ * image   as a version before 2.0.0 wrote it
+ *
+ * Answers 0, or the refusal, asked in this order:
+ *   2  image not exactly the sections and counts of the earlier layout
+ *   3  a number in the image that its register cannot hold, PSR above 31, a flag other than 0 or 1, or numbers other than 0 of a 0 flag
+ *   4, 5  as coffee_run
+ *   8  buffer shorter than 720 bytes
+ */
+uint32_t coffee_carry_over(const uint8_t *image, size_t image_bytes, uint8_t *buffer, size_t buffer_bytes);
 
 /* Writes the listing of a program, a line of COFFEE_LINE bytes for each word, to the front of `text`; its further bytes stay as they are.
  *

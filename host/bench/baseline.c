@@ -21,6 +21,9 @@ enum { LINK = 31 };
 // Offsets of the control block (002, section 2.9).
 enum {
     CCB_BASE = 0x00,
+    PCB_BASE = 0x01,
+    PCB_END = 0x02,
+    PCB_AMASK = 0x03,
     INT_VECTORS = 0x04,
     INT_MODE_IL = 0x10,
     INT_MODE_UM = 0x11,
@@ -41,6 +44,9 @@ enum {
     EXCEP_ADDR = 0x20,
     BUS_CONF = 0x21,
     COP_CONF = 0x22,
+    TMR0_CNT = 0x23,
+    TMR0_MAX_CNT = 0x24,
+    TMR_CONF = 0x27,
     RETI_ADDR = 0x28,
     RETI_PSR = 0x29,
     RETI_CR0 = 0x2A,
@@ -49,8 +55,14 @@ enum {
     CONTROLS = 45,
 };
 
-// Interrupt sources, and the most entries of the hardware stack.
-enum { SOURCES = 12 };
+// Bits of a timer's half of TMR_CONF (002, table 3.2), and where INTN begins; DIV is the lowest byte.
+enum { EN = 0x8000, CONT = 0x4000, GINT = 0x2000, WDOG = 0x1000, INTN = 8, DIV = 0xFF };
+
+// Both timers.
+enum { TIMERS = 2 };
+
+// Interrupt sources, and the most entries of the hardware stack. The EXT sources come after the COP ones.
+enum { EXT = 4, SOURCES = 12 };
 
 // An entry of the hardware stack.
 struct entry {
@@ -64,6 +76,7 @@ struct machine {
     uint32_t conditions[8];
     uint32_t control[CONTROLS];
     uint32_t pc, slot, target, held, high, low;
+    uint32_t dividers[TIMERS];
     uint32_t depth;
     struct entry stack[SOURCES];
 };
@@ -186,9 +199,9 @@ static inline bool holds(uint32_t condition, uint32_t flags)
 // The priority number of a source.
 static uint32_t priority(const struct machine *m, uint32_t source)
 {
-    if (source < 4)
+    if (source < EXT)
         return m->control[COP_INT_PRI] >> 4 * source & 15;
-    return m->control[EXT_INT_PRI] >> 4 * (source - 4) & 15;
+    return m->control[EXT_INT_PRI] >> 4 * (source - EXT) & 15;
 }
 
 // Of the flagged sources the one with the smallest priority number below *floor, which becomes the
@@ -704,10 +717,76 @@ static inline uint32_t step(struct machine *m, const struct memories *lent, uint
     return stop;
 }
 
-// ---- the machine image
+// ---- timers
 
-// Bytes of the shortest and of the longest image, and of a stack entry.
-enum { SHORTEST_IMAGE = 516, LONGEST_IMAGE = 708, ENTRY = 16 };
+// The machine at reset (002, section 2.9).
+static const struct machine at_reset = {
+    .registers = { [PSR] = SUPER_USER, [SPSR] = 9 },
+    .control = {
+        [CCB_BASE] = 0x10000,
+        [PCB_BASE] = 0x10100,
+        [PCB_END] = 0x101FF,
+        [PCB_AMASK] = 0xFF,
+        [INT_VECTORS] = 1, 1, 1, 1, 1, 1, 1, 1, 1, 1, 1, 1,
+        [INT_MODE_IL] = 0xFFF,
+        [INT_MODE_UM] = 0xFFF,
+        [DMEM_BOUND_HI] = 0xFFFFFFFF,
+        [IMEM_BOUND_HI] = 0xFFFFFFFF,
+        [MEM_CONF] = 3,
+        [BUS_CONF] = 0xFFF,
+        [RETI_ADDR] = 1,
+        [RETI_PSR] = 9,
+        [CORE_VER_ID] = 1,
+    },
+};
+
+// A timer has come to its maximum: resets the core, or requests its interrupt. Whether it was a reset.
+static bool at_maximum(struct machine *m, uint32_t conf)
+{
+    if (conf & WDOG) {
+        *m = at_reset;
+        return true;
+    }
+    if (conf & GINT)
+        m->control[INT_PEND] |= 1u << (EXT + (conf >> INTN & 7));
+    return false;
+}
+
+// One clock of timer n, whose half of TMR_CONF is in the low bits of conf. Whether it resets the core.
+static inline bool clock_timer(struct machine *m, uint32_t n, uint32_t conf)
+{
+    if (!(conf & EN)) {
+        m->dividers[n] = 0;
+        return false;
+    }
+    if (m->dividers[n] < (conf & DIV)) {
+        m->dividers[n]++;
+        return false;
+    }
+    m->dividers[n] = 0;
+    uint32_t count = m->control[TMR0_CNT + 2 * n];
+    uint32_t maximum = m->control[TMR0_MAX_CNT + 2 * n];
+    if (count != maximum)
+        count++;
+    else if (conf & CONT)
+        count = 0;
+    else
+        return false;
+    m->control[TMR0_CNT + 2 * n] = count;
+    return count == maximum && at_maximum(m, conf);
+}
+
+// The clock after a step: timer 0 goes first, and a reset ends it.
+static inline void clock_timers(struct machine *m)
+{
+    uint32_t conf = m->control[TMR_CONF];
+    if (!(conf & (EN | (uint32_t)EN << 16)))
+        m->dividers[0] = m->dividers[1] = 0;
+    else if (!clock_timer(m, 0, conf))
+        clock_timer(m, 1, conf >> 16);
+}
+
+// ---- the machine image
 
 // The number in four bytes, high byte first.
 static uint32_t number_at(const uint8_t *p)
@@ -744,12 +823,13 @@ static uint8_t *write_section(uint8_t *p, const uint32_t *numbers, uint32_t coun
 // Whether an image has exactly the sections and counts.
 static bool sections_fit(const uint8_t *image, size_t length)
 {
-    if (length < SHORTEST_IMAGE)
+    if (length < COFFEE_IMAGE_MIN)
         return false;
-    uint32_t depth = number_at(image + 512);
-    return depth <= SOURCES && length == SHORTEST_IMAGE + ENTRY * (size_t)depth
+    uint32_t depth = number_at(image + COFFEE_IMAGE_ENTRIES);
+    return depth <= SOURCES && length == COFFEE_IMAGE_MIN + COFFEE_IMAGE_ENTRY * (size_t)depth
         && number_at(image) == 32 && number_at(image + 132) == 32 && number_at(image + 264) == 8
-        && number_at(image + 300) == CONTROLS && number_at(image + 484) == 6;
+        && number_at(image + 300) == CONTROLS && number_at(image + 484) == 6
+        && number_at(image + length - 4 * (1 + TIMERS)) == TIMERS;
 }
 
 // Reads an image that has the sections.
@@ -767,13 +847,14 @@ static void read_image(struct machine *m, const uint8_t *image)
     m->held = position[3];
     m->high = position[4];
     m->low = position[5];
-    m->depth = number_at(image + 512);
-    const uint8_t *p = image + SHORTEST_IMAGE;
+    m->depth = number_at(image + COFFEE_IMAGE_ENTRIES);
+    const uint8_t *p = image + COFFEE_IMAGE_ENTRIES + 4;
     for (uint32_t i = 0; i < m->depth; i++) {
         uint32_t numbers[4];
         p = read_numbers(p, numbers, 4);
         m->stack[i] = (struct entry){ numbers[0], numbers[1], numbers[2], numbers[3] };
     }
+    read_numbers(p + 4, m->dividers, TIMERS);
 }
 
 // Writes the machine's image to the buffer's front.
@@ -793,6 +874,7 @@ static void write_image(const struct machine *m, uint8_t *buffer)
         const uint32_t numbers[4] = { e->source, e->address, e->psr, e->c0 };
         p = write_numbers(p, numbers, 4);
     }
+    write_section(p, m->dividers, TIMERS);
 }
 
 // Whether a control register can hold a number.
@@ -834,6 +916,9 @@ static bool numbers_fit(const struct machine *m)
     for (uint32_t i = 0; i < m->depth; i++)
         if (m->stack[i].psr > 31 || m->stack[i].c0 > 7)
             return false;
+    for (uint32_t n = 0; n < TIMERS; n++)
+        if (m->dividers[n] > DIV)
+            return false;
     return m->registers[PSR] <= 31 && m->slot <= 1 && m->held <= 1
         && (m->slot || m->target == 0) && (m->held || (m->high == 0 && m->low == 0));
 }
@@ -872,9 +957,6 @@ static bool stack_fits(const struct machine *m)
 
 // ---- the call
 
-// The most program bytes or cells, and the largest step limit.
-enum { MOST_MEMORY = 65536, MOST_STEPS = 1000000 };
-
 struct coffee_answer baseline_run(
     const uint8_t *program, size_t program_len,
     uint32_t *cells, size_t cells_len,
@@ -886,7 +968,7 @@ struct coffee_answer baseline_run(
     struct machine m;
     struct coffee_answer answer = { 0, 0, 0 };
 
-    if (program_len > MOST_MEMORY || cells_len > MOST_MEMORY) {
+    if (program_len > COFFEE_MEMORY_MAX || cells_len > COFFEE_MEMORY_MAX) {
         answer.refusal = 1;
         return answer;
     }
@@ -913,11 +995,11 @@ struct coffee_answer baseline_run(
             return answer;
         }
     }
-    if (limit > MOST_STEPS) {
+    if (limit > COFFEE_STEPS_MAX) {
         answer.refusal = 7;
         return answer;
     }
-    if (buffer_len < LONGEST_IMAGE) {
+    if (buffer_len < COFFEE_IMAGE_MAX) {
         answer.refusal = 8;
         return answer;
     }
@@ -928,6 +1010,7 @@ struct coffee_answer baseline_run(
         answer.ending = step(&m, &lent, requested);
         if (answer.ending != 0)
             break;
+        clock_timers(&m);
         answer.steps++;
     }
     write_image(&m, buffer);

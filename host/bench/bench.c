@@ -29,7 +29,7 @@ static run_call *const sides[SIDES] = { coffee_run, baseline_run };
 enum { ROUNDS = 40, SHORT_CALLS = 20000 };
 
 // The buffer for the new image is longer than it need be.
-enum { LONGEST_IMAGE = 708, BUFFER = LONGEST_IMAGE + 60, FILLER = 0xA5 };
+enum { BUFFER = COFFEE_IMAGE_MAX + 60, FILLER = 0xA5 };
 
 // What a call may change.
 struct lent {
@@ -86,28 +86,68 @@ static void check(const struct scene *s, uint32_t limit)
         fail(s, limit, "not all of the steps are done");
 }
 
+// A watchdog resets the core at this step: both sides then have the machine of coffee_reset, and go on.
+static void check_watchdog(const struct scene *counting)
+{
+    enum { AT = 999 };
+    static struct scene s;
+    static struct lent l, at_reset;
+    s = *counting;
+    s.image[4 * (76 + 0x27) + 2] |= 0x10; // TMR_CONF: WDOG of timer 0
+    static const uint32_t limits[] = { AT - 1, AT, AT + 1, STEPS };
+    for (size_t i = 0; i < sizeof limits / sizeof *limits; i++)
+        check(&s, limits[i]);
+
+    lend(&s, &at_reset);
+    coffee_reset(at_reset.buffer, BUFFER);
+    for (int side = 0; side < SIDES; side++) {
+        lend(&s, &l);
+        run(side, &s, AT, &l);
+        if (memcmp(l.buffer, at_reset.buffer, BUFFER) != 0)
+            fail(&s, AT, "a watchdog does not reset the core");
+    }
+}
+
+// Calls that are refused: the number, and a byte of the image that is changed. The first byte is 0 as it
+// is; then something else is changed.
+struct refused {
+    uint32_t refusal;
+    size_t at;
+    uint8_t byte;
+};
+
+static const struct refused refused[] = {
+    { 1, 0, 0 },
+    { 2, 0, 0 },
+    { 2, 4 * 129 + 3, 3 }, // the count of dividers
+    { 3, 4 * 76 + 3, 1 },  // CCB_BASE's low byte
+    { 3, 4 * 130 + 2, 1 }, // the divider of timer 0: 256
+    { 3, 4 * 131 + 2, 1 }, // the divider of timer 1: 256
+    { 4, 4 * 63 + 3, 3 },  // PSR: user mode, registers read from set 2
+    { 5, 4 * 95 + 3, 1 },  // INT_SERV with an empty stack
+    { 6, 0, 0 },
+    { 7, 0, 0 },
+    { 8, 0, 0 },
+};
+
 // Both sides refuse a changed call with the same number and leave what is lent as it was.
-static void check_refusal(const struct scene *s, uint32_t refusal)
+static void check_refusal(const struct scene *s, const struct refused *r)
 {
     static uint32_t cells[CELLS];
     static uint8_t buffer[BUFFER];
     uint8_t image[IMAGE_LENGTH];
+    uint32_t refusal = r->refusal;
     uint32_t request = refusal == 6 ? 0x1000 : 0;
     memcpy(image, s->image, sizeof image);
-    if (refusal == 3)
-        image[4 * 76 + 3] = 1; // CCB_BASE's low byte
-    if (refusal == 4)
-        image[4 * 63 + 3] = 3; // PSR: user mode, registers read from set 2
-    if (refusal == 5)
-        image[4 * 95 + 3] = 1; // INT_SERV with an empty stack
+    image[r->at] = r->byte;
 
     for (int side = 0; side < SIDES; side++) {
         memcpy(cells, s->cells, sizeof cells);
         memset(buffer, FILLER, sizeof buffer);
         struct coffee_answer answer = sides[side](
             s->program, refusal == 1 ? 65537 : PROGRAM_ROOM, cells, CELLS, image,
-            refusal == 2 ? IMAGE_LENGTH - 1 : IMAGE_LENGTH, &request, 1,
-            refusal == 7 ? STEPS + 1 : STEPS, buffer, refusal == 8 ? LONGEST_IMAGE - 1 : BUFFER);
+            refusal == 2 && r->at == 0 ? IMAGE_LENGTH - 1 : IMAGE_LENGTH, &request, 1,
+            refusal == 7 ? STEPS + 1 : STEPS, buffer, refusal == 8 ? COFFEE_IMAGE_MAX - 1 : BUFFER);
         if (!same_answer(answer, (struct coffee_answer){ refusal, 0, 0 }))
             fail(s, refusal, "a refusal has the wrong number");
         bool same = memcmp(cells, s->cells, sizeof cells) == 0;
@@ -264,8 +304,10 @@ int main(int argc, char **argv)
         for (size_t i = 0; i < sizeof limits / sizeof *limits; i++)
             check(scenes[n], limits[i]);
     }
-    for (uint32_t refusal = 1; refusal <= 8; refusal++)
-        check_refusal(scenes[0], refusal);
+    check_watchdog(scenes[2 * TIMERS]);
+    check_watchdog(scenes[2 * TIMERS + 1]);
+    for (size_t i = 0; i < sizeof refused / sizeof *refused; i++)
+        check_refusal(scenes[0], &refused[i]);
 
     double best[SIDES], sums[SIDES] = { 0, 0 };
     printf("%-28s %-11s %9s %9s %7s\n", "nanoseconds per step", "mode", "library", "baseline", "ratio");

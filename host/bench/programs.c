@@ -138,7 +138,8 @@ enum {
     VECTORS = 0x04, INT_MODE_IL = 0x10, INT_MODE_UM = 0x11, INT_MASK = 0x12, INT_PEND = 0x14,
     EXT_INT_PRI = 0x15, COP_INT_PRI = 0x16, EXCEPTION_CS = 0x17, DMEM_BOUND_LO = 0x1A,
     DMEM_BOUND_HI = 0x1B, IMEM_BOUND_LO = 0x1C, IMEM_BOUND_HI = 0x1D, SYSTEM_ADDR = 0x1F,
-    EXCEP_ADDR = 0x20, TMR0_CNT = 0x23, RETI_ADDR = 0x28, RETI_PSR = 0x29, CORE_VER_ID = 0x2C,
+    EXCEP_ADDR = 0x20, TMR0_CNT = 0x23, TMR0_MAX_CNT = 0x24, TMR1_MAX_CNT = 0x26, TMR_CONF = 0x27,
+    RETI_ADDR = 0x28, RETI_PSR = 0x29, CORE_VER_ID = 0x2C,
 };
 
 // Sets number n of an image.
@@ -163,6 +164,7 @@ static void make_image(uint8_t *image, uint32_t psr)
     set(image, 66, 8);
     set(image, 75, 45);
     set(image, 121, 6);
+    set(image, 129, 2); // after the stack, which is empty
     set(image, PSR, psr);
     set(image, SPSR, 9);
     set(image, PC, USER_PROGRAM);
@@ -341,7 +343,8 @@ static void write_return(struct code *c, bool user)
     }
 }
 
-// System calls: the number is the caller's R1; a count is kept in TMR0_CNT, another in a cell.
+// System calls: the number is the caller's R1; a count is kept in TMR0_CNT, whose timer is off, another in a
+// cell.
 static void write_system_call(struct code *c, bool user)
 {
     c->at = SYSTEM_CALL;
@@ -491,6 +494,33 @@ static void make_requests(struct scene *s)
     }
 }
 
+// ---- timers
+
+// A timer's half of TMR_CONF: enabled and continuous, with the other bits given.
+static uint32_t timer(uint32_t bits, uint32_t divider)
+{
+    return 0xC000 | bits | divider;
+}
+
+// Both timers count, one at every step, and nothing comes of it.
+static void set_counting(uint8_t *image)
+{
+    set_control(image, TMR0_MAX_CNT, 999);
+    set_control(image, TMR1_MAX_CNT, 59);
+    set_control(image, TMR_CONF, timer(0, 24) << 16 | timer(0, 0));
+}
+
+// Timer 0 requests EXT_INT0 every 200 steps. Timer 1 requests EXT_INT1 every 1,010, with a routine that
+// timer 0 interrupts now and then.
+static void set_requesting(uint8_t *image)
+{
+    enum { GINT = 0x2000, INTN = 0x100 };
+    set_interrupts(image);
+    set_control(image, TMR0_MAX_CNT, 49);
+    set_control(image, TMR1_MAX_CNT, 100);
+    set_control(image, TMR_CONF, timer(GINT | INTN, 9) << 16 | timer(GINT, 3));
+}
+
 // ---- the scenes
 
 struct scene *make_scene(int n)
@@ -500,6 +530,8 @@ struct scene *make_scene(int n)
         [MEMORY] = "loads and stores",
         [MEMORY_ONLY] = "loads and stores only",
         [INTERRUPTS] = "interrupts and system calls",
+        [TIMERS] = "timers counting",
+        [TIMER_INTERRUPTS] = "timer interrupts",
     };
     struct scene *s = calloc(1, sizeof *s);
     if (s == NULL)
@@ -510,7 +542,8 @@ struct scene *make_scene(int n)
     s->mode = user ? "user" : "super user";
 
     uint32_t psr = user ? 0x09 : 0x0E;
-    make_image(s->image, kind == INTERRUPTS ? psr | 0x10 : psr);
+    bool interrupted = kind == INTERRUPTS || kind == TIMER_INTERRUPTS;
+    make_image(s->image, interrupted ? psr | 0x10 : psr);
     uint32_t state = 0x12345678;
     for (size_t i = 0; i < CELLS; i++)
         s->cells[i] = noise(&state);
@@ -526,13 +559,22 @@ struct scene *make_scene(int n)
     case MEMORY_ONLY:
         write_memory_only(&c);
         break;
-    default:
+    case INTERRUPTS:
         write_main(&c);
         write_system_call(&c, user);
         write_exception(&c, user);
         write_services(&c);
         set_interrupts(s->image);
         make_requests(s);
+        break;
+    case TIMERS:
+        write_arithmetic(&c);
+        set_counting(s->image);
+        break;
+    default:
+        write_memory(&c);
+        write_services(&c);
+        set_requesting(s->image);
         break;
     }
     return s;

@@ -2,10 +2,12 @@
 #ifndef PROGRAMS_H
 #define PROGRAMS_H
 
+#include "coffee.h"
+
 #include <stddef.h>
 #include <stdint.h>
 
-enum { PROGRAM_ROOM = 4096, CELLS = 4096, IMAGE_LENGTH = 516, STEPS = 1000000 };
+enum { PROGRAM_ROOM = 4096, CELLS = 4096, IMAGE_LENGTH = COFFEE_IMAGE_MIN, STEPS = COFFEE_STEPS_MAX };
 
 // All that a call lends, but for the buffer.
 struct scene {
@@ -19,7 +21,9 @@ struct scene {
 };
 
 // Kinds of programs. Scene 2 * kind runs in super user mode, the next one in user mode.
-enum { ARITHMETIC, MEMORY, MEMORY_ONLY, INTERRUPTS, KINDS, SCENES = 2 * KINDS };
+enum {
+    ARITHMETIC, MEMORY, MEMORY_ONLY, INTERRUPTS, TIMERS, TIMER_INTERRUPTS, KINDS, SCENES = 2 * KINDS,
+};
 
 // Makes scene n, of 0 to SCENES - 1. Requests, if it has any, stay allocated.
 struct scene *make_scene(int n);

@@ -13,10 +13,10 @@ class Answer(ctypes.Structure):
     _fields_ = [(name, ctypes.c_uint32) for name in ("refusal", "steps", "ending")]
 
 
-IMAGE_MIN, IMAGE_MAX, PC = 516, 708, 488
+IMAGE_MIN, IMAGE_MAX, PC = 528, 720, 488
 
 size, pointer = ctypes.c_size_t, ctypes.c_void_p
-coffee = ctypes.CDLL(sys.argv[1] if len(sys.argv) > 1 else "libcoffee.so.1")
+coffee = ctypes.CDLL(sys.argv[1] if len(sys.argv) > 1 else "libcoffee.so.2")
 coffee.coffee_reset.argtypes = [pointer, size]
 coffee.coffee_reset.restype = ctypes.c_uint32
 coffee.coffee_run.argtypes = [pointer, size, pointer, size, pointer, size, pointer, size,

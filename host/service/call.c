@@ -76,7 +76,7 @@ bool load_call(const struct call_words *words, int machine, struct call *call)
         return complain(words->steps, "STEPS is not a decimal number");
     return apart(words->machine, words->program) && apart(words->machine, words->requests) &&
            read_program(words->program, &call->program) &&
-           read_open_machine(machine, words->machine, &call->machine) &&
+           read_open_machine(machine, words->machine, words->plain, &call->machine) &&
            read_requests(words->requests, &call->requests) && ask(words, call);
 }
 
@@ -112,48 +112,64 @@ bool call_steps(const struct call_words *words, struct call *call, uint32_t step
     return done;
 }
 
-/* Whether a number of two images is the same. */
-static bool same_number(const uint8_t *one, const uint8_t *other, size_t place)
+/* A mark in EXCEPTION_PSR: no PSR is that large. */
+enum { NO_PSR = 0xFF };
+
+/* Marks an image so that one step from it takes the mark away just where it enters an exception: its
+   timers are stopped and far from their maxima, so that there is no reset, even if the step starts
+   them. */
+static void mark(uint8_t *image)
 {
-    return image_number(one, place) == image_number(other, place);
+    number_to(image + 4 * EXCEPTION_PSR, NO_PSR);
+    number_to(image + 4 * TMR_CONF, 0);
+    for (size_t i = 0; i < TIMERS; i++)
+        number_to(image + 4 * (TMR0_MAX_CNT + 2 * i),
+                  image_number(image, TMR0_CNT + 2 * i) ^ 0x80000000);
 }
 
-/* Whether the step that has just been done, with this list of requests, entered an exception. */
-static bool entered_exception(struct call *call, size_t len)
+/* Does the last step, which had this list of requests, again from an image with a mark. If it
+   stores, it stores the same number in the same cell. */
+static void step_again(struct call *call, size_t len, uint8_t left[COFFEE_IMAGE_MAX])
 {
-    enum { NO_PSR = 0xFF };
-    const uint8_t *before = other_image(call), *after = call->image;
-    uint8_t marked[COFFEE_IMAGE_MAX], left[COFFEE_IMAGE_MAX];
+    const uint8_t *before = other_image(call);
+    uint8_t marked[COFFEE_IMAGE_MAX];
 
-    /* Nothing but an exception writes these three. */
-    if (!same_number(before, after, EXCEPTION_CS) || !same_number(before, after, EXCEPTION_PC) ||
-        !same_number(before, after, EXCEPTION_PSR))
-        return true;
-    if (image_number(before, PC) != image_number(before, EXCEPTION_PC) ||
-        image_number(before, PSR) != image_number(before, EXCEPTION_PSR))
-        return false;
-    /* An exception like the last one, or none: the step is done again from an image with a mark.
-       If it stores, it stores the same number in the same cell. */
     memcpy(marked, before, image_length(before));
-    number_to(marked + 4 * EXCEPTION_PSR, NO_PSR);
+    mark(marked);
     library_call(call, marked, image_length(marked), call->requests.list, len, 1, left);
-    return image_number(left, EXCEPTION_PSR) != NO_PSR;
 }
 
-bool call_counted_step(const struct call_words *words, struct call *call, uint64_t *exceptions)
+/* Whether the step between two images may have entered an exception, as far as they tell: it leaves
+   address and PSR in the exception registers, but for a watchdog's reset, which leaves PC 0. */
+static bool may_have_entered(const uint8_t *before, const uint8_t *after)
+{
+    return image_number(after, PC) == 0 ||
+           (image_number(after, EXCEPTION_PC) == image_number(before, PC) &&
+            image_number(after, EXCEPTION_PSR) == image_number(before, PSR));
+}
+
+void add_exception(struct exceptions *exceptions, const uint8_t *image)
+{
+    exceptions->count++;
+    exceptions->code = image_number(image, EXCEPTION_CS);
+    exceptions->address = image_number(image, EXCEPTION_PC);
+}
+
+bool call_counted_step(const struct call_words *words, struct call *call,
+                       struct exceptions *exceptions)
 {
     size_t len = make_list(&call->requests, call->done + 1, 1);
     bool done = go_on(words, call, len, 1);
 
-    if (done && call->ending == 0 && entered_exception(call, len))
-        ++*exceptions;
+    if (done && call->ending == 0 && may_have_entered(other_image(call), call->image)) {
+        uint8_t left[COFFEE_IMAGE_MAX];
+
+        step_again(call, len, left);
+        if (image_number(left, EXCEPTION_PSR) != NO_PSR)
+            add_exception(exceptions, left);
+    }
     clear_list(&call->requests, len);
     return done;
-}
-
-bool join_call(const struct call_words *words, const struct call *call, struct bytes *file)
-{
-    return join_machine(words->machine, call->image, &call->machine, file);
 }
 
 void free_call(struct call *call)

@@ -6,10 +6,21 @@
 #include "machine.h"
 #include "requests.h"
 
-/* The words of a command line that name what a call takes; requests may be NULL. */
+/* The words of a command line that name what a call takes; requests may be NULL. The machine may be
+   said to be a plain image. */
 struct call_words {
     const char *program, *machine, *steps, *requests;
+    bool plain;
 };
+
+/* Exceptions that were entered: their number, and the last one. */
+struct exceptions {
+    uint64_t count;
+    uint32_t code, address;
+};
+
+/* Adds the exception that an image shows. */
+void add_exception(struct exceptions *exceptions, const uint8_t *image);
 
 /* A run: calls of at most COFFEE_STEPS_MAX steps, one after another. */
 struct call {
@@ -33,10 +44,8 @@ bool load_call(const struct call_words *words, int machine, struct call *call);
 bool call_steps(const struct call_words *words, struct call *call, uint32_t steps);
 
 /* Does one step, and counts an exception that it enters. */
-bool call_counted_step(const struct call_words *words, struct call *call, uint64_t *exceptions);
-
-/* Makes the bytes of the machine's file as it is now. */
-bool join_call(const struct call_words *words, const struct call *call, struct bytes *file);
+bool call_counted_step(const struct call_words *words, struct call *call,
+                       struct exceptions *exceptions);
 
 void free_call(struct call *call);
 

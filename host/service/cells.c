@@ -94,7 +94,7 @@ enum status cells_command(const struct arguments *arguments)
 
     if (!read_range(arguments, &range))
         return FAILED;
-    done = read_machine(path, &machine) && accept_machine(path, &machine) &&
+    done = read_machine(path, arguments->plain, &machine) && accept_machine(path, &machine) &&
            put_cells(arguments, &machine, range);
     free_machine(&machine);
     return done ? DONE : FAILED;

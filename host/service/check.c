@@ -1,7 +1,7 @@
-/* The first number of a machine file that is wrong, in words (01 "Machine image"). */
+/* The sections of a machine file, and its first number that is wrong, in words (01 "Machine image";
+   02, wish 5). */
 #include "check.h"
 
-#include "image.h"
 #include "names.h"
 
 #include <coffee.h>
@@ -9,17 +9,21 @@
 #include <stdarg.h>
 #include <stdio.h>
 
-/* The sections of an image whose count is always the same. */
-static const struct {
+/* A section whose count is always the same. */
+struct fixed_section {
     const char *name;
     uint32_t count;
-} fixed_sections[] = {
+};
+
+/* Those before the stack, and the one behind it. */
+static const struct fixed_section before_stack[] = {
     {"set 1", SET_REGISTERS},
     {"set 2", SET_REGISTERS},
     {"the conditions", CONDITIONS},
     {"the control block", CONTROL_REGISTERS},
     {"the position", POSITION_NUMBERS},
 };
+static const struct fixed_section dividers = {"the dividers", TIMERS};
 
 /* Writes a fault; gives false. */
 __attribute__((format(printf, 3, 4))) static bool wrong(struct fault *fault, uint32_t question,
@@ -55,22 +59,29 @@ static bool read_count(const struct bytes *file, size_t at, const char *name, ui
     return true;
 }
 
-/* Reads the sections with fixed counts; `at` becomes the place after them. */
-static bool read_fixed(const struct bytes *file, size_t *at, struct fault *fault)
+/* Reads a section with a fixed count; `at` goes on to the place after it. */
+static bool read_fixed(const struct bytes *file, const struct fixed_section *section, size_t *at,
+                       struct fault *fault)
 {
-    *at = 0;
-    for (size_t i = 0; i < sizeof fixed_sections / sizeof fixed_sections[0]; i++) {
-        const char *name = fixed_sections[i].name;
-        uint32_t count;
+    uint32_t count;
 
-        if (!read_count(file, *at, name, &count, fault))
+    if (!read_count(file, *at, section->name, &count, fault))
+        return false;
+    if (count != section->count)
+        return wrong(fault, 2, "the count of %s is %08" PRIX32 ": it must be %08" PRIX32,
+                     section->name, count, section->count);
+    if (!reaches(file, *at + 4, 4 * (size_t)count, "", section->name, fault))
+        return false;
+    *at += 4 + 4 * (size_t)count;
+    return true;
+}
+
+/* Reads the sections before the stack; `at` goes on to the place after them. */
+static bool read_before_stack(const struct bytes *file, size_t *at, struct fault *fault)
+{
+    for (size_t i = 0; i < sizeof before_stack / sizeof before_stack[0]; i++) {
+        if (!read_fixed(file, &before_stack[i], at, fault))
             return false;
-        if (count != fixed_sections[i].count)
-            return wrong(fault, 2, "the count of %s is %08" PRIX32 ": it must be %08" PRIX32, name,
-                         count, fixed_sections[i].count);
-        if (!reaches(file, *at + 4, 4 * (size_t)count, "", name, fault))
-            return false;
-        *at += 4 + 4 * (size_t)count;
     }
     return true;
 }
@@ -113,12 +124,14 @@ static bool read_cells(const struct bytes *file, struct sections *sections, stru
     return true;
 }
 
-bool find_sections(const struct bytes *file, struct sections *sections, struct fault *fault)
+bool find_sections(const struct bytes *file, enum layout layout, struct sections *sections,
+                   struct fault *fault)
 {
-    size_t at;
+    size_t at = 0;
 
     *sections = (struct sections){0, false, 0};
-    if (!read_fixed(file, &at, fault) || !read_stack(file, &at, fault))
+    if (!read_before_stack(file, &at, fault) || !read_stack(file, &at, fault) ||
+        (layout == PRESENT && !read_fixed(file, &dividers, &at, fault)))
         return false;
     sections->image_len = at;
     sections->has_cells = file->len > at;
@@ -136,7 +149,7 @@ __attribute__((format(printf, 5, 6))) static bool wrong_number(struct fault *fau
     char name[LONGEST_NAME], text[120];
     va_list values;
 
-    name_number(place, name);
+    name_number(image_number(image, STACK_COUNT), place, name);
     va_start(values, rule);
     vsnprintf(text, sizeof text, rule, values);
     va_end(values);
@@ -208,6 +221,16 @@ static bool entries_fit(const uint8_t *image, size_t entries, struct fault *faul
     return true;
 }
 
+/* Question 3, of the dividers. */
+static bool dividers_fit(const uint8_t *image, size_t entries, struct fault *fault)
+{
+    for (size_t i = 0; i < TIMERS; i++) {
+        if (!at_most(image, divider_place(entries, i), DIVIDER_MOST, fault))
+            return false;
+    }
+    return true;
+}
+
 /* Question 4, of one PSR. */
 static bool sets_fit(const uint8_t *image, size_t place, struct fault *fault)
 {
@@ -267,15 +290,16 @@ static bool top_fits(const uint8_t *image, size_t entries, struct fault *fault)
     return true;
 }
 
-bool find_fault(const struct bytes *file, struct fault *fault)
+bool find_fault(const struct bytes *file, enum layout layout, struct fault *fault)
 {
     struct sections sections;
     size_t entries;
 
-    if (!find_sections(file, &sections, fault))
+    if (!find_sections(file, layout, &sections, fault))
         return true;
     entries = image_number(file->at, STACK_COUNT);
     return !(numbers_fit(file->at, fault) && entries_fit(file->at, entries, fault) &&
+             (layout == EARLIER || dividers_fit(file->at, entries, fault)) &&
              modes_fit(file->at, entries, fault) && sources_fit(file->at, entries, fault) &&
              top_fits(file->at, entries, fault));
 }

@@ -2,6 +2,7 @@
 #ifndef COMMANDS_H
 #define COMMANDS_H
 
+#include "lock.h"
 #include "report.h"
 
 #include <stddef.h>
@@ -13,13 +14,16 @@ enum { MOST_WORDS = 16 };
 struct arguments {
     const char *words[MOST_WORDS];
     size_t count;
-    bool replace, strict, words_too;
+    enum target target; /* which files it may write */
+    bool strict, words_too;
+    bool plain; /* MACHINE is a plain image */
 };
 
 enum status run_command(const struct arguments *arguments);
 enum status new_command(const struct arguments *arguments);
 enum status import_command(const struct arguments *arguments);
 enum status export_command(const struct arguments *arguments);
+enum status carry_over_command(const struct arguments *arguments);
 enum status show_command(const struct arguments *arguments);
 enum status cells_command(const struct arguments *arguments);
 enum status list_command(const struct arguments *arguments);

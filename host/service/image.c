@@ -3,7 +3,8 @@
 
 #include <coffee.h>
 
-_Static_assert(4 * STACK_COUNT == COFFEE_IMAGE_ENTRIES && 4 * STACK == COFFEE_IMAGE_MIN &&
+_Static_assert(4 * STACK_COUNT == COFFEE_IMAGE_ENTRIES && 4 * STACK == COFFEE_EARLIER_IMAGE_MIN &&
+                   4 * (STACK + 1 + TIMERS) == COFFEE_IMAGE_MIN &&
                    4 * ENTRY_NUMBERS == COFFEE_IMAGE_ENTRY &&
                    COFFEE_IMAGE_MIN + COFFEE_IMAGE_ENTRY * SOURCES == COFFEE_IMAGE_MAX,
                "the layout here is the library's");
@@ -29,6 +30,11 @@ uint32_t image_number(const uint8_t *image, size_t place)
 size_t entry_place(size_t entry, size_t number)
 {
     return STACK + ENTRY_NUMBERS * entry + number;
+}
+
+size_t divider_place(size_t entries, size_t timer)
+{
+    return entry_place(entries, 0) + 1 + timer;
 }
 
 size_t image_length(const uint8_t *image)

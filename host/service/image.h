@@ -1,5 +1,5 @@
-/* The layout of a machine image (01 "Machine image"): 32-bit numbers, high byte first, in six
-   sections, each after its count. Places are counted in numbers from the image's front. */
+/* The layout of a machine image (01 "Machine image"; 02, wish 5): 32-bit numbers, high byte first,
+   in seven sections, each after its count. Places are counted in numbers from the image's front. */
 #ifndef IMAGE_H
 #define IMAGE_H
 
@@ -13,6 +13,8 @@ enum {
     POSITION_NUMBERS = 6,
     ENTRY_NUMBERS = 4,
     SOURCES = 12,
+    TIMERS = 2,
+    DIVIDER_MOST = 255,
 
     /* Each section's first number stands after its count. */
     SET_1 = 1,
@@ -32,6 +34,9 @@ enum {
     EXCEPTION_PC = CONTROL + 0x18,
     EXCEPTION_PSR = CONTROL + 0x19,
     EXCEP_ADDR = CONTROL + 0x20,
+    TMR0_CNT = CONTROL + 0x23, /* timer 1 has its count and maximum after these two */
+    TMR0_MAX_CNT = CONTROL + 0x24,
+    TMR_CONF = CONTROL + 0x27,
     RETI_ADDR = CONTROL + 0x28,
     PC = POSITION,
 
@@ -41,6 +46,9 @@ enum {
     ENTRY_PSR,
     ENTRY_C0
 };
+
+/* The present layout, and the earlier one, which has all sections but the last, the dividers. */
+enum layout { PRESENT, EARLIER };
 
 /* Bits of PSR. */
 enum { UM = 1, RSRD = 2, RSWR = 4, IL = 8, IE = 16, PSR_MOST = 31 };
@@ -57,7 +65,10 @@ uint32_t image_number(const uint8_t *image, size_t place);
 /* The place of a number of a stack entry, counted from the bottom. */
 size_t entry_place(size_t entry, size_t number);
 
-/* The length in bytes of an image that the library gave or accepted. */
+/* The place of a timer's divider in an image with so many stack entries. */
+size_t divider_place(size_t entries, size_t timer);
+
+/* The length in bytes of an image that the library gave or accepted, of the present layout. */
 size_t image_length(const uint8_t *image);
 
 #endif

@@ -4,7 +4,9 @@
 #define MACHINE_H
 
 #include "files.h"
+#include "image.h"
 #include "report.h"
+#include "save.h"
 
 #include <coffee.h>
 
@@ -13,17 +15,27 @@ enum { READ_MACHINE = COFFEE_IMAGE_MAX + 4 + 4 * COFFEE_MEMORY_MAX + 1 };
 
 struct machine {
     struct bytes file;  /* as it was read; the image is its front */
+    enum layout layout; /* of that image */
     size_t image_len;   /* all of the file, where it has not the sections of a machine */
     bool has_cells;     /* false for a plain image */
     uint32_t *cells;    /* never NULL */
     size_t cell_count;
 };
 
-/* Reads the machine of a path. Any file is taken; the library is asked later. */
-bool read_machine(const char *path, struct machine *machine);
+/* Reads the machine of a path; the library is asked later. Any file is taken but one of the earlier
+   layout; and a plain image just where `plain` says that it is one, since a machine of 2 cells in
+   the earlier layout may have the same bytes. */
+bool read_machine(const char *path, bool plain, struct machine *machine);
 
 /* Reads the machine of an open file. */
-bool read_open_machine(int file, const char *path, struct machine *machine);
+bool read_open_machine(int file, const char *path, bool plain, struct machine *machine);
+
+/* Reads a machine or a plain image of the earlier layout and carries it over. */
+bool read_earlier(const char *path, struct machine *machine);
+
+/* Reads a plain image of either layout, asks the library about it, and tells whether it was carried
+   over. */
+bool read_image(const char *path, struct machine *machine, bool *carried);
 
 /* Makes zero cells. */
 bool make_cells(const char *path, struct machine *machine, size_t count);
@@ -34,9 +46,8 @@ bool cells_from(const char *path, struct machine *machine, const uint8_t *bytes,
 /* Writes all cells as bytes, high byte first. */
 void cells_to(uint8_t *bytes, const struct machine *machine);
 
-/* Makes the bytes of a file: an image and the machine's cells. */
-bool join_machine(const char *path, const uint8_t *image, const struct machine *machine,
-                  struct bytes *file);
+/* Writes the new file of a save: an image and the machine's cells. */
+bool fill_machine(struct save *save, const uint8_t *image, const struct machine *machine);
 
 /* Asks the library about an image with these cells, by a call without a step, and complains of
    what it refuses. */

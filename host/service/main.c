@@ -18,10 +18,11 @@ static const struct command {
 } commands[] = {
     {"new", "[--replace] ", "MACHINE [CELLS]",
      "writes a machine at reset with so many zero cells (4,096)", 1, 2, 2, new_command},
-    {"run", "[-v] [--strict] ", "PROGRAM MACHINE STEPS [REQUESTS]",
+    {"run", "[-v] [--strict] [--plain] ", "PROGRAM MACHINE STEPS [REQUESTS]",
      "runs the machine on and saves it; prints steps, ending and PC", 3, 4, 4, run_command},
-    {"show", "", "MACHINE", "prints mode, registers, position and stack", 1, 1, 1, show_command},
-    {"cells", "", "MACHINE [FIRST [COUNT]]", "prints cells of the data memory", 1, 3, 3,
+    {"show", "[--plain] ", "MACHINE", "prints mode, registers, position, stack and dividers", 1, 1,
+     1, show_command},
+    {"cells", "[--plain] ", "MACHINE [FIRST [COUNT]]", "prints cells of the data memory", 1, 3, 3,
      cells_command},
     {"list", "", "PROGRAM WIDTH", "prints a program, a line for each word", 2, 2, 2, list_command},
     {"encode", "", "WIDTH [CONDITION Cn] NAME OPERAND..",
@@ -29,8 +30,11 @@ static const struct command {
      encode_command},
     {"import", "[--replace] ", "IMAGE DATA MACHINE", "makes a machine from a plain image and cells", 3,
      3, 3, import_command},
-    {"export", "[--replace] ", "MACHINE IMAGE DATA", "writes a machine as a plain image and cells", 3,
-     3, 3, export_command},
+    {"export", "[--replace] [--plain] ", "MACHINE IMAGE DATA",
+     "writes a machine as a plain image and cells", 3, 3, 3, export_command},
+    {"carry-over", "[--replace] ", "OLD NEW",
+     "writes a machine or a plain image of the earlier layout in the present one", 2, 2, 2,
+     carry_over_command},
 };
 
 static enum status help(void)
@@ -45,8 +49,10 @@ static enum status help(void)
          "--replace  also replaces a file that is there\n"
          "-v         adds what happened, in words\n"
          "--strict   gives status 4 when a stop ended the run\n"
+         "--plain    MACHINE is a plain image, without a data memory\n"
          "\n"
-         "MACHINE    a machine file: an image, then the data memory; or a plain image\n"
+         "MACHINE    a machine file: an image, then the data memory\n"
+         "OLD        a machine file or a plain image from before version 2.0.0\n"
          "STEPS      decimal, at most 1,000,000,000,000\n"
          "WIDTH      bits of a word: 16 or 32\n"
          "REQUESTS   a text: line n has the requests of step n in hexadecimal, or 'N: HEX'\n"
@@ -69,9 +75,11 @@ static bool take_option(const struct command *command, const char *option,
     if (strstr(command->options, option) == NULL)
         return false;
     if (strcmp(option, "--replace") == 0)
-        arguments->replace = true;
+        arguments->target = ANY;
     else if (strcmp(option, "--strict") == 0)
         arguments->strict = true;
+    else if (strcmp(option, "--plain") == 0)
+        arguments->plain = true;
     else if (strcmp(option, "-v") == 0)
         arguments->words_too = true;
     else
@@ -117,7 +125,7 @@ static bool no_word_empty(const struct command *command, const struct arguments 
 /* Carries out a command with the words that follow it, up to NULL. */
 static enum status carry_out(const struct command *command, char **words)
 {
-    struct arguments arguments = {.count = 0};
+    struct arguments arguments = {.target = ABSENT};
     bool options = true;
     size_t count = 0;
 

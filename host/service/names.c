@@ -53,9 +53,11 @@ const char *stop_meaning(uint32_t stop)
     }
 }
 
-void name_number(size_t place, char name[LONGEST_NAME])
+void name_number(size_t entries, size_t place, char name[LONGEST_NAME])
 {
-    if (place >= STACK)
+    if (place >= divider_place(entries, 0))
+        snprintf(name, LONGEST_NAME, "divider of timer %zu", place - divider_place(entries, 0));
+    else if (place >= STACK)
         snprintf(name, LONGEST_NAME, "%s of stack entry %zu",
                  entry_names[(place - STACK) % ENTRY_NUMBERS], (place - STACK) / ENTRY_NUMBERS + 1);
     else if (place >= POSITION)

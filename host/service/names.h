@@ -25,8 +25,9 @@ const char *stop_meaning(uint32_t stop);
 
 enum { LONGEST_NAME = 64 };
 
-/* Writes the name of the number at a place of an image: "R5", "PSR", "CCB_BASE (00h)",
-   "PSR of stack entry 2"; entries are counted from 1, at the bottom. */
-void name_number(size_t place, char name[LONGEST_NAME]);
+/* Writes the name of the number at a place of an image with so many stack entries: "R5", "PSR",
+   "CCB_BASE (00h)", "PSR of stack entry 2", "divider of timer 0"; entries are counted from 1, at
+   the bottom. */
+void name_number(size_t entries, size_t place, char name[LONGEST_NAME]);
 
 #endif

@@ -5,7 +5,6 @@
 #include "text.h"
 
 #include <inttypes.h>
-#include <stdlib.h>
 
 enum { CELLS = 4096 };
 
@@ -21,36 +20,28 @@ static bool read_cell_count(const char *text, uint64_t *count)
            complain(text, "refused with 1: more than 65,536 cells of data");
 }
 
-/* Makes the bytes of a new machine. */
-static bool make_machine(const char *path, size_t count, struct bytes *file)
+/* Writes a new machine aside. */
+static bool fill_new(struct save *save, size_t count)
 {
     struct machine machine = {.has_cells = true};
     uint8_t image[COFFEE_IMAGE_MAX];
     uint32_t refusal = coffee_reset(image, sizeof image);
-    bool made;
+    bool done;
 
     if (refusal != 0)
-        return complain_of_refusal(path, refusal);
-    made = make_cells(path, &machine, count) && join_machine(path, image, &machine, file);
+        return complain_of_refusal(save->path, refusal);
+    done = make_cells(save->path, &machine, count) && fill_machine(save, image, &machine);
     free_machine(&machine);
-    return made;
+    return done;
 }
 
 enum status new_command(const struct arguments *arguments)
 {
-    const char *path = arguments->words[0];
-    struct bytes file = {NULL, 0};
-    enum status status = FAILED;
     struct save save;
     uint64_t count;
 
     if (!read_cell_count(arguments->words[1], &count) ||
-        !begin_save(&save, path, arguments->replace ? ANY : ABSENT))
+        !begin_save(&save, arguments->words[0], arguments->target))
         return FAILED;
-    if (make_machine(path, (size_t)count, &file) && fill_save(&save, &file))
-        status = end_save(&save);
-    else
-        drop_save(&save);
-    free(file.at);
-    return status;
+    return finish_save(&save, fill_new(&save, (size_t)count));
 }

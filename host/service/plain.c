@@ -4,17 +4,12 @@
 #include "machine.h"
 #include "save.h"
 
+#include <stdio.h>
 #include <stdlib.h>
 #include <string.h>
 
 /* As much of a file of cells as shows that it is too long. */
 enum { READ_CELLS = 4 * (COFFEE_MEMORY_MAX + 1) };
-
-/* Which files a command may write. */
-static enum target target_of(const struct arguments *arguments)
-{
-    return arguments->replace ? ANY : ABSENT;
-}
 
 /* Reads the cells of a file as the machine's data memory. */
 static bool import_cells(const char *path, struct machine *machine)
@@ -35,34 +30,30 @@ static bool import_cells(const char *path, struct machine *machine)
     return done;
 }
 
-/* Reads a plain image and a file of cells. */
-static bool import_files(const char *image, const char *data, struct machine *machine)
+/* Says that the image was of the earlier layout, if it was. */
+static bool say_carried(bool carried)
 {
-    if (!read_machine(image, machine) || !accept_machine(image, machine))
-        return false;
-    if (machine->has_cells)
-        return complain(image, "has a data memory of its own; IMAGE is a plain image");
-    return import_cells(data, machine);
+    if (!carried)
+        return true;
+    puts("the image is carried over from the earlier layout");
+    return end_output();
 }
 
 enum status import_command(const struct arguments *arguments)
 {
     const char *image = arguments->words[0], *data = arguments->words[1];
     const char *path = arguments->words[2];
-    struct machine machine = {0};
-    struct bytes file = {NULL, 0};
-    enum status status = FAILED;
+    struct machine machine;
+    enum status status;
     struct save save;
+    bool carried;
 
-    if (!apart(image, path) || !apart(data, path) ||
-        !begin_save(&save, path, target_of(arguments)))
+    if (!apart(image, path) || !apart(data, path) || !begin_save(&save, path, arguments->target))
         return FAILED;
-    if (import_files(image, data, &machine) &&
-        join_machine(path, machine.file.at, &machine, &file) && fill_save(&save, &file))
-        status = end_save(&save);
-    else
-        drop_save(&save);
-    free(file.at);
+    status = finish_save(&save, read_image(image, &machine, &carried) &&
+                                    import_cells(data, &machine) &&
+                                    fill_machine(&save, machine.file.at, &machine) &&
+                                    say_carried(carried));
     free_machine(&machine);
     return status;
 }
@@ -133,9 +124,9 @@ enum status export_command(const struct arguments *arguments)
     struct save save;
 
     if (apart(path, image) && apart(path, data) && apart(image, data) &&
-        read_machine(path, &machine) && accept_machine(path, &machine) &&
-        begin_save(&save, image, target_of(arguments)))
-        status = export_to(&machine, &save, data, target_of(arguments));
+        read_machine(path, arguments->plain, &machine) && accept_machine(path, &machine) &&
+        begin_save(&save, image, arguments->target))
+        status = export_to(&machine, &save, data, arguments->target);
     free_machine(&machine);
     return status;
 }

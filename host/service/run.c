@@ -9,7 +9,6 @@
 #include <inttypes.h>
 #include <signal.h>
 #include <stdio.h>
-#include <stdlib.h>
 
 /* As many steps are watched for exceptions, one at a time, where the answer says them in words. */
 enum { COUNTED_STEPS = 1000000 };
@@ -20,7 +19,7 @@ struct run {
     struct call call;
     struct save save;
     bool in_words;
-    uint64_t exceptions; /* entered in the steps that are watched */
+    struct exceptions exceptions; /* entered in the steps that are watched */
     uint8_t watched[COFFEE_IMAGE_MAX]; /* the image after those */
 };
 
@@ -100,31 +99,38 @@ static bool do_steps(struct run *run, struct progress *progress)
 
 /* ---- the answer */
 
-/* Whether the exception registers have changed since the watched steps. */
-static bool changed_since(const struct run *run)
-{
-    for (size_t place = EXCEPTION_CS; place <= EXCEPTION_PSR; place++) {
-        if (image_number(run->watched, place) != image_number(run->call.image, place))
-            return true;
-    }
-    return false;
-}
-
-/* Prints how many exceptions were entered, and what the image tells of the last one. */
-static void print_exceptions(const struct run *run)
+/* Adds the last exception since the watched steps, if the image shows one: its registers have
+   changed, and not to 0, as a reset has them. Code 0 is one of user mode, whose PSR is not 0. */
+static void add_shown(const struct run *run, struct exceptions *exceptions)
 {
     const uint8_t *image = run->call.image;
-    bool all = run->call.done <= COUNTED_STEPS;
-    uint64_t count = run->exceptions + (!all && changed_since(run));
+    bool changed = false, reset = true;
 
-    if (count == 0) {
+    for (size_t place = EXCEPTION_CS; place <= EXCEPTION_PSR; place++) {
+        changed = changed || image_number(run->watched, place) != image_number(image, place);
+        reset = reset && image_number(image, place) == 0;
+    }
+    if (changed && !reset)
+        add_exception(exceptions, image);
+}
+
+/* Prints how many exceptions were entered, and the last one that is known. */
+static void print_exceptions(const struct run *run)
+{
+    struct exceptions entered = run->exceptions;
+    bool all = run->call.done <= COUNTED_STEPS;
+
+    if (!all)
+        add_shown(run, &entered);
+    if (entered.count == 0) {
         printf("%s\n", all ? "no exception entered"
                            : "no exception entered in the first 1,000,000 steps, none shows since");
         return;
     }
     printf("%s%" PRIu64 " exception%s entered, %scode %02" PRIX32 "h at %08" PRIX32 "\n",
-           all ? "" : "at least ", count, count == 1 ? "" : "s", count == 1 && all ? "" : "the last: ",
-           image_number(image, EXCEPTION_CS), image_number(image, EXCEPTION_PC));
+           all ? "" : "at least ", entered.count, entered.count == 1 ? "" : "s",
+           !all ? "the last that shows: " : entered.count > 1 ? "the last: " : "", entered.code,
+           entered.address);
 }
 
 /* Prints what the ending means, where, and the exceptions. */
@@ -155,19 +161,11 @@ static bool print_answer(const struct run *run)
 
 /* ---- the command */
 
-/* Writes the new file and prints the answer, then replaces the old one. A line that cannot be
+/* Writes the new file and prints the answer, before the old one is replaced. A line that cannot be
    printed so changes no file, and the exit status says whether the line holds. */
-static enum status save_run(struct run *run)
+static bool fill_and_print(struct run *run)
 {
-    struct bytes file = {NULL, 0};
-    bool done = join_call(&run->words, &run->call, &file) && fill_save(&run->save, &file) &&
-                print_answer(run);
-
-    free(file.at);
-    if (done)
-        return end_save(&run->save);
-    drop_save(&run->save);
-    return FAILED;
+    return fill_machine(&run->save, run->call.image, &run->call.machine) && print_answer(run);
 }
 
 /* Loads the machine and does the steps. */
@@ -188,16 +186,13 @@ static bool load_and_run(struct run *run)
 enum status run_command(const struct arguments *arguments)
 {
     const char *const *words = arguments->words;
-    struct run run = {.words = {words[0], words[1], words[2], words[3]},
+    struct run run = {.words = {words[0], words[1], words[2], words[3], arguments->plain},
                       .in_words = arguments->words_too};
-    enum status status = FAILED;
+    enum status status;
 
     if (!begin_save(&run.save, run.words.machine, EXISTING))
         return FAILED;
-    if (load_and_run(&run))
-        status = save_run(&run);
-    else
-        drop_save(&run.save);
+    status = finish_save(&run.save, load_and_run(&run) && fill_and_print(&run));
     if (status == DONE && arguments->strict && run.call.ending != 0)
         status = STOPPED;
     free_call(&run.call);

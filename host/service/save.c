@@ -123,3 +123,11 @@ void drop_save(struct save *save)
     close_failed(save->place.folder);
     save->new = save->old.file = save->place.folder = -1;
 }
+
+enum status finish_save(struct save *save, bool well)
+{
+    if (well)
+        return end_save(save);
+    drop_save(save);
+    return FAILED;
+}

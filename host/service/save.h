@@ -29,4 +29,7 @@ enum status end_save(struct save *save);
 /* Removes the new file, if it has not yet replaced the old one. */
 void drop_save(struct save *save);
 
+/* Ends the save if all before it went well, and drops it otherwise. */
+enum status finish_save(struct save *save, bool well);
+
 #endif

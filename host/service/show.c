@@ -10,6 +10,9 @@
 
 enum { SET_COLUMNS = 4, CONTROL_COLUMNS = 3 };
 
+/* A place that no file has. */
+#define NOWHERE SIZE_MAX
+
 /* Whether the file has a number at this place. */
 static bool has_number(const struct bytes *file, size_t place)
 {
@@ -38,8 +41,14 @@ static void end_field(size_t index, size_t columns, size_t count)
 }
 
 /* Prints what PSR says in words. */
-static void show_mode(uint32_t psr)
+static void show_mode(const struct bytes *file)
 {
+    uint32_t psr = number_at(file, PSR);
+
+    if (!has_number(file, PSR)) {
+        puts("mode: --------");
+        return;
+    }
     printf("mode: %s, %s-bit words, reads set %s, writes set %s, interrupts %s\n",
            psr & UM ? "user" : "super user", psr & IL ? "32" : "16", psr & RSRD ? "2" : "1",
            psr & RSWR ? "2" : "1", psr & IE ? "enabled" : "disabled");
@@ -115,12 +124,15 @@ static void show_position(const struct bytes *file)
 /* Prints one entry of the stack, counted from the bottom. */
 static void show_entry(const struct bytes *file, size_t entry)
 {
-    uint32_t source = number_at(file, entry_place(entry, ENTRY_SOURCE));
+    size_t place = entry_place(entry, ENTRY_SOURCE);
+    uint32_t source = number_at(file, place);
 
-    if (source < SOURCES)
+    if (has_number(file, place) && source < SOURCES) {
         printf("%2" PRIu32 " %s  ", source, source_names[source]);
-    else
-        printf("%08" PRIX32 "     ", source);
+    } else {
+        put_number(file, place);
+        fputs("     ", stdout);
+    }
     put_number(file, entry_place(entry, ENTRY_ADDRESS));
     fputs("  ", stdout);
     put_number(file, entry_place(entry, ENTRY_PSR));
@@ -134,7 +146,9 @@ static void show_stack(const struct bytes *file)
     size_t entries = number_at(file, STACK_COUNT);
 
     if (entries == 0 || entries > SOURCES) {
-        puts(entries == 0 ? "\nstack: empty" : "\nstack: more than 12 entries");
+        puts(!has_number(file, STACK_COUNT) ? "\nstack: --------"
+             : entries == 0                 ? "\nstack: empty"
+                                            : "\nstack: more than 12 entries");
         return;
     }
     puts("\nstack, top first\nsource       address   PSR       Z N C");
@@ -142,16 +156,30 @@ static void show_stack(const struct bytes *file)
         show_entry(file, entries);
 }
 
+/* Prints the dividers, which are behind the stack. Where its count is wrong, they have no place. */
+static void show_dividers(const struct bytes *file)
+{
+    size_t entries = number_at(file, STACK_COUNT);
+
+    puts("\ndividers");
+    for (size_t i = 0; i < TIMERS; i++) {
+        printf("timer %-6zu  ", i);
+        put_number(file, entries <= SOURCES ? divider_place(entries, i) : NOWHERE);
+        putchar('\n');
+    }
+}
+
 /* Prints all of an image. */
 static void show_image(const struct bytes *file)
 {
-    show_mode(number_at(file, PSR));
+    show_mode(file);
     show_set_1(file);
     show_set_2(file);
     show_conditions(file);
     show_control(file);
     show_position(file);
     show_stack(file);
+    show_dividers(file);
 }
 
 enum status show_command(const struct arguments *arguments)
@@ -160,7 +188,7 @@ enum status show_command(const struct arguments *arguments)
     struct machine machine;
     bool accepted = false, printed = false;
 
-    if (read_machine(path, &machine)) {
+    if (read_machine(path, arguments->plain, &machine)) {
         accepted = accept_machine(path, &machine);
         if (!accepted)
             puts("NOT ACCEPTED: these are the numbers that the file has\n");

@@ -5,7 +5,7 @@ use Prim.Native.Nat.{ℕ, zero, suc, _+_, _*_, _/_, _%_, _^_, _≤_, _<_}
 use native.Mathlib.Nat.{zero-add}
 use native.Mathlib.Omega.{arith}
 use native.Mathlib.Numerals.{add-one, unary-clauses}
-use lib.ListN.{length, take, drop, getD, set, length-append, length-take, length-drop, List·getD-append}
+use lib.ListN.{length, take, drop, getD, set, length-append, length-take, length-drop}
 use lib.Seq.{sets-eq, drop-drop, take-suc, take-append-seam, take-append-add, drop-append-add, length-take-le, paste-zero}
 use lib.Pow.{shr-shr}
 use borrow.Rule.Slice.PartMut.{putMid}
@@ -127,9 +127,6 @@ numbersOf-append (a ∷ b ∷ c ∷ d ∷ s) t e = ap (λ (ns : List ℕ). numbe
 -- the front is what was laid over it
 pub take-over : (front s : List ℕ) → take (length front) (over front s) ≡ front
 take-over front s = take-append-seam front (drop (length front) s)
-
-pub getD-over-front : (front s : List ℕ) (i : ℕ) → i < length front → getD (over front s) i 0 ≡ getD front i 0
-getD-over-front front s i h = List·getD-append front (drop (length front) s) 0 i h
 
 -- the length stays
 pub length-over : (front s : List ℕ) → length front ≤ length s → length (over front s) ≡ length s

@@ -6,7 +6,9 @@ ghost use Rattle.isa.specs.Operation.{widthBy};
 ghost use Rattle.listing.specs.Listing.{listed, listingCall};
 ghost use Rattle.encoder.specs.Encode.{chosen, encodingOf, encodeOf};
 ghost use Rattle.emulator.specs.Run.{replyOf, runCall};
-ghost use Rattle.emulator.specs.Reset.{resetOutcome, resetCall};
+ghost use Rattle.emulator.specs.Outcome.{imageOutcome};
+ghost use Rattle.emulator.specs.Reset.{resetCall};
+ghost use Rattle.emulator.specs.CarryOver.{carryOverCall};
 ghost use Rattle.coffee.specs.Numbers.{answerNumbers, shown, inNumbers, encodingNumber};
 ghost use Rattle.machine.specs.Machine.{memoryOf};
 use emulator::Answer;
@@ -58,9 +60,17 @@ pub extern "C" fn coffee_run(
 // Writes the image of the machine at reset to the buffer's front.
 #[no_mangle]
 pub extern "C" fn coffee_reset(buffer: &mut [u8]) -> u32
-    ensures { λ r. ⌜ resetOutcome r (now (buffer .exit)) ≡ resetCall (now (buffer .entry)) ⌝ }
+    ensures { λ r. ⌜ imageOutcome r (now (buffer .exit)) ≡ resetCall (now (buffer .entry)) ⌝ }
 {
     emulator::reset(buffer)
+}
+
+// Writes the machine of an image of the earlier layout, with dividers 0, to the buffer's front.
+#[no_mangle]
+pub extern "C" fn coffee_carry_over(image: &[u8], buffer: &mut [u8]) -> u32
+    ensures { λ r. ⌜ imageOutcome r (now (buffer .exit)) ≡ carryOverCall (now (image .entry)) (now (buffer .entry)) ⌝ }
+{
+    emulator::carry_over(image, buffer)
 }
 
 // Writes the listing of a program, a line for each instruction word, to the text's front; wide 0 is 16-bit words, any other number 32-bit.

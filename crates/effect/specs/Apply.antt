@@ -157,6 +157,7 @@ stopNumber kind.Interrupt = 0
 stopNumber kind.SystemCall = 0
 stopNumber kind.InterruptReturn = 0
 stopNumber (kind.Exception c) = 0
+stopNumber kind.Reset = 0
 stopNumber (kind.Stop n) = n
 
 -- that number, and the state after it

@@ -7,4 +7,5 @@ pub data Kind : Type 0 where
   SystemCall : Kind  -- scall
   InterruptReturn : Kind  -- reti
   Exception : (code : ℕ) → Kind
+  Reset : Kind  -- a step whose clock reset the core (02, wish 5)
   Stop : (number : ℕ) → Kind

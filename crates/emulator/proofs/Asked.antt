@@ -7,16 +7,16 @@ use lib.Dec.{leb}
 use lib.ListN.{length}
 use borrow.Author.Tests.{le-leb, lt-leb}
 use Rattle.word.specs.Choice.{if_then_else_}
-use Rattle.machine.specs.Machine.{Machine, Memory}
+use Rattle.machine.specs.Machine.{Machine, MOST-MEMORY, Memory}
 use Rattle.formed.specs.Questions.{allBelow, readBy}
 use Rattle.formed.proofs.Tests.{Passed, no-more, _also_}
-use Rattle.image.specs.Image.{question2, readImage}
-use Rattle.emulator.specs.Run.{answers, firstNo, askedBy, ask}
+use Rattle.image.specs.Image.{LONGEST, question2, readImage}
+use Rattle.emulator.specs.Run.{MOST-STEPS, answers, firstNo, askedBy, ask}
 use Rattle.emulator.proofs.Questions.{none-passed, first-among, asked-no, said, ofImage, read-says}
 
 -- the answers to 6 to 8
 unfoldable pub ofCall : (requests : List ℕ) (limit room : ℕ) → List Bool
-ofCall requests limit room = allBelow 0x1000 requests ∷ leb limit 1000000 ∷ leb 708 room ∷ []
+ofCall requests limit room = allBelow 0x1000 requests ∷ leb limit MOST-STEPS ∷ leb LONGEST room ∷ []
 
 -- they decide where 2 to 5 are yes
 past-five : (image : List ℕ) (cs : List Bool) → Passed (ofImage image) → firstNo 2 (ofImage image ++ cs) ≡ firstNo 6 cs
@@ -25,19 +25,19 @@ past-five image cs (two also three also four also five also no-more) = rw (two, 
 
 module _ (p image : List ℕ) (memory : Memory) (requests : List ℕ) (limit room : ℕ) (m : Machine) where
   -- 1
-  pub program-no : 65536 < length p → askedBy 1 m ≡ ask p image memory requests limit room
+  pub program-no : MOST-MEMORY < length p → askedBy 1 m ≡ ask p image memory requests limit room
   unfolding ask answers firstNo askedBy if_then_else_
-  program-no h = rw (lt-leb (length p) 65536 h)
+  program-no h = rw (lt-leb (length p) MOST-MEMORY h)
 
-  pub cells-no : length p ≤ 65536 → 65536 < length (memory .cells) → askedBy 1 m ≡ ask p image memory requests limit room
+  pub cells-no : length p ≤ MOST-MEMORY → MOST-MEMORY < length (memory .cells) → askedBy 1 m ≡ ask p image memory requests limit room
   unfolding ask answers firstNo askedBy if_then_else_
-  cells-no g h = rw (le-leb (length p) 65536 g, lt-leb (length (memory .cells)) 65536 h)
+  cells-no g h = rw (le-leb (length p) MOST-MEMORY g, lt-leb (length (memory .cells)) MOST-MEMORY h)
 
   -- 2 to 5
-  module _ (g : length p ≤ 65536) (h : length (memory .cells) ≤ 65536) where
+  module _ (g : length p ≤ MOST-MEMORY) (h : length (memory .cells) ≤ MOST-MEMORY) where
     past-sizes : ask p image memory requests limit room ≡ askedBy (firstNo 2 (ofImage image ++ ofCall requests limit room)) (said image)
     unfolding ask answers firstNo ofCall if_then_else_
-    past-sizes = rw (le-leb (length p) 65536 g, le-leb (length (memory .cells)) 65536 h)
+    past-sizes = rw (le-leb (length p) MOST-MEMORY g, le-leb (length (memory .cells)) MOST-MEMORY h)
 
     pub sections-no : question2 image ≡ false → askedBy 2 m ≡ ask p image memory requests limit room
     unfolding firstNo askedBy if_then_else_
@@ -62,14 +62,14 @@ module _ (requests : List ℕ) (limit room : ℕ) (m : Machine) where
   requests-no e = rw e
 
   module _ (r : allBelow 0x1000 requests ≡ true) where
-    pub limit-no : 1000000 < limit → askedBy 7 m ≡ askedBy (firstNo 6 (ofCall requests limit room)) m
+    pub limit-no : MOST-STEPS < limit → askedBy 7 m ≡ askedBy (firstNo 6 (ofCall requests limit room)) m
     unfolding firstNo ofCall if_then_else_
-    limit-no h = rw (r, lt-leb limit 1000000 h)
+    limit-no h = rw (r, lt-leb limit MOST-STEPS h)
 
-    pub room-no : limit ≤ 1000000 → room < 708 → askedBy 8 m ≡ askedBy (firstNo 6 (ofCall requests limit room)) m
+    pub room-no : limit ≤ MOST-STEPS → room < LONGEST → askedBy 8 m ≡ askedBy (firstNo 6 (ofCall requests limit room)) m
     unfolding firstNo ofCall if_then_else_
-    room-no l h = rw (r, le-leb limit 1000000 l, lt-leb 708 room h)
+    room-no l h = rw (r, le-leb limit MOST-STEPS l, lt-leb LONGEST room h)
 
-    pub all-yes : limit ≤ 1000000 → 708 ≤ room → askedBy 0 m ≡ askedBy (firstNo 6 (ofCall requests limit room)) m
+    pub all-yes : limit ≤ MOST-STEPS → LONGEST ≤ room → askedBy 0 m ≡ askedBy (firstNo 6 (ofCall requests limit room)) m
     unfolding firstNo ofCall if_then_else_
-    all-yes l h = rw (r, le-leb limit 1000000 l, le-leb 708 room h)
+    all-yes l h = rw (r, le-leb limit MOST-STEPS l, le-leb LONGEST room h)

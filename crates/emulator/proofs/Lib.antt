@@ -1,4 +1,6 @@
--- Laws of the run call: its questions, its steps, what it leaves, its answer, lists of calls.
+-- Laws of the run call: its questions, its steps, what it leaves, its answer, lists of calls; and of the calls that only write an image.
+pub mod Outcomes
+pub mod Carried
 pub mod Loop
 pub mod Questions
 pub mod Closed

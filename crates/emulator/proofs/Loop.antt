@@ -1,5 +1,5 @@
 -- The steps of a call, one at a time: how the definition goes on, stops and ends. Assumes nothing.
-use mathlib.Core.Path.{_≡_, refl}
+use mathlib.Core.Path.{_≡_, refl, ap, _∙_}
 use mathlib.Core.Bool.{true, false}
 use mathlib.Core.List.{List, [], _∷_}
 use Prim.Native.Nat.{ℕ, zero, suc, _-_, _≤_, _<_}
@@ -9,13 +9,17 @@ use Rattle.word.specs.Choice.{if_then_else_}
 use Rattle.word.proofs.Tests.{either, if-true}
 use Rattle.machine.specs.Machine.{State}
 use Rattle.effect.specs.Apply.{Transition, stopNumber}
-use Rattle.step.specs.Step.{isStop, step}
+use Rattle.step.specs.Step.{isStop, unclocked, step}
+use Rattle.step.proofs.Clocks.{stop-alone, stop-kind}
 use Rattle.emulator.specs.Run.{run, RunResult, resultOf, resultFrom}
 use Rattle.emulator.specs.Closure.{StopChangesNothing}
 
 pub stop-changes-nothing : StopChangesNothing
-unfolding StopChangesNothing step
-stop-changes-nothing p s q e = if-true _ _ _ e
+unfolding StopChangesNothing step unclocked
+stop-changes-nothing p s q e =
+    let t = unclocked p s q in
+    let stop = stop-kind t e in
+    ap (λ (x : Transition). x .after) (stop-alone t stop) ∙ if-true _ _ _ stop
 
 module _ (p requests : List ℕ) where
   -- the next transition

@@ -11,11 +11,11 @@ use borrow.Author.Tests.{leb-true, le-leb}
 use Rattle.word.specs.Choice.{if_then_else_}
 use Rattle.word.proofs.Tests.{and-parts, and-both}
 use Rattle.codec.specs.Number.{numbersOf}
-use Rattle.machine.specs.Machine.{Machine, Memory}
+use Rattle.machine.specs.Machine.{Machine, MOST-MEMORY, Memory}
 use Rattle.formed.specs.Questions.{question3, question4, question5, Refused, Accepted, askMachine, readBy}
 use Rattle.formed.proofs.Tests.{Passed, no-more, _also_, below-true, true-below}
-use Rattle.image.specs.Image.{machineIn, question2, readImage}
-use Rattle.emulator.specs.Run.{Call, answers, firstNo, No, Start, askedBy, ask, asked}
+use Rattle.image.specs.Image.{LONGEST, machineIn, question2, readWhere, readImage}
+use Rattle.emulator.specs.Run.{Call, MOST-STEPS, answers, firstNo, No, Start, askedBy, ask, asked}
 use Rattle.emulator.specs.Questions.{FirstNoAt, FirstNo, AllYes, Questions}
 
 -- ---- the first no of a list
@@ -122,7 +122,7 @@ first-of-four false b c d m = refl
 
 -- reading asks them in order
 read-first : (image : List ℕ) → readImage image ≡ readBy (firstNo 2 (ofImage image)) (said image)
-unfolding readImage askMachine
+unfolding readWhere askMachine
 read-first image = first-of-four (question2 image) (question3 (said image)) (question4 (said image)) (question5 (said image)) (said image)
 
 said-by : (n k : ℕ) (x m : Machine) → readBy n x ≡ readBy k m → (n ≡ k) × (n ≡ 0 → x ≡ m)
@@ -150,14 +150,14 @@ module _ (p image : List ℕ) (memory : Memory) (c : Call) where
     where
       go : said image ≡ m → Passed given → AllYes p image memory c m
       go same (one also two also three also four also five also six also seven also eight also no-more) =
-          let sizes = and-parts (leb (length p) 65536) (leb (length (memory .cells)) 65536) one in
+          let sizes = and-parts (leb (length p) MOST-MEMORY) (leb (length (memory .cells)) MOST-MEMORY) one in
           record {
-            programSize = leb-true (length p) 65536 (sizes .0);
-            dataSize = leb-true (length (memory .cells)) 65536 (sizes .1);
+            programSize = leb-true (length p) MOST-MEMORY (sizes .0);
+            dataSize = leb-true (length (memory .cells)) MOST-MEMORY (sizes .1);
             read = read-first image ∙ rw (passed-none 2 (two also three also four also five also no-more), same);
             requests = λ i. le-of-suc-le-suc (true-below 0x1000 (c .requests) (lit< tt) six i);
-            limit = leb-true (c .limit) 1000000 seven;
-            room = leb-true 708 (length (c .buffer)) eight;
+            limit = leb-true (c .limit) MOST-STEPS seven;
+            room = leb-true LONGEST (length (c .buffer)) eight;
           }
 
   yes-asked : (m : Machine) → AllYes p image memory c m → asked p image memory c ≡ Start m
@@ -169,11 +169,11 @@ module _ (p image : List ℕ) (memory : Memory) (c : Call) where
     where
       go : Passed (ofImage image) → Passed given
       go (two also three also four also five also no-more) =
-          and-both (leb (length p) 65536) (leb (length (memory .cells)) 65536) (le-leb (length p) 65536 (y .programSize)) (le-leb (length (memory .cells)) 65536 (y .dataSize)) also
+          and-both (leb (length p) MOST-MEMORY) (leb (length (memory .cells)) MOST-MEMORY) (le-leb (length p) MOST-MEMORY (y .programSize)) (le-leb (length (memory .cells)) MOST-MEMORY (y .dataSize)) also
           two also three also four also five also
           below-true 0x1000 (c .requests) (λ i. suc-le-suc (y .requests i)) also
-          le-leb (c .limit) 1000000 (y .limit) also
-          le-leb 708 (length (c .buffer)) (y .room) also no-more
+          le-leb (c .limit) MOST-STEPS (y .limit) also
+          le-leb LONGEST (length (c .buffer)) (y .room) also no-more
 
   eight : length given ≡ 8
   unfolding answers

@@ -1,12 +1,14 @@
-// The run call: the questions in order, the steps, the new image. And the image to start with.
+// The run call: the questions in order, the steps, the new image. And the image to start with, and images of the earlier layout carried over.
 ghost use mathlib.Core.Path.{_≡_};
 ghost use mathlib.Core.Bool.{true};
 ghost use Prim.Native.Nat.{_≤_};
 ghost use lib.ListN.{length, getD};
-ghost use Rattle.machine.specs.Words.{MachineWords, machineOf, stateOf};
+ghost use Rattle.machine.specs.Words.{SOURCES, MachineWords, machineOf, stateOf};
 ghost use Rattle.formed.specs.Questions.{wellFormed};
 ghost use Rattle.emulator.specs.Run.{resultFrom, resultBy, ask, askedBy, replyOf, outcome, runCall};
-ghost use Rattle.emulator.specs.Reset.{resetOutcome, resetCall};
+ghost use Rattle.emulator.specs.Outcome.{imageOutcome, imageCall};
+ghost use Rattle.emulator.specs.Reset.{resetCall};
+ghost use Rattle.emulator.specs.CarryOver.{carryOverCall};
 ghost use Rattle.machine.specs.Machine.{MOST-MEMORY, memoryOf};
 
 // What a run call answers.
@@ -137,16 +139,40 @@ pub fn run(
     Answer::Ran(end.steps, end.ending)
 }
 
-// ---- reset
+// ---- calls that only write an image
 
-// Writes the image of the machine at reset to the buffer's front; 8 when the buffer is too short, and then nothing is changed.
-pub fn reset(buffer: &mut [u8]) -> u32
-    ensures { λ r. ⌜ resetOutcome r (now (buffer .exit)) ≡ resetCall (now (buffer .entry)) ⌝ }
+// Writes the machine's image to the buffer's front; 8 when the buffer is too short for the longest image, and then nothing is changed.
+fn write_image(w: &[u32], buffer: &mut [u8]) -> u32
+    requires { ⌜ MachineWords (now w) × (length (machineOf (now w) .stack) ≤ SOURCES) ⌝ }
+    ensures { λ r. ⌜ imageOutcome r (now (buffer .exit)) ≡ imageCall (machineOf (now (w .entry))) (now (buffer .entry)) ⌝ }
 {
     if buffer.len() < image::LONGEST {
         return 8;
     }
-    let words = image::reset();
-    image::write(&words, buffer);
+    image::write(w, buffer);
     0
+}
+
+// Writes the image of the machine at reset to the buffer's front; 8 when the buffer is too short, and then nothing is changed.
+pub fn reset(buffer: &mut [u8]) -> u32
+    ensures { λ r. ⌜ imageOutcome r (now (buffer .exit)) ≡ resetCall (now (buffer .entry)) ⌝ }
+{
+    let words = machine::reset();
+    write_image(&words, buffer)
+}
+
+// Writes the machine of an image of the earlier layout, with dividers 0, to the buffer's front; a refusal changes nothing.
+pub fn carry_over(image: &[u8], buffer: &mut [u8]) -> u32
+    ensures { λ r. ⌜ imageOutcome r (now (buffer .exit)) ≡ carryOverCall (now (image .entry)) (now (buffer .entry)) ⌝ }
+{
+    if !image::earlier_fits(image) {
+        return 2;
+    }
+    let mut words = [0u32; machine::WORDS];
+    image::read_earlier(image, &mut words);
+    let asked = formed::ask_machine(&words);
+    if asked != 0 {
+        return asked;
+    }
+    write_image(&words, buffer)
 }

@@ -59,7 +59,7 @@ range-entries w (suc n) h =
 
 pub numbers-words : (w : List ℕ) → Below (2 ^ 32) w
     → ltb (psr (machineOf w)) 32 && allBelow 8 (machineOf w .conditions) && allHeld 0 (machineOf w .control)
-    && all (positionTests (machineOf w .position)) && allPass Range (machineOf w .stack) ≡ question3 (machineOf w)
+    && all (positionTests (machineOf w .position)) && allPass Range (machineOf w .stack) && allBelow 256 (machineOf w .dividers) ≡ question3 (machineOf w)
 unfolding question3 numberTests all machineOf
 numbers-words w h =
     simp (below-section SET1 32 w h, below-section SET2 32 w h, range-entries w (getD w DEPTH 0) h, and-assoc, and-true)

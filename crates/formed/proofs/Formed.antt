@@ -13,14 +13,14 @@ use Rattle.word.proofs.Tests.{and-parts, and-both}
 use Rattle.codec.proofs.Laws.{Below}
 use Rattle.machine.specs.Machine.{Machine, psr, userMode}
 use Rattle.machine.specs.Control.{controlAt, registerAt, canHold, reset, INT-SERV, RETI-ADDR, RETI-PSR, RETI-CR0}
-use Rattle.machine.specs.Words.{REGISTERS, FLAGS, OFFSETS}
+use Rattle.machine.specs.Words.{REGISTERS, FLAGS, OFFSETS, TIMERS}
 use Rattle.machine.specs.Stack.{sourcesOf, serviceFlags, shownTop}
 use Rattle.machine.specs.declared.Position.{Position}
 use Rattle.machine.specs.declared.Entry.{Entry}
 use Rattle.machine.proofs.Lists.{each-set}
 use Rattle.machine.proofs.Registers.{beyond-holds, holds-word}
 use Rattle.machine.proofs.Stack.{depth-most, service-below}
-use Rattle.formed.specs.Questions.{allHeld, entriesFit, positionTests, numberTests, question3, setsFit, modesFit, question4, stackTests, question5, formTests, wellFormed}
+use Rattle.formed.specs.Questions.{all, allBelow, allHeld, entriesFit, positionTests, numberTests, question3, setsFit, modesFit, question4, stackTests, question5, formTests, wellFormed}
 use Rattle.formed.specs.Computed.{forms}
 use Rattle.formed.proofs.Tests.{implies-true, true-implies, Passed, no-more, _also_, all-passed, passed-all, below-true, true-below}
 
@@ -200,6 +200,7 @@ pub record WellFormed (m : Machine) : Type 0 where
   pub return-flags : controlAt m RETI-CR0 ≡ shownTop (m .stack) .c0
   pub position : Placed (m .position)
   pub stack : Stacked (m .stack)
+  pub dividers : Sized TIMERS 256 (m .dividers)
 
 -- the lists have their counts
 pub record Counts (m : Machine) : Type 0 where
@@ -207,13 +208,15 @@ pub record Counts (m : Machine) : Type 0 where
   pub set2 : length (m .set2) ≡ REGISTERS
   pub conditions : length (m .conditions) ≡ FLAGS
   pub control : length (m .control) ≡ OFFSETS
+  pub dividers : length (m .dividers) ≡ TIMERS
 
 pub formed-counts : {m : Machine} → WellFormed m → Counts m
-formed-counts w = record { set1 = w .set1 .count; set2 = w .set2 .count; conditions = w .conditions .count; control = w .control .count }
+formed-counts w =
+    record { set1 = w .set1 .count; set2 = w .set2 .count; conditions = w .conditions .count; control = w .control .count; dividers = w .dividers .count }
 
-passed-formed : (m : Machine) → Counts m → Passed (numberTests m) → question4 m ≡ true → Passed (stackTests m) → WellFormed m
+passed-formed : (m : Machine) → Counts m → Passed (numberTests m) → allBelow 256 (m .dividers) ≡ true → question4 m ≡ true → Passed (stackTests m) → WellFormed m
 unfolding numberTests question4 stackTests
-passed-formed m c (words1 also words2 also small also flags also hold also place also fit also no-more) modes
+passed-formed m c (words1 also words2 also small also flags also hold also place also fit also no-more) divided modes
     (distinct also served also address also psr-shown also c0-shown also no-more) =
     let n = and-parts (setsFit (psr m)) (modesFit (m .stack)) modes in
     record {
@@ -228,17 +231,20 @@ passed-formed m c (words1 also words2 also small also flags also hold also place
       return-flags = eqb-true _ _ c0-shown;
       position = passed-placed (m .position) (all-passed (positionTests (m .position)) place);
       stack = stacked (m .stack) fit (n .1) distinct;
+      dividers = record { count = c .dividers; range = true-below 256 (m .dividers) (lit< tt) divided };
     }
 
 -- the counts, and a yes to 3, 4 and 5
 pub questions-formed : (m : Machine) → Counts m → question3 m ≡ true → question4 m ≡ true → question5 m ≡ true → WellFormed m
 unfolding question3 question5
-questions-formed m c e₃ e₄ e₅ = passed-formed m c (all-passed (numberTests m) e₃) e₄ (all-passed (stackTests m) e₅)
+questions-formed m c e₃ e₄ e₅ = let t = and-parts (all (numberTests m)) _ e₃ in
+    passed-formed m c (all-passed (numberTests m) (t .0)) (t .1) e₄ (all-passed (stackTests m) e₅)
 
 pub formed-3 : {m : Machine} → WellFormed m → question3 m ≡ true
 unfolding question3 numberTests
 formed-3 {m} w =
-    passed-all (
+    and-both _ _
+    (passed-all (
     below-true _ _ (w .set1 .range) also
     below-true _ _ (w .set2 .range) also
     lt-ltb _ _ (w .status .small) also
@@ -246,7 +252,8 @@ formed-3 {m} w =
     registers-held (w .control) also
     passed-all (placed-passed (w .position)) also
     stacked-fit (w .stack) also
-    no-more)
+    no-more))
+    (below-true _ _ (w .dividers .range))
 
 pub formed-4 : {m : Machine} → WellFormed m → question4 m ≡ true
 unfolding question4
@@ -273,6 +280,7 @@ formed-true w =
     eq-eqb _ _ (w .set2 .count) also
     eq-eqb _ _ (w .conditions .count) also
     eq-eqb _ _ (w .control .count) also
+    eq-eqb _ _ (w .dividers .count) also
     formed-3 w also
     formed-4 w also
     formed-5 w also
@@ -280,8 +288,10 @@ formed-true w =
 
 tests-formed : (m : Machine) → Passed (formTests m) → WellFormed m
 unfolding formTests
-tests-formed m (set1 also set2 also conditions also control also e₃ also e₄ also e₅ also no-more) =
-    questions-formed m record { set1 = eqb-true _ _ set1; set2 = eqb-true _ _ set2; conditions = eqb-true _ _ conditions; control = eqb-true _ _ control } e₃ e₄ e₅
+tests-formed m (set1 also set2 also conditions also control also dividers also e₃ also e₄ also e₅ also no-more) =
+    questions-formed m
+    record { set1 = eqb-true _ _ set1; set2 = eqb-true _ _ set2; conditions = eqb-true _ _ conditions; control = eqb-true _ _ control; dividers = eqb-true _ _ dividers }
+    e₃ e₄ e₅
 
 pub true-formed : (m : Machine) → wellFormed m ≡ true → WellFormed m
 unfolding wellFormed

@@ -7,9 +7,9 @@ use native.Mathlib.Omega.{arith}
 use lib.ListN.{getD, set}
 use lib.Seq.{getD-set-same, getD-set-other}
 use lib.Dec.{lit<}
-use Rattle.machine.specs.Machine.{Machine, PSR, psr, positionAt, withSet1, withSet2, withConditions, withControl, withPosition, withPsr}
+use Rattle.machine.specs.Machine.{Machine, PSR, psr, positionAt, withSet1, withSet2, withConditions, withControl, withPosition, withDividers, withPsr}
 use Rattle.machine.specs.Control.{registerAt, isWritable, storeControl}
-use Rattle.machine.specs.Words.{REGISTERS, FLAGS}
+use Rattle.machine.specs.Words.{REGISTERS, FLAGS, TIMERS}
 use Rattle.machine.specs.Stack.{withStack}
 use Rattle.word.proofs.Tests.{if-holds}
 use Rattle.machine.specs.declared.Position.{Position}
@@ -40,9 +40,9 @@ second-of f = record { sized = f .set2; status = f .status }
 -- ---- the parts together
 
 formed : (m : Machine) → Sized REGISTERS (2 ^ 32) (m .set1) → Second (m .set2) → Sized FLAGS 8 (m .conditions) → Control (m .stack) (m .control)
-    → Placed (m .position) → Stacked (m .stack) → WellFormed m
+    → Placed (m .position) → Stacked (m .stack) → Sized TIMERS 256 (m .dividers) → WellFormed m
 unfolding psr
-formed m r s c k p t =
+formed m r s c k p t d =
     record {
       set1 = r;
       set2 = s .sized;
@@ -55,16 +55,17 @@ formed m r s c k p t =
       return-flags = k .flags;
       position = p;
       stack = t;
+      dividers = d;
     }
 
 module _ {m : Machine} where
   pub set1-formed : {l : List ℕ} → Sized REGISTERS (2 ^ 32) l → WellFormed m → WellFormed (withSet1 l m)
   unfolding withSet1
-  set1-formed {l} s f = formed (withSet1 l m) s (second-of f) (f .conditions) (control-of f) (f .position) (f .stack)
+  set1-formed {l} s f = formed (withSet1 l m) s (second-of f) (f .conditions) (control-of f) (f .position) (f .stack) (f .dividers)
 
   pub set2-formed : {l : List ℕ} → Second l → WellFormed m → WellFormed (withSet2 l m)
   unfolding withSet2
-  set2-formed {l} s f = formed (withSet2 l m) (f .set1) s (f .conditions) (control-of f) (f .position) (f .stack)
+  set2-formed {l} s f = formed (withSet2 l m) (f .set1) s (f .conditions) (control-of f) (f .position) (f .stack) (f .dividers)
 
   pub psr-formed : {q : ℕ} → StatusOk q → WellFormed m → WellFormed (withPsr q m)
   unfolding withPsr
@@ -72,11 +73,11 @@ module _ {m : Machine} where
 
   pub conditions-formed : {l : List ℕ} → Sized FLAGS 8 l → WellFormed m → WellFormed (withConditions l m)
   unfolding withConditions
-  conditions-formed {l} s f = formed (withConditions l m) (f .set1) (second-of f) s (control-of f) (f .position) (f .stack)
+  conditions-formed {l} s f = formed (withConditions l m) (f .set1) (second-of f) s (control-of f) (f .position) (f .stack) (f .dividers)
 
   pub control-formed : {l : List ℕ} → Control (m .stack) l → WellFormed m → WellFormed (withControl l m)
   unfolding withControl
-  control-formed {l} k f = formed (withControl l m) (f .set1) (second-of f) (f .conditions) k (f .position) (f .stack)
+  control-formed {l} k f = formed (withControl l m) (f .set1) (second-of f) (f .conditions) k (f .position) (f .stack) (f .dividers)
 
   pub stored-formed : (n x : ℕ) → WellFormed m → WellFormed (storeControl n x m)
   unfolding storeControl
@@ -84,11 +85,15 @@ module _ {m : Machine} where
 
   pub position-formed : {q : Position} → Placed q → WellFormed m → WellFormed (withPosition q m)
   unfolding withPosition
-  position-formed {q} p f = formed (withPosition q m) (f .set1) (second-of f) (f .conditions) (control-of f) p (f .stack)
+  position-formed {q} p f = formed (withPosition q m) (f .set1) (second-of f) (f .conditions) (control-of f) p (f .stack) (f .dividers)
 
   pub stack-formed : {es : List Entry} → Stacked es → WellFormed m → WellFormed (withStack es m)
   unfolding withStack
-  stack-formed {es} s f = formed (withStack es m) (f .set1) (second-of f) (f .conditions) (control-shown s (f .control)) (f .position) s
+  stack-formed {es} s f = formed (withStack es m) (f .set1) (second-of f) (f .conditions) (control-shown s (f .control)) (f .position) s (f .dividers)
+
+  pub dividers-formed : {l : List ℕ} → Sized TIMERS 256 l → WellFormed m → WellFormed (withDividers l m)
+  unfolding withDividers
+  dividers-formed {l} s f = formed (withDividers l m) (f .set1) (second-of f) (f .conditions) (control-of f) (f .position) (f .stack) s
 
 -- ---- positions
 

@@ -8,7 +8,7 @@ use Rattle.word.specs.Choice.{if_then_else_}
 use Rattle.word.specs.Flags.{distinctBelow}
 use Rattle.machine.specs.Machine.{Machine, psr, userMode}
 use Rattle.machine.specs.Control.{controlAt, registerAt, canHold, INT-SERV, RETI-ADDR, RETI-PSR, RETI-CR0}
-use Rattle.machine.specs.Words.{REGISTERS, FLAGS, OFFSETS, SOURCES}
+use Rattle.machine.specs.Words.{REGISTERS, FLAGS, OFFSETS, SOURCES, TIMERS}
 use Rattle.machine.specs.Stack.{sourcesOf, serviceFlags, shownTop}
 use Rattle.machine.specs.declared.Position.{Position}
 use Rattle.machine.specs.declared.Entry.{Entry}
@@ -52,6 +52,7 @@ positionTests q =
     implies (eqb (q .held) 0) (eqb (q .low) 0) ∷
     []
 
+-- all but the dividers
 unfoldable pub numberTests : Machine → List Bool
 numberTests m =
     allBelow (2 ^ 32) (m .set1) ∷
@@ -63,8 +64,9 @@ numberTests m =
     entriesFit (m .stack) ∷
     []
 
+-- "a divider at most 255" (02, wish 5)
 unfoldable pub question3 : Machine → Bool
-question3 m = all (numberTests m)
+question3 m = all (numberTests m) && allBelow 256 (m .dividers)
 
 -- ---- 4: every current or stacked PSR with UM 1 has both set bits 0
 
@@ -100,6 +102,7 @@ formTests m =
     eqb (length (m .set2)) REGISTERS ∷
     eqb (length (m .conditions)) FLAGS ∷
     eqb (length (m .control)) OFFSETS ∷
+    eqb (length (m .dividers)) TIMERS ∷
     question3 m ∷
     question4 m ∷
     question5 m ∷

@@ -125,7 +125,11 @@ fn numbers_fit(w: &[u32]) -> bool
     let control = all_held(&w[machine::CONTROL..machine::CONTROL + machine::OFFSETS]);
     let position = position_fits(machine::position_of(w));
     let entries = entries_pass(Test::Range, w);
-    status & conditions & control & position & entries
+    let dividers = all_below(
+        &w[machine::DIVIDERS..machine::DIVIDERS + machine::TIMERS],
+        256,
+    );
+    status & conditions & control & position & entries & dividers
 }
 
 // ---- question 4

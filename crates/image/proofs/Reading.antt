@@ -1,37 +1,43 @@
 -- Question 2 as the code asks it, and the words that it reads from an image. Assumes nothing.
-use mathlib.Core.Path.{_≡_, sym, ap, _∙_}
-use mathlib.Core.Bool.{true, false, _&&_, and-true, and-false, and-assoc}
-use mathlib.Core.List.{List}
-use Prim.Native.Nat.{ℕ, _+_, _*_, _/_, _≤_, _<_}
+use mathlib.Core.Path.{_≡_, refl, sym, ap, _∙_}
+use mathlib.Core.Bool.{Bool, true, false, _&&_, and-true, and-false, and-assoc}
+use mathlib.Core.List.{List, [], _∷_, _++_, append-assoc}
+use Prim.Native.Nat.{ℕ, suc, _+_, _-_, _*_, _/_, _≤_, _<_}
 use native.Mathlib.Omega.{arith}
-use lib.Dec.{eqb}
-use lib.ListN.{length, take}
+use native.Mathlib.Nat.{add-zero}
+use native.Mathlib.Numerals.{add-one}
+use lib.Dec.{eqb, lit<}
+use lib.ListN.{length, getD, set, drop}
 use borrow.Author.Tests.{le-leb, lt-leb, ne-eqb}
 use Rattle.word.specs.Choice.{if_then_else_}
+use Rattle.word.proofs.Tests.{and-parts}
 use Rattle.codec.specs.Number.{numberAt, numbersOf, over}
-use Rattle.codec.proofs.Laws.{getD-numbersOf, take-over, getD-over-front, length-over}
-use Rattle.machine.specs.Machine.{Machine}
-use Rattle.machine.specs.Words.{SOURCES, DEPTH, WORDS, machineOf}
+use Rattle.codec.proofs.Laws.{getD-numbersOf, length-over}
+use Rattle.machine.specs.Machine.{Machine, withDividers}
+use Rattle.machine.specs.Words.{SOURCES, TIMERS, ZEROS, WORDS, section, machineOf}
+use Rattle.machine.proofs.Lists.{pair, pair-set}
+use Rattle.machine.proofs.Flat.{section-at, section-length, dividers-length}
 use Rattle.formed.specs.Questions.{all, askMachine}
-use Rattle.image.specs.Image.{STACK-AT, countOf, machineIn, imageBytes, SHORTEST, sectionTests, question2, readImage}
-use Rattle.image.proofs.Sections.{Counted, same-order, machineIn-imageNumbers, depth-machineIn, counts-machineIn, imageNumbers-machineIn}
-use Rattle.image.proofs.Image.{sectioned}
+use Rattle.image.specs.Image.{sectionNumbers, STACK-AT, countOf, dividersAt, machineWith, machineIn, bytesToStack, LAST, sectionTests, fitsToStack, ToStack, question2, readWhere}
+use Rattle.image.specs.Earlier.{earlier2}
+use Rattle.image.proofs.Sections.{depth-machineWith, counts-machineWith, machineWith-numbers, all-words}
+use Rattle.image.proofs.Image.{Sectioned, sectioned, all-sections}
 
 -- ---- question 2
 
-module _ (s : List ℕ) where
-  pub sections-short : length s < SHORTEST → false ≡ question2 s
-  unfolding question2 sectionTests all
-  sections-short h = simp (ne-eqb (length s) (imageBytes (countOf STACK-AT (numbersOf s))) (λ e. omega arith))
+module _ (behind : ℕ) (s : List ℕ) where
+  pub sections-short : length s < bytesToStack 0 → false ≡ fitsToStack behind s
+  unfolding sectionTests all
+  sections-short h = simp (ne-eqb (length s) (bytesToStack (countOf STACK-AT (numbersOf s)) + behind) (λ e. omega arith))
 
-  pub sections-deep : SHORTEST ≤ length s → 12 < numberAt s 512 → false ≡ question2 s
-  unfolding question2 sectionTests all
+  pub sections-deep : bytesToStack 0 ≤ length s → 12 < numberAt s 512 → false ≡ fitsToStack behind s
+  unfolding sectionTests all
   sections-deep h d = simp (getD-numbersOf s 128 h, lt-leb (numberAt s 512) 12 d, and-false)
 
-  pub sections-counted : SHORTEST ≤ length s → numberAt s 512 ≤ 12
-      → eqb (length s) (imageBytes (numberAt s 512)) && eqb (numberAt s 0) 32 && eqb (numberAt s 132) 32 && eqb (numberAt s 264) 8
-      && eqb (numberAt s 300) 45 && eqb (numberAt s 484) 6 ≡ question2 s
-  unfolding question2 sectionTests all
+  pub sections-counted : bytesToStack 0 ≤ length s → numberAt s 512 ≤ 12
+      → eqb (length s) (bytesToStack (numberAt s 512) + behind) && eqb (numberAt s 0) 32 && eqb (numberAt s 132) 32 && eqb (numberAt s 264) 8
+      && eqb (numberAt s 300) 45 && eqb (numberAt s 484) 6 ≡ fitsToStack behind s
+  unfolding sectionTests all
   sections-counted h d =
       simp (
         getD-numbersOf s 128 h,
@@ -45,53 +51,93 @@ module _ (s : List ℕ) where
         and-true,
       )
 
--- ---- an image that passes question 2
+module _ (s : List ℕ) where
+  pub sections-last : fitsToStack LAST s ≡ true → eqb (numberAt s (length s - LAST)) TIMERS ≡ question2 s
+  unfolding question2
+  sections-last e =
+      let z = sectioned LAST s e in
+      let at = STACK-AT + 4 * countOf STACK-AT (numbersOf s) in
+      let same : length s - LAST ≡ 4 * at = omega (arith, z .exact) in
+      rw (e, getD-numbersOf s at (omega (arith, z .exact)), same)
 
--- words with the counts say the machine of the numbers before their last entry
-machine-front : (ws : List ℕ) → Counted ws → STACK-AT + 4 * countOf STACK-AT ws ≤ length ws → machineIn (take (STACK-AT + 4 * countOf STACK-AT ws) ws) ≡ machineIn ws
-machine-front ws c h = ap machineIn (sym (imageNumbers-machineIn ws c h)) ∙ machineIn-imageNumbers (machineIn ws) (counts-machineIn ws (omega arith))
+  pub sections-none : fitsToStack LAST s ≡ false → false ≡ question2 s
+  unfolding question2
+  sections-none e = rw e
+
+-- ---- an image that passes question 2, of either layout
+
+pub question2-stack : (s : List ℕ) → question2 s ≡ true → ToStack s
+unfolding question2
+question2-stack s e = record { behind = LAST; most = omega arith; fits = and-parts (fitsToStack LAST s) _ e .0 }
+
+pub earlier2-stack : (s : List ℕ) → earlier2 s ≡ true → ToStack s
+unfolding earlier2
+earlier2-stack s e = record { behind = 0; most = omega arith; fits = e }
 
 -- its numbers, laid over the words
-module _ (s w : List ℕ) (e : question2 s ≡ true) (h : length w ≡ WORDS) where
-  abbrev ws : List ℕ
-  ws = over (numbersOf s) w
+module _ (s w : List ℕ) (t : ToStack s) (h : length w ≡ WORDS) where
+  abbrev ns : List ℕ
+  ns = numbersOf s
+
+  fits : Sectioned (t .behind) s
+  fits = sectioned (t .behind) s (t .fits)
 
   pub read-fits : length s / 4 ≤ length w
-  read-fits = let z = sectioned s e in omega arith
+  read-fits = omega (arith, t .most, fits .exact, fits .deep)
 
-  read-depth : countOf STACK-AT ws ≡ countOf STACK-AT (numbersOf s)
-  read-depth = let z = sectioned s e in getD-over-front (numbersOf s) w DEPTH (omega arith)
+  -- the machine with any dividers is the one that the image's numbers say
+  read-front : (ds : List ℕ) → length ds ≡ TIMERS → machineWith ds (over ns w) ≡ machineWith ds ns
+  unfolding withDividers machineWith
+  read-front ds e =
+      let z = fits in
+      let long : STACK-AT + 4 * countOf STACK-AT ns ≤ length ns = omega (arith, z .words, z .exact) in
+      let m = machineWith ds ns in
+      let rest = drop (STACK-AT + 4 * countOf STACK-AT ns) ns in
+      let whole : over ns w ≡ sectionNumbers m ++ (rest ++ drop (length ns) w) =
+      ap (λ (l : List ℕ). l ++ drop (length ns) w) (sym (all-words ds ns (z .counted) long)) ∙ append-assoc (sectionNumbers m) rest (drop (length ns) w)
+      in
+      ap (machineWith ds) whole ∙ machineWith-numbers m (counts-machineWith ds ns e (omega arith)) (rest ++ drop (length ns) w) ds
 
-  read-counted : Counted ws
-  read-counted =
-      let z = sectioned s e in
-      record {
-        set1 = getD-over-front (numbersOf s) w 0 (omega arith) ∙ z .counted .set1;
-        set2 = getD-over-front (numbersOf s) w 33 (omega arith) ∙ z .counted .set2;
-        conditions = getD-over-front (numbersOf s) w 66 (omega arith) ∙ z .counted .conditions;
-        control = getD-over-front (numbersOf s) w 75 (omega arith) ∙ z .counted .control;
-        position = getD-over-front (numbersOf s) w 121 (omega arith) ∙ z .counted .position;
-      }
+  read-words : (a b : ℕ) → withDividers (a ∷ b ∷ []) (machineOf (over ns w)) ≡ machineWith (a ∷ b ∷ []) ns
+  unfolding withDividers machineOf machineWith
+  read-words a b = read-front (a ∷ b ∷ []) refl
 
-  read-length : length ws ≡ WORDS
-  read-length = let z = sectioned s e in length-over (numbersOf s) w (omega arith) ∙ h
+  -- and both dividers stored
+  pub read-stored : (a b : ℕ) (n last : Machine) → n ≡ withDividers (set (machineOf (over ns w) .dividers) 0 a) (machineOf (over ns w))
+      → last ≡ withDividers (set (n .dividers) 1 b) n → last ≡ machineWith (a ∷ b ∷ []) ns
+  unfolding withDividers
+  read-stored a b n last e f =
+      let ws = over ns w in
+      let size : length ws ≡ WORDS = length-over ns w (omega (arith, read-fits, fits .words)) ∙ h in
+      rw (f, e) (ap (λ (l : List ℕ). withDividers l (machineOf ws)) (pair-set (machineOf ws .dividers) a b (dividers-length ws size)) ∙ read-words a b)
 
-  -- the running words say the machine that the image's numbers say
-  pub read-words : machineOf ws ≡ machineIn (numbersOf s)
-  read-words =
-      let z = sectioned s e in
-      let l : STACK-AT + 4 * countOf STACK-AT ws ≡ length (numbersOf s) = rw read-depth (omega arith) in
-      let front : take (STACK-AT + 4 * countOf STACK-AT ws) ws ≡ numbersOf s = rw l (take-over (numbersOf s) w) in
-      let all = machine-front ws read-counted (omega (arith, read-length)) in
-      sym (ap machineIn (sym front) ∙ all ∙ same-order ws)
+  pub read-deep : length (machineOf (over ns w) .stack) ≤ SOURCES
+  unfolding withDividers
+  read-deep =
+      let same = ap (λ (m : Machine). length (m .stack)) (read-words 0 0) in
+      omega (arith, same, depth-machineWith ZEROS ns, fits .deep)
+
+-- the last section's two numbers
+pub read-dividers : (s : List ℕ) → question2 s ≡ true → machineWith (numberAt s (length s - 8) ∷ numberAt s (length s - 4) ∷ []) (numbersOf s) ≡ machineIn (numbersOf s)
+unfolding machineIn
+read-dividers s e =
+    let ns = numbersOf s in
+    let z = all-sections s e .0 in
+    let at = dividersAt ns in
+    let first : length s - 8 ≡ 4 * at = omega (arith, z .exact) in
+    let second : length s - 4 ≡ 4 * suc at = omega (arith, z .exact) in
+    let ds = section at TIMERS ns in
+    let two : ds ≡ getD ns at 0 ∷ getD ns (suc at) 0 ∷ [] =
+    pair ds (section-length ns at TIMERS (omega (arith, z .words, z .exact))) ∙ rw (section-at ns at TIMERS 0 (lit< tt), section-at ns at TIMERS 1 (lit< tt), add-zero at, add-one at)
+    in
+    rw (first, second, ← getD-numbersOf s at (omega (arith, z .exact)), ← getD-numbersOf s (suc at) (omega (arith, z .exact)), ← two)
 
 -- ---- questions 3 to 5 of it
 
-module _ (s : List ℕ) (e : question2 s ≡ true) where
-  pub said-deep : length (machineIn (numbersOf s) .stack) ≤ SOURCES
-  said-deep = let z = sectioned s e in omega (arith, depth-machineIn (numbersOf s))
+pub said-deep : (ds s : List ℕ) → ToStack s → length (machineWith ds (numbersOf s) .stack) ≤ SOURCES
+said-deep ds s t = omega (arith, sectioned (t .behind) s (t .fits) .deep, depth-machineWith ds (numbersOf s))
 
-  -- what is asked of words that say its machine is asked of it
-  pub said-asked : (m : Machine) → m ≡ machineIn (numbersOf s) → askMachine m ≡ readImage s
-  unfolding readImage if_then_else_
-  said-asked m same = rw (same, e)
+-- what is asked of words that say its machine is asked of it
+pub said-asked : (fits : Bool) (x m : Machine) → fits ≡ true → m ≡ x → askMachine m ≡ readWhere fits x
+unfolding readWhere if_then_else_
+said-asked fits x m e same = rw (same, e)

@@ -2,8 +2,9 @@
 use Rattle.codec.specs.Number.{numbersOf, bytesOf}
 use Rattle.formed.specs.Computed.{forms}
 use Rattle.image.specs.Image.{sections}
+use Rattle.image.specs.Earlier.{earlierLayout}
 use Rattle.image.specs.RoundTrip.{roundTrip}
 
 unfoldable pub images : Unit {0}
-unfolding numbersOf bytesOf forms sections roundTrip
+unfolding numbersOf bytesOf forms sections earlierLayout roundTrip
 images = tt

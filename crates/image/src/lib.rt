@@ -1,15 +1,21 @@
-// The machine image: question 2, reading, writing, and the image at reset. An image becomes the machine's words once; questions 3 to 5 are asked of those.
+// The machine image: question 2, reading and writing; and the earlier layout, without dividers. An image becomes the machine's words once; questions 3 to 5 are asked of those.
 ghost use mathlib.Core.Path.{_≡_};
 ghost use mathlib.Core.Bool.{true};
-ghost use Prim.Native.Nat.{_≤_};
+ghost use mathlib.Core.List.{[], _∷_};
+ghost use Prim.Native.Nat.{_+_, _≤_};
 ghost use lib.ListN.{length};
-ghost use Rattle.codec.specs.Number.{numbersOf, over};
-ghost use Rattle.machine.specs.Control.{reset as resetOf};
-ghost use Rattle.machine.specs.Words.{SOURCES, MachineWords, machineOf, Says};
-ghost use Rattle.image.specs.Image.{imageBytes, machineIn, question2, writeImage};
+ghost use Rattle.codec.specs.Number.{numbersOf, bytesOf, putAt, over};
+ghost use Rattle.machine.specs.Words.{SOURCES, TIMERS, MachineWords, machineOf, Says};
+ghost use Rattle.image.specs.Image.{machineWith, machineIn, LAST, imageBytes, fitsToStack, ToStack, question2, writeImage};
+ghost use Rattle.image.specs.Earlier.{earlierIn, earlier2};
 
-// Bytes of an image with no stack entries, and of the longest.
-pub const SHORTEST: usize = 4 * machine::ENTRIES;
+// Bytes of the last section: its count and the dividers.
+const LAST: usize = 4 * (1 + machine::TIMERS);
+
+// Bytes of an image with no stack entries, in the earlier layout and now, and of the longest.
+const EARLIER_SHORTEST: usize = 4 * machine::ENTRIES;
+
+pub const SHORTEST: usize = EARLIER_SHORTEST + LAST;
 
 pub const LONGEST: usize = 4 * machine::WORDS;
 
@@ -22,7 +28,9 @@ const OFFSETS: u32 = machine::OFFSETS as u32;
 
 const PLACES: u32 = machine::PLACES as u32;
 
-// Where they stand among an image's numbers, and among the running words, which have the same order.
+const TIMERS: u32 = machine::TIMERS as u32;
+
+// Where they stand among an image's numbers, and among the running words, which have the same order up to the stack.
 const SET1_COUNT: usize = machine::SET1 - 1;
 
 const SET2_COUNT: usize = machine::SET2 - 1;
@@ -37,18 +45,19 @@ const STACK_COUNT: usize = machine::DEPTH;
 
 // ---- question 2
 
-// Whether an image has exactly the sections and counts. The count at place n of the numbers begins at byte 4 × n.
-pub fn sections_fit(image: &[u8]) -> bool
-    ensures { λ r. ⌜ r ≡ question2 (now (image .entry)) ⌝ }
+// Whether an image has the sections up to the stack, with their counts, and so many bytes behind them. The count at place n of the numbers begins at byte 4 × n.
+fn sections_to_stack(image: &[u8], behind: usize) -> bool
+    requires { ⌜ behind ≤ LAST ⌝ }
+    ensures { λ r. ⌜ r ≡ fitsToStack behind (now (image .entry)) ⌝ }
 {
-    if image.len() < SHORTEST {
+    if image.len() < EARLIER_SHORTEST {
         return false;
     }
     let depth = codec::number_at(image, 4 * STACK_COUNT);
     if machine::SOURCES < depth {
         return false;
     }
-    let bytes = image.len() == SHORTEST + 16 * (depth as usize);
+    let bytes = image.len() == EARLIER_SHORTEST + 16 * (depth as usize) + behind;
     let set1 = codec::number_at(image, 4 * SET1_COUNT) == REGISTERS;
     let set2 = codec::number_at(image, 4 * SET2_COUNT) == REGISTERS;
     let conditions = codec::number_at(image, 4 * CONDITIONS_COUNT) == FLAGS;
@@ -57,19 +66,70 @@ pub fn sections_fit(image: &[u8]) -> bool
     bytes & set1 & set2 & conditions & control & position
 }
 
+// Whether an image has exactly the sections and counts.
+pub fn sections_fit(image: &[u8]) -> bool
+    ensures { λ r. ⌜ r ≡ question2 (now (image .entry)) ⌝ }
+{
+    if sections_to_stack(image, LAST) {
+        codec::number_at(image, image.len() - LAST) == TIMERS
+    } else {
+        false
+    }
+}
+
+// The same of an image of the earlier layout.
+pub fn earlier_fits(image: &[u8]) -> bool
+    ensures { λ r. ⌜ r ≡ earlier2 (now (image .entry)) ⌝ }
+{
+    sections_to_stack(image, 0)
+}
+
 // ---- reading
+
+// Reads the sections up to the stack into the machine's words, with these dividers.
+fn read_with(image: &[u8], w: &mut [u32], first: u32, second: u32)
+    requires { ⌜ MachineWords (now w) × ToStack (now image) ⌝ }
+    ensures { λ _. ⌜ Says (now (w .exit)) (machineWith (first ∷ second ∷ []) (numbersOf (now (image .entry)))) ⌝ }
+{
+    codec::read_numbers(image, w);
+    machine::set_divider(w, 0, first);
+    machine::set_divider(w, 1, second);
+}
 
 // Reads an image with its sections into the machine's words. Nothing is refused here: question 2 comes before anything lent is written.
 pub fn read(image: &[u8], w: &mut [u32])
     requires { ⌜ MachineWords (now w) × (question2 (now image) ≡ true) ⌝ }
     ensures { λ _. ⌜ Says (now (w .exit)) (machineIn (numbersOf (now (image .entry)))) ⌝ }
 {
-    codec::read_numbers(image, w);
+    let first = codec::number_at(image, image.len() - 8);
+    let second = codec::number_at(image, image.len() - 4);
+    read_with(image, w, first, second);
+}
+
+// The same of an image of the earlier layout; its machine has dividers 0.
+pub fn read_earlier(image: &[u8], w: &mut [u32])
+    requires { ⌜ MachineWords (now w) × (earlier2 (now image) ≡ true) ⌝ }
+    ensures { λ _. ⌜ Says (now (w .exit)) (earlierIn (numbersOf (now (image .entry)))) ⌝ }
+{
+    read_with(image, w, 0, 0);
 }
 
 // ---- writing
 
-// Writes the machine's image to the front of a buffer with room for it; the further bytes stay. The sections' counts, which the words need not hold, go over those of the words' bytes.
+// Writes the last section, the dividers after their count, to the bytes from a place on.
+fn write_last(w: &[u32], buffer: &mut [u8], at: usize)
+    requires { ⌜ MachineWords (now w) × (at + LAST ≤ length (now buffer)) ⌝ }
+    ensures { λ _. ⌜ now (buffer .exit) ≡ putAt (now (buffer .entry)) at (bytesOf (TIMERS ∷ machineOf (now (w .entry)) .dividers)) ⌝ }
+{
+    let first = machine::divider(w, 0);
+    let second = machine::divider(w, 1);
+    codec::put_number(buffer, at, TIMERS);
+    codec::put_number(buffer, at + 4, first);
+    codec::put_number(buffer, at + 8, second);
+}
+
+// Writes the machine's image to the front of a buffer with room for it; the further bytes stay. The sections' counts, which the words need not hold, go over those of the words' bytes,
+// and the last section behind the entries.
 pub fn write(w: &[u32], buffer: &mut [u8])
     requires { ⌜ MachineWords (now w) × (length (machineOf (now w) .stack) ≤ SOURCES) × (imageBytes (length (machineOf (now w) .stack)) ≤ length (now buffer)) ⌝ }
     ensures { λ _. ⌜ now (buffer .exit) ≡ over (writeImage (machineOf (now (w .entry)))) (now (buffer .entry)) ⌝ }
@@ -81,73 +141,5 @@ pub fn write(w: &[u32], buffer: &mut [u8])
     codec::put_number(buffer, 4 * CONDITIONS_COUNT, FLAGS);
     codec::put_number(buffer, 4 * CONTROL_COUNT, OFFSETS);
     codec::put_number(buffer, 4 * POSITION_COUNT, PLACES);
-}
-
-// ---- reset
-
-// The control registers at reset (002 section 2.9), by offset.
-const RESET: [u32; machine::OFFSETS] = [
-    0x0001_0000, // CCB_BASE
-    0x0001_0100, // PCB_BASE
-    0x0001_01FF, // PCB_END
-    0x0000_00FF, // PCB_AMASK
-    1, // COP0_INT_VEC
-    1, // COP1_INT_VEC
-    1, // COP2_INT_VEC
-    1, // COP3_INT_VEC
-    1, // EXT_INT0_VEC
-    1, // EXT_INT1_VEC
-    1, // EXT_INT2_VEC
-    1, // EXT_INT3_VEC
-    1, // EXT_INT4_VEC
-    1, // EXT_INT5_VEC
-    1, // EXT_INT6_VEC
-    1, // EXT_INT7_VEC
-    0xFFF, // INT_MODE_IL
-    0xFFF, // INT_MODE_UM
-    0, // INT_MASK
-    0, // INT_SERV
-    0, // INT_PEND
-    0, // EXT_INT_PRI
-    0, // COP_INT_PRI
-    0, // EXCEPTION_CS
-    0, // EXCEPTION_PC
-    0, // EXCEPTION_PSR
-    0, // DMEM_BOUND_LO
-    0xFFFF_FFFF, // DMEM_BOUND_HI
-    0, // IMEM_BOUND_LO
-    0xFFFF_FFFF, // IMEM_BOUND_HI
-    3, // MEM_CONF
-    0, // SYSTEM_ADDR
-    0, // EXCEP_ADDR
-    0xFFF, // BUS_CONF
-    0, // COP_CONF
-    0, // TMR0_CNT
-    0, // TMR0_MAX_CNT
-    0, // TMR1_CNT
-    0, // TMR1_MAX_CNT
-    0, // TMR_CONF
-    1, // RETI_ADDR
-    9, // RETI_PSR
-    0, // RETI_CR0
-    0, // FPU_STATUS
-    1, // CORE_VER_ID
-];
-
-// Where SPSR lies.
-const SPSR: usize = machine::SET2 + machine::SPSR as usize;
-
-// Words that say the machine at reset.
-pub fn reset() -> [u32; machine::WORDS]
-    ensures { λ r. ⌜ Says r resetOf ⌝ }
-{
-    let control = RESET;
-    let mut words = [0u32; machine::WORDS];
-    words[machine::PSR] = 0x0E;
-    words[SPSR] = 9;
-    codec::copy(
-        &control,
-        &mut words[machine::CONTROL..machine::CONTROL + machine::OFFSETS],
-    );
-    words
+    write_last(w, buffer, 4 * n);
 }

@@ -1,6 +1,6 @@
--- The premises of isolation can be met: two machines that differ in CCB_BASE, set 2, vectors, pending flags, the hardware stack, a protected
--- cell and a protected program byte, and two lists of calls that differ in requests, limits, buffers and refusals. Both have four
--- transitions, three in the segment and then the exception 07h. Assumes nothing.
+-- The premises of isolation can be met: two machines that differ in CCB_BASE, set 2, vectors, pending flags, timers that run, the hardware
+-- stack, a protected cell and a protected program byte, and two lists of calls that differ in requests, limits, buffers and refusals. Both have four
+-- transitions, three in the segment and then the exception 07h. And one whose second transition is a watchdog's reset. Assumes nothing.
 use mathlib.Core.Path.{_≡_, refl, sym, ap, _∙_}
 use mathlib.Core.Bool.{false, true≢false}
 use mathlib.Core.List.{List, [], _∷_, map}
@@ -13,13 +13,13 @@ use lib.Dec.{lit≤}
 use Rattle.isa.specs.Operation.{add, ld, st, Properties, properties}
 use Rattle.codec.specs.Number.{bytesOf}
 use Rattle.machine.specs.Machine.{Machine, PSR, positionAt, memoryOf}
-use Rattle.machine.specs.Control.{reset, within, CCB-BASE, INT-VECTORS, INT-PEND, DMEM-BOUND-LO, DMEM-BOUND-HI, IMEM-BOUND-LO, IMEM-BOUND-HI}
+use Rattle.machine.specs.Control.{reset, within, CCB-BASE, INT-VECTORS, INT-PEND, TMR0-CNT, TMR-CONF, DMEM-BOUND-LO, DMEM-BOUND-HI, IMEM-BOUND-LO, IMEM-BOUND-HI}
 use Rattle.machine.specs.Stack.{showStack}
 use Rattle.machine.specs.declared.Entry.{Entry}
 use Rattle.machine.proofs.Lists.{at-set-other}
 use Rattle.image.specs.Image.{writeImage}
 use Rattle.effect.specs.Apply.{Transition}
-use Rattle.effect.specs.Kind.{Kind, Ordinary, Exception}
+use Rattle.effect.specs.Kind.{Kind, Ordinary, Exception, Reset}
 use Rattle.emulator.specs.Run.{Call}
 use Rattle.isolation.specs.Isolation.{transition, isPreemption, segment, Session, startOf, transitionsOf, UserStart, Integrity, SameStart, SameTransition, Confidentiality, Isolation}
 use Rattle.isolation.specs.Computed.{sessions}
@@ -28,16 +28,17 @@ use Rattle.isolation.proofs.Isolation.{isolated}
 -- ---- the two machines
 
 -- user mode, 32-bit words, IE 1; data addresses 100h to 2FFh and program bytes 16 to 19 are protected
-machine : (base secret pending : ℕ) → List Entry → Machine
-machine base secret pending stack =
+machine : (base secret pending configuration count : ℕ) (dividers : List ℕ) → List Entry → Machine
+machine base secret pending configuration count dividers stack =
     record {
       set1 = set (set (replicate 32 0) 1 5) 2 0x100;
       set2 = set (replicate 32 secret) PSR 0x19;
       conditions = replicate 8 0;
       control = showStack stack
-          (set (set (set (set (set (set (set (reset .control) CCB-BASE base) INT-VECTORS secret) INT-PEND pending) DMEM-BOUND-LO 0x100) DMEM-BOUND-HI 0x2FF) IMEM-BOUND-LO 16) IMEM-BOUND-HI 19);
+          (set (set (set (set (set (set (set (set (set (reset .control) CCB-BASE base) INT-VECTORS secret) INT-PEND pending) TMR0-CNT count) TMR-CONF configuration) DMEM-BOUND-LO 0x100) DMEM-BOUND-HI 0x2FF) IMEM-BOUND-LO 16) IMEM-BOUND-HI 19);
       position = positionAt 0;
       stack = stack;
+      dividers = dividers;
     }
 
 entry : (source address : ℕ) → Entry
@@ -65,24 +66,24 @@ call requests limit room = record { requests = requests; limit = limit; buffer =
 
 left : Session
 left =
-    let m = machine 0x100 3 0 (entry 4 8 ∷ []) in
+    let m = machine 0x100 3 0 0xE200 0 (0 ∷ 9 ∷ []) (entry 4 8 ∷ []) in
     record {
       program = program;
       image = writeImage m;
       machine = m;
       memory = memoryOf cells;
-      calls = call [] 1 708 ∷ call [] 1000001 708 ∷ call [] 0 708 ∷ call [] 3 707 ∷ call [] 3 708 ∷ [];
+      calls = call [] 1 720 ∷ call [] 1000001 720 ∷ call [] 0 720 ∷ call [] 3 719 ∷ call [] 3 720 ∷ [];
     }
 
 right : Session
 right =
-    let m = machine 0x200 99 5 (entry 5 12 ∷ entry 7 4 ∷ []) in
+    let m = machine 0x200 99 5 0x9002_8001 0xFFFF_FFFE (1 ∷ 2 ∷ []) (entry 5 12 ∷ entry 7 4 ∷ []) in
     record {
       program = set program 16 0xFF;
       image = writeImage m;
       machine = m;
       memory = memoryOf (set cells 0x100 7);
-      calls = call (7 ∷ 0 ∷ []) 3 800 ∷ call (4096 ∷ []) 1 708 ∷ call (0xFFF ∷ []) 1 708 ∷ [];
+      calls = call (7 ∷ 0 ∷ []) 3 800 ∷ call (4096 ∷ []) 1 720 ∷ call (0xFFF ∷ []) 1 720 ∷ [];
     }
 
 -- ---- their transitions
@@ -183,3 +184,27 @@ each k h =
     compared (suc k) (after left k) (after right k)
     (there (transitionsOf left) k _ (rw (count-of left left-kinds) h)) (there (transitionsOf right) k _ (rw (count-of right right-kinds) h))
     (rw left-segment h) (rw right-segment h) (calm-after left left-kinds k) (calm-after right right-kinds k)
+
+-- ---- a watchdog's reset ends a segment
+
+-- timer 0 goes from FFFFFFFEh to FFFFFFFFh and to 0, its maximum, and WDOG is 1
+watched : Session
+watched =
+    let m = machine 0x100 3 0 0x9000 0xFFFF_FFFE (0 ∷ 0 ∷ []) [] in
+    record { program = program; image = writeImage m; machine = m; memory = memoryOf cells; calls = call [] 3 720 ∷ [] }
+
+watched-kinds : map kind-of (transitionsOf watched) ≡ Ordinary ∷ Reset ∷ Ordinary ∷ []
+unfolding sessions watched call program cells machine kind-of
+watched-kinds = refl
+
+watched-segment : length (segment (transitionsOf watched)) ≡ 1
+unfolding sessions watched call program cells machine
+watched-segment = refl
+
+watched-start : UserStart watched
+unfolding sessions watched machine
+watched-start = record { read = refl; user = refl; blockLow = lit≤ tt; blockHigh = lit≤ tt }
+
+watched-kept : Integrity watched
+unfolding Isolation
+watched-kept = isolated .0 watched watched-start

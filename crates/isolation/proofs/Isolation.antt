@@ -1,5 +1,5 @@
 -- The isolation of user mode, proved: `isolated`. Assumes nothing.
-use mathlib.Core.Path.{_≡_, sym, ap, _∙_}
+use mathlib.Core.Path.{_≡_, refl, sym, ap, _∙_}
 use mathlib.Core.Bool.{false, true≢false, _||_}
 use mathlib.Core.List.{List, [], _∷_}
 use mathlib.Core.Option.{some}
@@ -9,6 +9,7 @@ use native.Mathlib.Nat.{le-of-suc-le-suc}
 use lib.Dec.{lit<}
 use lib.ListN.{length, getElem?}
 use Rattle.word.specs.Choice.{if_then_else_}
+use Rattle.word.specs.Flags.{isAmong}
 use Rattle.word.proofs.Tests.{or-parts, if-holds}
 use Rattle.machine.specs.Machine.{State}
 use Rattle.machine.specs.Control.{controlAt, IMEM-BOUND-LO, IMEM-BOUND-HI}
@@ -71,7 +72,8 @@ abbrev SamePrograms : (p q : List ℕ) → State → Type 0
 SamePrograms p q s = SameBytes (controlAt (s .machine) IMEM-BOUND-LO) (controlAt (s .machine) IMEM-BOUND-HI) p q
 
 programs-later : (p q : List ℕ) {s t : State} → Kept s t → SamePrograms p q s → SamePrograms p q t
-programs-later p q k b = rw (kept-control k IMEM-BOUND-LO (omega arith), kept-control k IMEM-BOUND-HI (omega arith)) b
+unfolding isAmong
+programs-later p q k b = rw (kept-control k IMEM-BOUND-LO refl, kept-control k IMEM-BOUND-HI refl) b
 
 agree-on : (t u : Transition) → Agree t u → On t → Low (t .after) (u .after)
 agree-on t u (goOn a b l) on = l

@@ -1,17 +1,18 @@
 -- States in user mode: what is kept from one to the next, and what two of them agree on. Assumes nothing.
 use mathlib.Core.Path.{_≡_, refl, sym, ap, _∙_}
-use mathlib.Core.Logic.{_≢_}
 use mathlib.Core.Bool.{true, false}
 use Prim.Native.Nat.{ℕ, _+_, _%_, _^_, _≤_}
-use native.Mathlib.Omega.{arith}
-use lib.ListN.{length, getElem?}
+use lib.ListN.{length, getD, getElem?}
 use Rattle.word.specs.Arithmetic.{orOf}
-use Rattle.machine.specs.Machine.{State, psr, userMode, withControl}
+use Rattle.word.specs.Flags.{isAmong}
+use Rattle.word.proofs.Flags.{apart-among}
+use Rattle.machine.specs.Machine.{Machine, State, PSR, psr, userMode, withControl}
 use Rattle.machine.specs.Control.{controlAt, protectedCell, CCB-BASE, INT-PEND, DMEM-BOUND-LO, DMEM-BOUND-HI, IMEM-BOUND-LO, IMEM-BOUND-HI, withPending}
 use Rattle.machine.proofs.Lists.{at-set-other, same-getD}
+use Rattle.timer.specs.Theorems.{ClockKept}
 use Rattle.view.specs.View.{nestedBy}
 use Rattle.step.specs.Interrupt.{withRequests}
-use Rattle.isolation.specs.Isolation.{Kept, SameShown}
+use Rattle.isolation.specs.Isolation.{EXCEPTED, Kept, SameShown}
 use Rattle.isolation.proofs.User.{User, Alike, Guarded, user-bit}
 
 -- in user mode, the control block wholly protected
@@ -25,11 +26,12 @@ mode-user {s} i = user-bit (psr (s .machine)) (i .user .status)
 
 -- ---- what is kept
 
-pub kept-control : {s t : State} → Kept s t → (n : ℕ) → n ≢ INT-PEND → controlAt (t .machine) n ≡ controlAt (s .machine) n
+pub kept-control : {s t : State} → Kept s t → (n : ℕ) → isAmong n EXCEPTED ≡ false → controlAt (t .machine) n ≡ controlAt (s .machine) n
 kept-control {s} {t} k n h = same-getD (t .machine .control) (s .machine .control) n 0 (k .control n h)
 
 kept-protected : {s t : State} → Kept s t → (a : ℕ) → protectedCell (t .machine) a ≡ protectedCell (s .machine) a
-kept-protected k a = cc (kept-control k DMEM-BOUND-LO (omega arith), kept-control k DMEM-BOUND-HI (omega arith))
+unfolding isAmong
+kept-protected k a = cc (kept-control k DMEM-BOUND-LO refl, kept-control k DMEM-BOUND-HI refl)
 
 pub kept-trans : {s t u : State} → Kept s t → Kept t u → Kept s u
 kept-trans k l =
@@ -54,11 +56,12 @@ guarded-kept {s} {t} g u c =
     }
 
 pub mode-later : {s t : State} → Mode s → Kept s t → User (t .machine) → Mode t
+unfolding isAmong
 mode-later i k u =
     record {
       user = u;
-      blockLow = rw (kept-control k DMEM-BOUND-LO (omega arith), kept-control k CCB-BASE (omega arith)) (i .blockLow);
-      blockHigh = rw (kept-control k CCB-BASE (omega arith), kept-control k DMEM-BOUND-HI (omega arith)) (i .blockHigh);
+      blockLow = rw (kept-control k DMEM-BOUND-LO refl, kept-control k CCB-BASE refl) (i .blockLow);
+      blockHigh = rw (kept-control k CCB-BASE refl, kept-control k DMEM-BOUND-HI refl) (i .blockHigh);
     }
 
 -- ---- what two states agree on
@@ -79,6 +82,7 @@ low-alike l = record { set1 = l .shown .set1; conditions = l .shown .conditions;
 pub low-later : {s t s′ t′ : State} → Low s t → Kept s s′ → Kept t t′ → Alike (s′ .machine) (t′ .machine)
     → ((a : ℕ) → protectedCell (s .machine) a ≡ false → getElem? (s′ .memory .cells) a ≡ getElem? (t′ .memory .cells) a) → length (s′ .memory .cells) ≡ length (t′ .memory .cells)
     → Low s′ t′
+unfolding isAmong
 low-later {s} {t} {s′} {t′} l k h a c z =
     record {
       shown = record {
@@ -89,14 +93,14 @@ low-later {s} {t} {s′} {t′} l k h a c z =
         cells = λ n e. c n (sym (kept-protected k n) ∙ e);
       };
       nested = ap nestedBy (k .stack) ∙ l .nested ∙ sym (ap nestedBy (h .stack));
-      dmemLow = bound DMEM-BOUND-LO (omega arith) (l .dmemLow);
-      dmemHigh = bound DMEM-BOUND-HI (omega arith) (l .dmemHigh);
-      imemLow = bound IMEM-BOUND-LO (omega arith) (l .imemLow);
-      imemHigh = bound IMEM-BOUND-HI (omega arith) (l .imemHigh);
+      dmemLow = bound DMEM-BOUND-LO refl (l .dmemLow);
+      dmemHigh = bound DMEM-BOUND-HI refl (l .dmemHigh);
+      imemLow = bound IMEM-BOUND-LO refl (l .imemLow);
+      imemHigh = bound IMEM-BOUND-HI refl (l .imemHigh);
       dataSize = z;
     }
   where
-    bound : (n : ℕ) → n ≢ INT-PEND → controlAt (s .machine) n ≡ controlAt (t .machine) n → controlAt (s′ .machine) n ≡ controlAt (t′ .machine) n
+    bound : (n : ℕ) → isAmong n EXCEPTED ≡ false → controlAt (s .machine) n ≡ controlAt (t .machine) n → controlAt (s′ .machine) n ≡ controlAt (t′ .machine) n
     bound n d e = kept-control k n d ∙ e ∙ sym (kept-control h n d)
 
 -- ---- the requests of a step
@@ -106,11 +110,11 @@ unfolding withRequests withPending withControl psr
 requests-user q s u = record { room = u .room; status = u .status }
 
 pub requests-kept : (q : ℕ) (s : State) → Mode s → Kept s (withRequests q s)
-unfolding withRequests withPending withControl psr
+unfolding withRequests withPending withControl psr isAmong
 requests-kept q s i =
     record {
       set2 = λ n h. refl;
-      control = λ n h. at-set-other (s .machine .control) INT-PEND n (orOf (controlAt (s .machine) INT-PEND) q % 2 ^ 12) h;
+      control = λ n h. at-set-other (s .machine .control) INT-PEND n (orOf (controlAt (s .machine) INT-PEND) q % 2 ^ 12) (apart-among EXCEPTED n INT-PEND refl h);
       stack = refl;
       cells = λ a h. refl;
       user = mode-user i;
@@ -125,3 +129,34 @@ requests-low q r s t i j l =
     let a = low-alike l in
     low-later l (requests-kept q s i) (requests-kept r t j)
     (record { set1 = a .set1; conditions = a .conditions; status = a .status; position = a .position }) (l .shown .cells) (l .dataSize)
+
+-- ---- a clock that does not reset
+
+-- the machine has all but the excepted registers and the dividers, the memory is the same
+module _ {s t : State} (m : ClockKept (s .machine) (t .machine)) (e : t .memory ≡ s .memory) (i : Mode s) where
+  clock-user : User (t .machine)
+  unfolding psr
+  clock-user = record { room = rw (m .set2) (i .user .room); status = rw (m .set2) (i .user .status) }
+
+  pub clock-kept : Kept s t
+  clock-kept =
+      record {
+        set2 = λ n h. ap (λ l. getElem? l n) (m .set2);
+        control = m .control;
+        stack = m .stack;
+        cells = λ a h. ap (λ c. getElem? (c .cells) a) e;
+        user = user-bit (psr (t .machine)) (clock-user .status);
+      }
+
+  pub clock-mode : Mode t
+  clock-mode = mode-later i clock-kept clock-user
+
+pub clock-alike : {m n m′ n′ : Machine} → ClockKept m m′ → ClockKept n n′ → Alike m n → Alike m′ n′
+unfolding psr
+clock-alike k h a =
+    record {
+      set1 = k .set1 ∙ a .set1 ∙ sym (h .set1);
+      conditions = k .conditions ∙ a .conditions ∙ sym (h .conditions);
+      status = ap (λ l. getD l PSR 0) (k .set2) ∙ a .status ∙ sym (ap (λ l. getD l PSR 0) (h .set2));
+      position = k .position ∙ a .position ∙ sym (h .position);
+    }

@@ -4,13 +4,15 @@ use mathlib.Core.Bool.{true, false, true≢false}
 use mathlib.Core.List.{List}
 use mathlib.Core.Option.{Option, none, some}
 use Prim.Native.Nat.{ℕ, _%_, _^_}
-use native.Mathlib.Omega.{arith}
-use lib.ListN.{length-set}
+use lib.ListN.{length, getElem?, length-set}
 use Rattle.word.specs.Choice.{if_then_else_}
+use Rattle.word.specs.Flags.{isAmong}
 use Rattle.word.proofs.Tests.{if-false}
 use Rattle.machine.specs.Machine.{Machine, State, LINK, userMode}
 use Rattle.machine.specs.Control.{controlAt, within, protectedCell, DMEM-BOUND-LO, DMEM-BOUND-HI, IMEM-BOUND-LO, IMEM-BOUND-HI}
 use Rattle.machine.proofs.Lists.{at-set-other, at-set-same}
+use Rattle.timer.specs.Theorems.{ClockKept}
+use Rattle.timer.proofs.Theorems.{kept-refl, clock-keeps}
 use Rattle.view.specs.View.{View, view}
 use Rattle.execute.specs.Decide.{decide}
 use Rattle.effect.specs.Update.{Update}
@@ -22,10 +24,11 @@ use Rattle.effect.specs.Apply.{wordsOn, Transition, machineOnly, storeCell, upd
 use Rattle.effect.specs.Kind.{Kind}
 use Rattle.effect.specs.Kind as kind
 use Rattle.step.specs.Interrupt.{withRequests, acceptedSource}
-use Rattle.step.specs.Step.{isStop, interruptOr, step}
+use Rattle.step.specs.Step.{isStop, interruptOr, withClock, unclocked, step}
+use Rattle.step.proofs.Clocks.{clock-holds}
 use Rattle.isolation.specs.Isolation.{Kept, isExit, isPreemption}
 use Rattle.isolation.proofs.User.{Confined, confined-then, confined-conditions, register-confined, result-confined, flags-confined, words-public, advance-confined, holding-confined, jump-confined, enable-confined, switch-confined}
-use Rattle.isolation.proofs.States.{Mode, Low, mode-user, kept-control, kept-trans, guarded-kept, mode-later, low-alike, low-later, requests-kept, requests-mode, requests-low}
+use Rattle.isolation.proofs.States.{Mode, Low, mode-user, kept-control, kept-trans, guarded-kept, mode-later, low-alike, low-later, requests-kept, requests-mode, requests-low, clock-kept, clock-mode, clock-alike}
 use Rattle.isolation.proofs.Views.{SameBytes, no-block, view-same}
 
 -- ---- what an effect is in user mode
@@ -123,7 +126,7 @@ course-agree s t i j l e (exits k x h) = exit (ap isExit (h s) ∙ x) (h s ∙ s
 course-agree s t i j l e (updates c h) = rw (h s, h t) (updated-agree c s t i j l)
 course-agree s t i j l e (stores a x o h) = rw (h s, h t) (stored-agree a x s t i j l o)
 
--- ---- the step
+-- ---- the step before its clock
 
 -- what a step makes of its instruction's transition: a stop leaves everything as before
 unfoldable settled : State → Transition → Transition
@@ -140,6 +143,7 @@ no-stop kind.Interrupt e = refl
 no-stop kind.SystemCall e = refl
 no-stop kind.InterruptReturn e = refl
 no-stop (kind.Exception c) e = refl
+no-stop kind.Reset e = refl
 no-stop (kind.Stop n) e = e
 
 settled-on : (s : State) (t : Transition) → isExit (t .kind) ≡ false → settled s t ≡ t
@@ -158,27 +162,28 @@ unpreempted v (some n) s e = absurd (true≢false e)
 abbrev instructed : (p : List ℕ) (s : State) → Transition
 instructed p s = apply (decide (view p s)) s
 
-step-as : (p : List ℕ) (s : State) (q : ℕ) → isPreemption (step p s q .kind) ≡ false → step p s q ≡ settled s (instructed p (withRequests q s))
-unfolding step settled
-step-as p s q e =
+unclocked-as : (p : List ℕ) (s : State) (q : ℕ) → isPreemption (unclocked p s q .kind) ≡ false → unclocked p s q ≡ settled s (instructed p (withRequests q s))
+unfolding unclocked settled
+unclocked-as p s q e =
     let r = withRequests q s in
     ap (settled s) (unpreempted (view p r) (acceptedSource (view p r) (r .machine)) r e)
 
 instructed-kept : (p : List ℕ) (s : State) → Mode s → isExit (instructed p s .kind) ≡ false → Kept s (instructed p s .after) × Mode (instructed p s .after)
 instructed-kept p s i e = let d = decide (view p s) in course-kept s i d (course p s i d (decide-safe p s)) e
 
-pub step-kept : (p : List ℕ) (s : State) (q : ℕ) → Mode s → On (step p s q) → Kept s (step p s q .after) × Mode (step p s q .after)
-step-kept p s q i on =
+unclocked-kept : (p : List ℕ) (s : State) (q : ℕ) → Mode s → On (unclocked p s q) → Kept s (unclocked p s q .after) × Mode (unclocked p s q .after)
+unclocked-kept p s q i on =
     let r = withRequests q s in
-    let a = step-as p s q (on .1) in
+    let a = unclocked-as p s q (on .1) in
     let e : isExit (instructed p r .kind) ≡ false = sym (ap isExit (ap (λ (t : Transition). t .kind) a ∙ settled-kind s (instructed p r))) ∙ on .0 in
     let k = instructed-kept p r (requests-mode q s i) e in
     rw (a ∙ settled-on s (instructed p r) e) (kept-trans (requests-kept q s i) (k .0), k .1)
 
-pub step-agree : (p p′ : List ℕ) (s t : State) (q q′ : ℕ) → Mode s → Mode t → Low s t
+unclocked-agree : (p p′ : List ℕ) (s t : State) (q q′ : ℕ) → Mode s → Mode t → Low s t
     → SameBytes (controlAt (s .machine) IMEM-BOUND-LO) (controlAt (s .machine) IMEM-BOUND-HI) p p′
-    → isPreemption (step p s q .kind) ≡ false → isPreemption (step p′ t q′ .kind) ≡ false → Agree (step p s q) (step p′ t q′)
-step-agree p p′ s t q q′ i j l b c d =
+    → isPreemption (unclocked p s q .kind) ≡ false → isPreemption (unclocked p′ t q′ .kind) ≡ false → Agree (unclocked p s q) (unclocked p′ t q′)
+unfolding isAmong
+unclocked-agree p p′ s t q q′ i j l b c d =
     let s′ = withRequests q s in
     let t′ = withRequests q′ t in
     let i′ = requests-mode q s i in
@@ -186,7 +191,58 @@ step-agree p p′ s t q q′ i j l b c d =
     let l′ = requests-low q q′ s t i j l in
     let k = requests-kept q s i in
     let b′ : SameBytes (controlAt (s′ .machine) IMEM-BOUND-LO) (controlAt (s′ .machine) IMEM-BOUND-HI) p p′ =
-    rw (kept-control k IMEM-BOUND-LO (omega arith), kept-control k IMEM-BOUND-HI (omega arith)) b in
+    rw (kept-control k IMEM-BOUND-LO refl, kept-control k IMEM-BOUND-HI refl) b in
     let e = decide (view p s′) in
     let x = course-agree s′ t′ i′ j′ l′ e (course p s′ i′ e (decide-safe p s′)) in
-    rw (step-as p s q c, step-as p′ t q′ d, ← (view-same p p′ s′ t′ i′ j′ l′ b′)) (settled-agree s t (apply e s′) (apply e t′) x)
+    rw (unclocked-as p s q c, unclocked-as p′ t q′ d, ← (view-same p p′ s′ t′ i′ j′ l′ b′)) (settled-agree s t (apply e s′) (apply e t′) x)
+
+-- ---- the clock
+
+-- a transition with its clock, which did not reset
+record Unreset (t x : Transition) : Type 0 where
+  kind : x .kind ≡ t .kind
+  machine : ClockKept (t .after .machine) (x .after .machine)
+  memory : x .after .memory ≡ t .after .memory
+
+unreset : (t : Transition) → isPreemption (withClock t .kind) ≡ false → Unreset t (withClock t)
+unfolding isPreemption
+unreset t =
+    clock-holds t (λ (x : Transition). isPreemption (x .kind) ≡ false → Unreset t x)
+    (λ _ _. record { kind = refl; machine = kept-refl (t .after .machine); memory = refl })
+    (λ _ _ e. absurd (true≢false e))
+    (λ _ r _. record { kind = refl; machine = clock-keeps (t .after .machine) r; memory = refl })
+
+unreset-kept : {t x : Transition} → Unreset t x → Mode (t .after) → Kept (t .after) (x .after) × Mode (x .after)
+unreset-kept z i = (clock-kept (z .machine) (z .memory) i, clock-mode (z .machine) (z .memory) i)
+
+unreset-on : {t x : Transition} → Unreset t x → On x → On t
+unreset-on z on = (ap isExit (sym (z .kind)) ∙ on .0, ap isPreemption (sym (z .kind)) ∙ on .1)
+
+unreset-agree : {t u x y : Transition} → Unreset t x → Unreset u y → (isExit (t .kind) ≡ false → Mode (t .after)) → (isExit (u .kind) ≡ false → Mode (u .after)) → Agree t u → Agree x y
+unreset-agree z w i j (goOn a b l) =
+    goOn (ap isExit (z .kind) ∙ a) (ap isExit (w .kind) ∙ b)
+    (low-later l (unreset-kept z (i a) .0) (unreset-kept w (j b) .0) (clock-alike (z .machine) (w .machine) (low-alike l))
+    (λ n h. ap (λ c. getElem? (c .cells) n) (z .memory) ∙ l .shown .cells n h ∙ sym (ap (λ c. getElem? (c .cells) n) (w .memory)))
+    (ap (λ c. length (c .cells)) (z .memory) ∙ l .dataSize ∙ sym (ap (λ c. length (c .cells)) (w .memory))))
+unreset-agree z w i j (exit a e) = exit (ap isExit (z .kind) ∙ a) (z .kind ∙ e ∙ sym (w .kind))
+
+-- ---- the step
+
+pub step-kept : (p : List ℕ) (s : State) (q : ℕ) → Mode s → On (step p s q) → Kept s (step p s q .after) × Mode (step p s q .after)
+unfolding step
+step-kept p s q i on =
+    let z = unreset (unclocked p s q) (on .1) in
+    let k = unclocked-kept p s q i (unreset-on z on) in
+    let c = unreset-kept z (k .1) in
+    (kept-trans (k .0) (c .0), c .1)
+
+pub step-agree : (p p′ : List ℕ) (s t : State) (q q′ : ℕ) → Mode s → Mode t → Low s t
+    → SameBytes (controlAt (s .machine) IMEM-BOUND-LO) (controlAt (s .machine) IMEM-BOUND-HI) p p′
+    → isPreemption (step p s q .kind) ≡ false → isPreemption (step p′ t q′ .kind) ≡ false → Agree (step p s q) (step p′ t q′)
+unfolding step
+step-agree p p′ s t q q′ i j l b c d =
+    let z = unreset (unclocked p s q) c in
+    let w = unreset (unclocked p′ t q′) d in
+    let c′ = ap isPreemption (sym (z .kind)) ∙ c in
+    let d′ = ap isPreemption (sym (w .kind)) ∙ d in
+    unreset-agree z w (λ e. unclocked-kept p s q i (e, c′) .1) (λ e. unclocked-kept p′ t q′ j (e, d′) .1) (unclocked-agree p p′ s t q q′ i j l b c′ d′)

@@ -7,14 +7,15 @@ use mathlib.Core.Option.{Option, none, some}
 use Prim.Native.Nat.{ℕ, zero, suc, _+_, _≤_}
 use lib.ListN.{length, getElem?}
 use Rattle.word.specs.Choice.{if_then_else_}
+use Rattle.word.specs.Flags.{isAmong}
 use Rattle.machine.specs.Machine.{Machine, Memory, State, PSR, psr, userMode}
-use Rattle.machine.specs.Control.{controlAt, protectedCell, protectedByte, CCB-BASE, INT-PEND, DMEM-BOUND-LO, DMEM-BOUND-HI, IMEM-BOUND-LO, IMEM-BOUND-HI}
+use Rattle.machine.specs.Control.{controlAt, protectedCell, protectedByte, CCB-BASE, ASYNCHRONOUS, DMEM-BOUND-LO, DMEM-BOUND-HI, IMEM-BOUND-LO, IMEM-BOUND-HI}
 use Rattle.formed.specs.Questions.{Accepted}
 use Rattle.image.specs.Image.{readImage}
 use Rattle.view.specs.View.{nestedBy}
 use Rattle.effect.specs.Apply.{Transition}
 use Rattle.emulator.specs.Run.{Call, stateWith, transitions}
-use Rattle.effect.specs.Kind.{Kind, Ordinary, Interrupt, SystemCall, InterruptReturn, Exception, Stop}
+use Rattle.effect.specs.Kind.{Kind, Ordinary, Interrupt, SystemCall, InterruptReturn, Exception, Reset, Stop}
 
 -- ---- which transitions are compared (01: a transition is a turn)
 
@@ -30,15 +31,17 @@ isExit Interrupt = false
 isExit SystemCall = true
 isExit InterruptReturn = true
 isExit (Exception c) = true
+isExit Reset = false
 isExit (Stop n) = true
 
--- "when it accepts an interrupt" (01: cut)
+-- "when it accepts an interrupt" (01: cut); "a turn whose clock resets the core is a cut" (02, wish 5), whatever its instruction was
 unfoldable pub isPreemption : Kind → Bool
 isPreemption Ordinary = false
 isPreemption Interrupt = true
 isPreemption SystemCall = false
 isPreemption InterruptReturn = false
 isPreemption (Exception c) = false
+isPreemption Reset = true
 isPreemption (Stop n) = false
 
 -- all transitions before the first exit or preemption (01: stretch)
@@ -82,10 +85,14 @@ pub record UserStart (a : Session) : Type 0 where
 
 -- ---- first half: what is protected stays as it was
 
--- set 2 but the status, control registers but the pending flags, the hardware stack, protected cells; and user mode stays
+-- the control registers that the claim excepts: "both counts besides the pending flags" (02, wish 5)
+abbrev pub EXCEPTED : List ℕ
+EXCEPTED = ASYNCHRONOUS
+
+-- set 2 but the status, control registers but those excepted, the hardware stack, protected cells; and user mode stays
 pub record Kept (before after : State) : Type 0 where
   pub set2 : (n : ℕ) → n ≢ PSR → getElem? (after .machine .set2) n ≡ getElem? (before .machine .set2) n
-  pub control : (n : ℕ) → n ≢ INT-PEND → getElem? (after .machine .control) n ≡ getElem? (before .machine .control) n
+  pub control : (n : ℕ) → isAmong n EXCEPTED ≡ false → getElem? (after .machine .control) n ≡ getElem? (before .machine .control) n
   pub stack : after .machine .stack ≡ before .machine .stack
   pub cells : (a : ℕ) → protectedCell (before .machine) a ≡ true → getElem? (after .memory .cells) a ≡ getElem? (before .memory .cells) a
   pub user : userMode (psr (after .machine)) ≡ true
@@ -104,8 +111,8 @@ pub record SameShown (s t : State) : Type 0 where
   pub position : s .machine .position ≡ t .machine .position
   pub cells : (a : ℕ) → protectedCell (s .machine) a ≡ false → getElem? (s .memory .cells) a ≡ getElem? (t .memory .cells) a
 
--- two starts that differ in nothing but set 2 (the status apart), control registers (the bounds apart), the entries of the hardware
--- stack, protected cells and protected program bytes; of the stack, whether it is empty is equal, for reti asks it (stop 15)
+-- two starts that differ in nothing but set 2 (the status apart), control registers (the bounds apart; the timers' counts among them), the
+-- dividers, the entries of the hardware stack, protected cells and protected program bytes; of the stack, whether it is empty is equal, for reti asks it (stop 15)
 pub record SameStart (a b : Session) : Type 0 where
   pub shown : SameShown (startOf a) (startOf b)
   pub nested : nestedBy (a .machine .stack) ≡ nestedBy (b .machine .stack)

@@ -13,10 +13,10 @@ use lib.ListN.{length, getD, set, take, drop, length-drop, length-reverse, List�
 use lib.Seq.{drop-set-add, drop-set-lt, take-set-lt, take-set-le, getD-set-same, getD-set-other, getD-take, getD-drop, drop-drop, length-take-le, sets, sets-eq, length-sets, take-at, drop-at}
 use borrow.Author.Tests.{leb-true, eq-eqb, ne-eqb}
 use Rattle.word.specs.Choice.{if_then_else_}
-use Rattle.machine.specs.Machine.{Machine, PSR, withSet1, withSet2, withConditions, withControl, withPosition, setBy, withRegister, written}
+use Rattle.machine.specs.Machine.{Machine, PSR, withSet1, withSet2, withConditions, withControl, withPosition, withDividers, setBy, withRegister, written}
 use Rattle.machine.specs.Control.{controlAt, INT-SERV, RETI-ADDR, RETI-PSR, RETI-CR0}
 use Rattle.machine.specs.Stack.{popped, serviceFlags, shownTop, showTop, showStack, withStack}
-use Rattle.machine.specs.Words.{SET1, SET2, CONDITIONS, CONTROL, POSITION, DEPTH, ENTRIES, WORDS, startBy, section, positionOf, entryOf, entriesOf, machineOf}
+use Rattle.machine.specs.Words.{SET1, SET2, CONDITIONS, CONTROL, POSITION, SOURCES, TIMERS, DEPTH, ENTRIES, DIVIDERS, WORDS, startBy, section, positionOf, entryOf, entriesOf, machineOf}
 use Rattle.machine.specs.declared.Position.{Position}
 use Rattle.machine.specs.declared.Entry.{Entry}
 
@@ -88,6 +88,10 @@ module _ (w : List ℕ) (h : length w ≡ WORDS) where
   pub control-length : length (machineOf w .control) ≡ 45
   unfolding machineOf
   control-length = section-length w CONTROL 45 (omega arith)
+
+  pub dividers-length : length (machineOf w .dividers) ≡ TIMERS
+  unfolding machineOf
+  dividers-length = section-length w DIVIDERS TIMERS (omega arith)
 
 -- stores below the stack's count leave the stack
 stack-below : (w : List ℕ) (i : ℕ) (vs : List ℕ) → i + length vs ≤ DEPTH → machineOf (sets w i vs) .stack ≡ machineOf w .stack
@@ -235,19 +239,20 @@ module _ (w : List ℕ) where
 
 -- the machine with another stack, its control block left
 abbrev pub withEntries : List Entry → Machine → Machine
-withEntries es m = record { set1 = m .set1; set2 = m .set2; conditions = m .conditions; control = m .control; position = m .position; stack = es }
+withEntries es m = record { set1 = m .set1; set2 = m .set2; conditions = m .conditions; control = m .control; position = m .position; stack = es; dividers = m .dividers }
 
 pub depth-stored : (w : List ℕ) (n : ℕ) → length w ≡ WORDS → machineOf (set w DEPTH n) ≡ withEntries (stackOf n w) (machineOf w)
 unfolding machineOf
 depth-stored w n h = simp (store-apart w n DEPTH 1 0 (lit< tt), getD-set-same w DEPTH n 0 (omega arith), drop-set-lt ENTRIES w DEPTH n (lit< tt))
 
--- stores past the stack's count leave all but the stack
+-- stores past the stack's count and before the dividers leave all but the stack
 fill-high : (w : List ℕ) (i : ℕ) (vs : List ℕ) → ENTRIES ≤ i → (m n : ℕ) → leb (m + n) ENTRIES ≡ true → section m n (sets w i vs) ≡ section m n w
 fill-high w i vs h m n e = let l : m + n ≤ ENTRIES = leb-true _ _ e in fill-past w m n i vs (omega arith)
 
-fill-entries : (w : List ℕ) (i : ℕ) (vs : List ℕ) (es : List Entry) → ENTRIES ≤ i → withEntries es (machineOf (sets w i vs)) ≡ withEntries es (machineOf w)
+fill-entries : (w : List ℕ) (i : ℕ) (vs : List ℕ) (es : List Entry) → ENTRIES ≤ i → i + length vs ≤ DIVIDERS
+    → withEntries es (machineOf (sets w i vs)) ≡ withEntries es (machineOf w)
 unfolding machineOf
-fill-entries w i vs es h = simp (fill-high w i vs h)
+fill-entries w i vs es h k = simp (fill-high w i vs h, fill-short w DIVIDERS TIMERS i vs k)
 
 in-row : (w : List ℕ) (i a b c d : ℕ) → set (set (set (set w i a) (i + 1) b) (i + 2) c) (i + 3) d ≡ sets w i (a ∷ b ∷ c ∷ d ∷ [])
 in-row w i a b c d =
@@ -276,12 +281,31 @@ module _ (w : List ℕ) (n : ℕ) (e : Entry) (h : length w ≡ WORDS) (room : n
       rw (in-row w (ENTRIES + 4 * n) (e .source) (e .address) (e .psr) (e .c0), add-one n)
       (depth-stored after (suc n) (length-sets w (ENTRIES + 4 * n) words ∙ h)
       ∙ ap (λ es. withEntries es (machineOf after)) stack-pushed
-      ∙ fill-entries w (ENTRIES + 4 * n) words (e ∷ machineOf w .stack) (omega arith))
+      ∙ fill-entries w (ENTRIES + 4 * n) words (e ∷ machineOf w .stack) (omega arith) (omega arith))
 
 -- a count one below pops an entry
 pub popped-to : (w : List ℕ) (n : ℕ) → length w ≡ WORDS → getD w DEPTH 0 ≡ suc n → machineOf (set w DEPTH n) ≡ withEntries (popped (machineOf w .stack)) (machineOf w)
 unfolding popped
 popped-to w n h q = rw (stack-some w n q) (depth-stored w n h)
+
+-- ---- the dividers
+
+-- stores past the last entry leave the stack
+stack-past : (w : List ℕ) (i : ℕ) (vs : List ℕ) → length (machineOf w .stack) ≤ SOURCES → DIVIDERS ≤ i → machineOf (sets w i vs) .stack ≡ machineOf w .stack
+unfolding machineOf
+stack-past w i vs h l =
+    let n = getD w DEPTH 0 in
+    let k : n ≤ SOURCES = rw (depth-is w) at h in
+    let d : getD (sets w i vs) DEPTH 0 ≡ n =
+    sym (section-at (sets w i vs) DEPTH 1 0 (lit< tt)) ∙ ap (λ (s : List ℕ). getD s 0 0) (fill-past w DEPTH 1 i vs (omega arith)) ∙ section-at w DEPTH 1 0 (lit< tt)
+    in
+    stack-as (sets w i vs) n d ∙ stack-by n w (sets w i vs) (fill-past w ENTRIES (4 * n) i vs (omega arith)) ∙ sym (stack-as w n refl)
+
+pub divider-stored : (w : List ℕ) → length (machineOf w .stack) ≤ SOURCES → (v j : ℕ) → j < TIMERS
+    → machineOf (set w (DIVIDERS + j) v) ≡ withDividers (set (machineOf w .dividers) j v) (machineOf w)
+unfolding machineOf withDividers
+divider-stored w h v j l =
+    simp (store-in w v DIVIDERS TIMERS j l, store-apart w v DIVIDERS TIMERS j l, stack-past w (DIVIDERS + j) (v ∷ []) h (omega arith))
 
 -- ---- INT_SERV and the RETI_ registers
 

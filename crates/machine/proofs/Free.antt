@@ -1,18 +1,18 @@
 -- The words that are free: words say the same machine exactly where they agree at each place that is not. Assumes nothing.
 use mathlib.Core.Path.{_≡_, refl, sym, ap, _∙_}
 use mathlib.Core.Logic.{_≢_}
-use mathlib.Core.Bool.{Bool, true, false, _&&_}
+use mathlib.Core.Bool.{Bool, true, false, _&&_, and-true, and-false}
 use mathlib.Core.List.{List, [], _∷_, reverse, reverse-reverse}
 use Prim.Native.Nat.{ℕ, zero, suc, _+_, _-_, _*_, _≤_, _<_}
 use native.Mathlib.Omega.{arith}
-use lib.Dec.{ltb, eqb}
-use lib.ListN.{length, getD, drop, length-take, length-drop}
+use lib.Dec.{leb, ltb, eqb}
+use lib.ListN.{length, getD, drop, length-take, length-drop, List·getD-eq-default}
 use lib.Seq.{getD-drop, ext-getD}
-use borrow.Author.Tests.{ltb-true, ltb-false, leb-false, lt-leb, eqb-false, ne-eqb}
+use borrow.Author.Tests.{ltb-true, ltb-false, leb-false, lt-leb, lt-ltb, le-ltb, eqb-false, ne-eqb}
 use Rattle.word.specs.Flags.{isAmong}
 use Rattle.word.proofs.Tests.{either, and-parts, or-parts}
 use Rattle.machine.specs.Machine.{Machine}
-use Rattle.machine.specs.Words.{SET1, SET2, CONDITIONS, CONTROL, POSITION, DEPTH, ENTRIES, section, positionOf, entryOf, entriesOf, machineOf, COUNTS, isFree}
+use Rattle.machine.specs.Words.{SET1, SET2, CONDITIONS, CONTROL, POSITION, TIMERS, DEPTH, ENTRIES, DIVIDERS, WORDS, section, positionOf, entryOf, entriesOf, machineOf, COUNTS, isFree}
 use Rattle.machine.specs.Theorems.{FreePlaces}
 use Rattle.machine.specs.declared.Position.{Position}
 use Rattle.machine.specs.declared.Entry.{Entry}
@@ -33,9 +33,22 @@ not-among start count n (m ∷ ms) e l h =
     rw (split-apart m 1 start count (t .0) (λ p. ne-eqb m n (λ q. omega arith)) (λ p. ne-eqb m n (λ q. omega arith)))
     (not-among start count n ms (t .1) l h)
 
-not-free : (d start count n : ℕ) → apartFrom start count COUNTS ≡ true → start ≤ n → n < start + count → n < ENTRIES + 4 * d → isFree d n ≡ false
+-- a place past the last entry of a machine with so many, and before the dividers
+abbrev unused : (depth place : ℕ) → Bool
+unused d n = leb (ENTRIES + 4 * d) n && ltb n DIVIDERS
+
+used-entry : (d n : ℕ) → n < ENTRIES + 4 * d → unused d n ≡ false
+used-entry d n h = rw (lt-leb (ENTRIES + 4 * d) n h)
+
+used-divider : (d n : ℕ) → DIVIDERS ≤ n → unused d n ≡ false
+used-divider d n h = rw (le-ltb n DIVIDERS h) (and-false (leb (ENTRIES + 4 * d) n))
+
+entry-used : (d n : ℕ) → unused d n ≡ false → n < DIVIDERS → n < ENTRIES + 4 * d
+entry-used d n e h = leb-false _ _ (sym (and-true _) ∙ (rw (lt-ltb n DIVIDERS h) at e))
+
+not-free : (d start count n : ℕ) → apartFrom start count COUNTS ≡ true → start ≤ n → n < start + count → unused d n ≡ false → isFree d n ≡ false
 unfolding isFree
-not-free d start count n e l h b = rw (not-among start count n COUNTS e l h) (lt-leb (ENTRIES + 4 * d) n b)
+not-free d start count n e l h b = rw (not-among start count n COUNTS e l h) b
 
 -- ---- words that agree, and equal sections
 
@@ -108,7 +121,7 @@ by-order : {A : Type 0} (n b : ℕ) → (n < b → A) → (b ≤ n → A) → A
 by-order n b f g = either (ltb n b) (λ t. f (ltb-true n b t)) (λ t. g (ltb-false n b t))
 
 -- words that say the same machine agree at each place that is not free
-module _ (w k : List ℕ) (e : machineOf w ≡ machineOf k) where
+module _ (w k : List ℕ) (p : length w ≡ WORDS) (q : length k ≡ WORDS) (e : machineOf w ≡ machineOf k) where
   abbrev d : ℕ
   d = getD w DEPTH 0
 
@@ -128,23 +141,35 @@ module _ (w k : List ℕ) (e : machineOf w ≡ machineOf k) where
   unfolding machineOf isFree
   agree n f =
       let x = between-counts n (or-parts (isAmong n COUNTS) _ f .0) in
-      let h : n < ENTRIES + 4 * d = leb-false _ _ (or-parts (isAmong n COUNTS) _ f .1) in
+      by-order n DIVIDERS
+      (λ c.
+      let h = entry-used d n (or-parts (isAmong n COUNTS) _ f .1) c in
       by-order n SET2 (λ b. listed w k SET1 32 (ap (λ (m : Machine). m .set1) e) n (omega arith) (omega arith))
       (λ a. by-order n CONDITIONS (λ b. listed w k SET2 32 (ap (λ (m : Machine). m .set2) e) n (omega arith) (omega arith))
       (λ a. by-order n CONTROL (λ b. listed w k CONDITIONS 8 (ap (λ (m : Machine). m .conditions) e) n (omega arith) (omega arith))
       (λ a. by-order n POSITION (λ b. listed w k CONTROL 45 (ap (λ (m : Machine). m .control) e) n (omega arith) (omega arith))
       (λ a. by-order n DEPTH (λ b. agreeing w k POSITION 6 (same-position _ _ (ap (λ (m : Machine). m .position) e)) n (omega arith) (omega arith))
       (λ a. by-order n ENTRIES (λ b. let i : n ≡ DEPTH = omega arith in rw i same-depth)
-      (λ a. agreeing w k ENTRIES (4 * d) (same-entries d _ _ same-stack) n a h))))))
+      (λ a. agreeing w k ENTRIES (4 * d) (same-entries d _ _ same-stack) n a h)))))))
+      (λ c.
+      by-order n WORDS (λ b. listed w k DIVIDERS TIMERS (ap (λ (m : Machine). m .dividers) e) n c b)
+      (λ a. List·getD-eq-default w 0 (omega arith) ∙ sym (List·getD-eq-default k 0 (omega arith))))
 
 -- and words that agree there say the same
 module _ (w k : List ℕ) (s : length w ≡ length k) (a : (n : ℕ) → isFree (getD w DEPTH 0) n ≡ false → getD w n 0 ≡ getD k n 0) where
-  said : (start count : ℕ) → apartFrom start count COUNTS ≡ true → start + count ≤ ENTRIES + 4 * getD w DEPTH 0 → section start count w ≡ section start count k
-  said start count e l = equal w k start count s (λ n b h. a n (not-free (getD w DEPTH 0) start count n e b h (omega arith)))
+  abbrev depth : ℕ
+  depth = getD w DEPTH 0
 
-  depth-said : getD w DEPTH 0 ≡ getD k DEPTH 0
+  said-by : (start count : ℕ) → apartFrom start count COUNTS ≡ true → ((n : ℕ) → start ≤ n → n < start + count → unused depth n ≡ false)
+      → section start count w ≡ section start count k
+  said-by start count e f = equal w k start count s (λ n b h. a n (not-free depth start count n e b h (f n b h)))
+
+  said : (start count : ℕ) → apartFrom start count COUNTS ≡ true → start + count ≤ ENTRIES + 4 * depth → section start count w ≡ section start count k
+  said start count e l = said-by start count e (λ n b h. used-entry depth n (omega arith))
+
+  depth-said : depth ≡ getD k DEPTH 0
   unfolding apartFrom
-  depth-said = a DEPTH (not-free (getD w DEPTH 0) DEPTH 1 DEPTH refl (omega arith) (omega arith) (omega arith))
+  depth-said = a DEPTH (not-free depth DEPTH 1 DEPTH refl (omega arith) (omega arith) (used-entry depth DEPTH (omega arith)))
 
   same : machineOf w ≡ machineOf k
   unfolding machineOf apartFrom
@@ -155,9 +180,10 @@ module _ (w k : List ℕ) (s : length w ≡ length k) (a : (n : ℕ) → isFree 
       let control = said CONTROL 45 refl (omega arith) in
       let position = said POSITION 6 refl (omega arith) in
       let stack : machineOf w .stack ≡ machineOf k .stack =
-      stack-by (getD w DEPTH 0) k w (said ENTRIES (4 * getD w DEPTH 0) refl (omega arith)) ∙ rw depth-said
+      stack-by depth k w (said ENTRIES (4 * depth) refl (omega arith)) ∙ rw depth-said
       in
-      λ i. record { set1 = set1 i; set2 = set2 i; conditions = conditions i; control = control i; position = positionOf (position i); stack = stack i }
+      let dividers = said-by DIVIDERS TIMERS refl (λ n b h. used-divider depth n b) in
+      λ i. record { set1 = set1 i; set2 = set2 i; conditions = conditions i; control = control i; position = positionOf (position i); stack = stack i; dividers = dividers i }
 
 pub free-places : FreePlaces
-free-places w k a b = (agree w k, same w k (a ∙ sym b))
+free-places w k a b = (agree w k a b, same w k (a ∙ sym b))

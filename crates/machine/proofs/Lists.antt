@@ -5,6 +5,7 @@ use mathlib.Core.Bool.{Bool, true, false}
 use mathlib.Core.List.{List, [], _∷_}
 use mathlib.Core.Option.{Option, none, some}
 use Prim.Native.Nat.{ℕ, zero, suc}
+use native.Mathlib.Omega.{arith}
 use lib.ListN.{length, getD, set, getElem?}
 use lib.Seq.{getD-set-same, getD-set-other}
 use lib.Dec.{ltb, eqb, eqb·zero-suc, eqb·suc-zero, eqb·suc-suc}
@@ -24,6 +25,16 @@ each-set P (y ∷ l) zero x h b zero = b
 each-set P (y ∷ l) zero x h b (suc j) = h (suc j)
 each-set P (y ∷ l) (suc i) x h b zero = h zero
 each-set P (y ∷ l) (suc i) x h b (suc j) = each-set (λ n. P (suc n)) l i x (λ n. h (suc n)) b j
+
+-- a list of two, and one with both replaced
+pub pair : (l : List ℕ) → length l ≡ 2 → l ≡ getD l 0 0 ∷ getD l 1 0 ∷ []
+pair [] e = absurd (omega arith)
+pair (a ∷ []) e = absurd (omega arith)
+pair (a ∷ b ∷ []) e = refl
+pair (a ∷ b ∷ c ∷ l) e = absurd (omega arith)
+
+pub pair-set : (l : List ℕ) (a b : ℕ) → length l ≡ 2 → set (set l 0 a) 1 b ≡ a ∷ b ∷ []
+pair-set l a b e = rw (pair l e)
 
 module _ {A : Type 0} where
   -- what stands at a place, if anything does, replaced where the test passes

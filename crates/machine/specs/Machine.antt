@@ -1,7 +1,7 @@
 -- The machine's state (002 section 2; 01 "Machine image"). Assumes nothing.
 use mathlib.Core.Bool.{Bool, true, false, _&&_}
 use mathlib.Core.List.{List}
-use Prim.Native.Nat.{ℕ, _+_, _*_, _%_}
+use Prim.Native.Nat.{ℕ, _+_, _*_}
 use lib.ListN.{getD, set}
 use lib.Dec.{eqb}
 use Rattle.word.specs.Choice.{if_then_else_}
@@ -19,6 +19,7 @@ pub record Machine : Type 0 where
   pub control : List ℕ  -- the control block's registers
   pub position : Position
   pub stack : List Entry  -- top first
+  pub dividers : List ℕ  -- of timer 0 and timer 1 (02, wish 5)
 
 -- what a program loads from and stores to, but for the control block: the data memory's cells
 pub record Memory : Type 0 where
@@ -43,19 +44,22 @@ positionAt pc = record { pc = pc; slot = 0; target = 0; held = 0; high = 0; low 
 -- ---- one part replaced
 
 unfoldable pub withSet1 : List ℕ → Machine → Machine
-withSet1 l m = record { set1 = l; set2 = m .set2; conditions = m .conditions; control = m .control; position = m .position; stack = m .stack }
+withSet1 l m = record { set1 = l; set2 = m .set2; conditions = m .conditions; control = m .control; position = m .position; stack = m .stack; dividers = m .dividers }
 
 unfoldable pub withSet2 : List ℕ → Machine → Machine
-withSet2 l m = record { set1 = m .set1; set2 = l; conditions = m .conditions; control = m .control; position = m .position; stack = m .stack }
+withSet2 l m = record { set1 = m .set1; set2 = l; conditions = m .conditions; control = m .control; position = m .position; stack = m .stack; dividers = m .dividers }
 
 unfoldable pub withConditions : List ℕ → Machine → Machine
-withConditions l m = record { set1 = m .set1; set2 = m .set2; conditions = l; control = m .control; position = m .position; stack = m .stack }
+withConditions l m = record { set1 = m .set1; set2 = m .set2; conditions = l; control = m .control; position = m .position; stack = m .stack; dividers = m .dividers }
 
 unfoldable pub withControl : List ℕ → Machine → Machine
-withControl l m = record { set1 = m .set1; set2 = m .set2; conditions = m .conditions; control = l; position = m .position; stack = m .stack }
+withControl l m = record { set1 = m .set1; set2 = m .set2; conditions = m .conditions; control = l; position = m .position; stack = m .stack; dividers = m .dividers }
 
 unfoldable pub withPosition : Position → Machine → Machine
-withPosition p m = record { set1 = m .set1; set2 = m .set2; conditions = m .conditions; control = m .control; position = p; stack = m .stack }
+withPosition p m = record { set1 = m .set1; set2 = m .set2; conditions = m .conditions; control = m .control; position = p; stack = m .stack; dividers = m .dividers }
+
+unfoldable pub withDividers : List ℕ → Machine → Machine
+withDividers l m = record { set1 = m .set1; set2 = m .set2; conditions = m .conditions; control = m .control; position = m .position; stack = m .stack; dividers = l }
 
 -- ---- the register sets
 
@@ -126,5 +130,5 @@ SUPER = statusOf false true true true false
 
 -- to unfold `states` is to unfold all definitions of this file
 unfoldable pub states : Unit {0}
-unfolding positionAt withSet1 withSet2 withConditions withControl withPosition setBy withRegister psr withPsr written widthOf statusOf
+unfolding positionAt withSet1 withSet2 withConditions withControl withPosition withDividers setBy withRegister psr withPsr written widthOf statusOf
 states = tt

@@ -39,7 +39,7 @@ showStack es l = showTop (serviceFlags es) (shownTop es) l
 
 -- the machine with this stack, and its control block showing it
 unfoldable pub withStack : List Entry → Machine → Machine
-withStack es m = record { set1 = m .set1; set2 = m .set2; conditions = m .conditions; control = showStack es (m .control); position = m .position; stack = es }
+withStack es m = record { set1 = m .set1; set2 = m .set2; conditions = m .conditions; control = showStack es (m .control); position = m .position; stack = es; dividers = m .dividers }
 
 -- the control block shows the stack, and the stack's sources are below 12 and all different (question 5)
 pub record StackShown (m : Machine) : Type 0 where

@@ -1,10 +1,10 @@
 -- The running machine as one list of words at fixed places; what an image's numbers say is image/Image: machineIn. Assumes nothing.
 use mathlib.Core.Path.{_≡_}
-use mathlib.Core.Bool.{Bool, true, false, _||_}
+use mathlib.Core.Bool.{Bool, true, false, _&&_, _||_}
 use mathlib.Core.List.{List, [], _∷_, reverse}
 use Prim.Native.Nat.{ℕ, zero, suc, _+_, _*_}
 use lib.ListN.{length, getD, take, drop}
-use lib.Dec.{leb}
+use lib.Dec.{leb, ltb}
 use Rattle.word.specs.Flags.{isAmong}
 use Rattle.machine.specs.Machine.{Machine, Memory, State}
 use Rattle.machine.specs.declared.Position.{Position}
@@ -26,6 +26,14 @@ PLACES = 6
 -- the interrupt sources; the stack has at most one entry of each
 abbrev pub SOURCES : ℕ
 SOURCES = 12
+
+-- the timers, each with a divider
+abbrev pub TIMERS : ℕ
+TIMERS = 2
+
+-- dividers that are 0
+abbrev pub ZEROS : List ℕ
+ZEROS = 0 ∷ 0 ∷ []
 
 -- where the sections' numbers begin among the words, each after a word for its count
 
@@ -51,9 +59,12 @@ DEPTH = POSITION + PLACES
 abbrev pub ENTRIES : ℕ
 ENTRIES = DEPTH + 1
 
--- words for a full stack
+-- the dividers, behind the words for a full stack and a word for their count
+abbrev pub DIVIDERS : ℕ
+DIVIDERS = ENTRIES + 4 * SOURCES + 1
+
 abbrev pub WORDS : ℕ
-WORDS = ENTRIES + 4 * SOURCES
+WORDS = DIVIDERS + TIMERS
 
 -- words are as many as a machine has
 abbrev pub MachineWords : (words : List ℕ) → Type 0
@@ -87,6 +98,7 @@ machineOf ws =
       control = section CONTROL OFFSETS ws;
       position = positionOf (section POSITION PLACES ws);
       stack = reverse (entriesOf (getD ws DEPTH 0) (drop ENTRIES ws));
+      dividers = section DIVIDERS TIMERS ws;
     }
 
 -- ---- what is free ("an answer that these papers leave free is named, with what holds of it", 01 "Machine image")
@@ -95,9 +107,9 @@ machineOf ws =
 abbrev pub COUNTS : List ℕ
 COUNTS = 0 ∷ (SET1 + REGISTERS) ∷ (SET2 + REGISTERS) ∷ (CONDITIONS + FLAGS) ∷ (CONTROL + OFFSETS) ∷ []
 
--- a place that says nothing of a machine with so many stack entries: that of a count, and each past the last entry
+-- a place that says nothing of a machine with so many stack entries: that of a count, and each between the last entry and the dividers
 unfoldable pub isFree : (depth place : ℕ) → Bool
-isFree depth n = isAmong n COUNTS || leb (ENTRIES + 4 * depth) n
+isFree depth n = isAmong n COUNTS || (leb (ENTRIES + 4 * depth) n && ltb n DIVIDERS)
 
 -- words say a machine; the places that are free (isFree) may hold any numbers, and nothing else may differ (Theorems: FreePlaces)
 abbrev pub Says : (words : List ℕ) → Machine → Type 0

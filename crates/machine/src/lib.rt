@@ -7,10 +7,10 @@ ghost use Prim.Native.Nat.{_+_, _*_, _<_, _≤_};
 ghost use lib.ListN.{length, getD, set};
 ghost use Rattle.word.specs.Word.{bitAt};
 ghost use Rattle.word.specs.Flags.{distinctBelow};
-ghost use Rattle.machine.specs.Machine.{psr, userMode, readsSet2, writesSet2, wideWords, interruptsEnabled, statusOf, SUPER, setBy, withRegister, written, withPsr, withConditions, withControl, withPosition};
-ghost use Rattle.machine.specs.Control.{registerAt, controlAt, largest, keptBy, isWritable, storeControl, within, INT-SERV};
+ghost use Rattle.machine.specs.Machine.{psr, userMode, readsSet2, writesSet2, wideWords, interruptsEnabled, statusOf, SUPER, setBy, withRegister, written, withPsr, withConditions, withControl, withPosition, withDividers};
+ghost use Rattle.machine.specs.Control.{registerAt, controlAt, largest, keptBy, isWritable, storeControl, within, INT-SERV, reset as resetOf};
 ghost use Rattle.machine.specs.Stack.{popped, sourcesOf, serviceFlags, shownTop, showTop, withStack};
-ghost use Rattle.machine.specs.Words.{REGISTERS, FLAGS, OFFSETS, SOURCES, MachineWords, ENTRIES, startBy, section, entryOf, machineOf, Says};
+ghost use Rattle.machine.specs.Words.{REGISTERS, FLAGS, OFFSETS, SOURCES, TIMERS, MachineWords, ENTRIES, startBy, section, entryOf, machineOf, Says};
 use word::has_flag;
 use word::with_flag;
 use word::without_flag;
@@ -51,13 +51,18 @@ pub const PLACES: usize = 6;
 // The interrupt sources; the stack has at most one entry of each.
 pub const SOURCES: u32 = 12;
 
+// The timers, each with a divider.
+pub const TIMERS: usize = 2;
+
 // Where the sections' numbers begin among the words, each after a word for its count. Register set 1:
 pub const SET1: usize = 1;
 
-// Register set 2, and its PSR:
+// Register set 2, and its PSR and SPSR:
 pub const SET2: usize = SET1 + REGISTERS + 1;
 
 pub const PSR: usize = SET2 + 29;
+
+const SAVED_PSR: usize = SET2 + SPSR as usize;
 
 // Condition registers:
 pub const CONDITIONS: usize = SET2 + REGISTERS + 1;
@@ -93,8 +98,10 @@ pub const DEPTH: usize = POSITION + PLACES;
 
 pub const ENTRIES: usize = DEPTH + 1;
 
-// Words for a full stack.
-pub const WORDS: usize = ENTRIES + 4 * SOURCES as usize;
+// The dividers, behind the words for a full stack and a word for their count:
+pub const DIVIDERS: usize = ENTRIES + 4 * SOURCES as usize + 1;
+
+pub const WORDS: usize = DIVIDERS + TIMERS;
 
 // The offsets of control registers (002 section 2.9); the vectors of the 12 sources follow each other.
 pub const CCB_BASE: u32 = 0x00;
@@ -132,6 +139,12 @@ pub const IMEM_BOUND_HI: u32 = 0x1D;
 pub const SYSTEM_ADDR: u32 = 0x1F;
 
 pub const EXCEP_ADDR: u32 = 0x20;
+
+pub const TMR0_CNT: u32 = 0x23;
+
+pub const TMR0_MAX_CNT: u32 = 0x24;
+
+pub const TMR_CONF: u32 = 0x27;
 
 pub const RETI_ADDR: u32 = 0x28;
 
@@ -544,4 +557,85 @@ pub fn pop(w: &mut [u32])
     w[DEPTH] = n - 1;
     let rest = top(w);
     show(w, flags, rest);
+}
+
+// ---- dividers
+
+// The divider of timer k.
+pub fn divider(w: &[u32], k: u32) -> u32
+    requires { ⌜ MachineWords (now w) × (k < TIMERS) ⌝ }
+    ensures { λ r. ⌜ r ≡ getD (machineOf (now (w .entry)) .dividers) k 0 ⌝ }
+{
+    w[DIVIDERS + k as usize]
+}
+
+// The divider of timer k takes x.
+pub fn set_divider(w: &mut [u32], k: u32, x: u32)
+    requires { ⌜ MachineWords (now w) × (length (machineOf (now w) .stack) ≤ SOURCES) × (k < TIMERS) ⌝ }
+    ensures { λ _. ⌜ Says (now (w .exit)) (withDividers (set (machineOf (now (w .entry)) .dividers) k x) (machineOf (now (w .entry)))) ⌝ }
+{
+    w[DIVIDERS + k as usize] = x;
+}
+
+// ---- reset
+
+// The control registers at reset (002 section 2.9), by offset.
+const RESET: [u32; OFFSETS] = [
+    0x0001_0000, // CCB_BASE
+    0x0001_0100, // PCB_BASE
+    0x0001_01FF, // PCB_END
+    0x0000_00FF, // PCB_AMASK
+    1, // COP0_INT_VEC
+    1, // COP1_INT_VEC
+    1, // COP2_INT_VEC
+    1, // COP3_INT_VEC
+    1, // EXT_INT0_VEC
+    1, // EXT_INT1_VEC
+    1, // EXT_INT2_VEC
+    1, // EXT_INT3_VEC
+    1, // EXT_INT4_VEC
+    1, // EXT_INT5_VEC
+    1, // EXT_INT6_VEC
+    1, // EXT_INT7_VEC
+    0xFFF, // INT_MODE_IL
+    0xFFF, // INT_MODE_UM
+    0, // INT_MASK
+    0, // INT_SERV
+    0, // INT_PEND
+    0, // EXT_INT_PRI
+    0, // COP_INT_PRI
+    0, // EXCEPTION_CS
+    0, // EXCEPTION_PC
+    0, // EXCEPTION_PSR
+    0, // DMEM_BOUND_LO
+    0xFFFF_FFFF, // DMEM_BOUND_HI
+    0, // IMEM_BOUND_LO
+    0xFFFF_FFFF, // IMEM_BOUND_HI
+    3, // MEM_CONF
+    0, // SYSTEM_ADDR
+    0, // EXCEP_ADDR
+    0xFFF, // BUS_CONF
+    0, // COP_CONF
+    0, // TMR0_CNT
+    0, // TMR0_MAX_CNT
+    0, // TMR1_CNT
+    0, // TMR1_MAX_CNT
+    0, // TMR_CONF
+    1, // RETI_ADDR
+    9, // RETI_PSR
+    0, // RETI_CR0
+    0, // FPU_STATUS
+    1, // CORE_VER_ID
+];
+
+// Words that say the machine at reset.
+pub fn reset() -> [u32; WORDS]
+    ensures { λ r. ⌜ Says r resetOf ⌝ }
+{
+    let control = RESET;
+    let mut words = [0u32; WORDS];
+    words[PSR] = 0x0E;
+    words[SAVED_PSR] = 9;
+    codec::copy(&control, &mut words[CONTROL..CONTROL + OFFSETS]);
+    words
 }

@@ -26,6 +26,8 @@ fn main() {
     case(b"full/code.bin", b"full/limit.txt");
     // a program that is one byte too long, with no good limit either: refusal 1 comes first
     case(b"long/code.bin", b"long/limit.txt");
+    // a watchdog that counts to 8 from the fifth step on, over a loop of three: the twelfth step ends at reset
+    case(b"watchdog/code.bin", b"watchdog/limit.txt");
     // no code.bin: the empty program stops at once
     case(b"no_code/code.bin", b"no_code/limit.txt");
     // no files at all: an empty limit.txt says no limit

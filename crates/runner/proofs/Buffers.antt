@@ -20,7 +20,7 @@ over-whole front s h = ap (λ t. front ++ t) (drop-of-length-le s {i = length fr
 pub numbers-fill : (buffer : List ℕ) → length buffer ≡ LONGEST → over (numbersOf buffer) (replicate WORDS 0) ≡ numbersOf buffer
 numbers-fill buffer h = over-whole (numbersOf buffer) (replicate WORDS 0) (omega (arith, length-numbersOf buffer))
 
--- the image at reset has 516 bytes: no stack entries
+-- the image at reset has 528 bytes: no stack entries
 pub reset-length : length (writeImage reset) ≡ SHORTEST
 unfolding reset
 reset-length = image-length (formed-counts reset-formed)

@@ -16,7 +16,7 @@ use Rattle.machine.specs.Control.{reset}
 use Rattle.machine.specs.Words.{PLACES, positionOf}
 use Rattle.machine.proofs.Flat.{section-at}
 use Rattle.formed.specs.Questions.{allBelow, readBy}
-use Rattle.image.specs.Image.{imageNumbers, writeImage, POSITION-AT, machineIn}
+use Rattle.image.specs.Image.{imageNumbers, writeImage, POSITION-AT, LONGEST, machineWith, machineIn}
 use Rattle.formed.proofs.Formed.{WellFormed, formed-counts, reset-formed}
 use Rattle.image.proofs.Sections.{machineIn-imageNumbers, length-imageNumbers}
 use Rattle.image.proofs.Image.{image-length, imageNumbers-below, reset-accepted}
@@ -37,7 +37,7 @@ use Rattle.runner.specs.Reports.{ReportLong, ReportUnlimited, ReportRan,
 
 -- what a run call from reset answers and leaves is what is reported
 pub report-is : (code text image : List ℕ) (limit : ℕ) (a : Reply) (buffer : List ℕ) (memory : Memory) → image ≡ writeImage reset → limit ≡ limitOf text
-    → outcome a buffer memory ≡ runCall code image zeroMemory (record { requests = []; limit = limit; buffer = replicate 708 0 })
+    → outcome a buffer memory ≡ runCall code image zeroMemory (record { requests = []; limit = limit; buffer = replicate LONGEST 0 })
     → answerText a buffer ≡ reportOf code text
 unfolding callOf outcomeOf reportOf
 report-is code text image limit a buffer memory i l e =
@@ -65,14 +65,14 @@ pub report-unlimited : ReportUnlimited
 unfolding ReportUnlimited askedBy readBy callOf allBelow if_then_else_ refusalText digitsOf digitOf placesFrom
 report-unlimited code text h l =
     report-refused code text 7
-    (past-image code (writeImage reset) zeroMemory [] (limitOf text) 708 reset h (lit≤ tt) 0 (sym reset-accepted) refl
-    ∙ sym (limit-no [] (limitOf text) 708 reset refl l))
+    (past-image code (writeImage reset) zeroMemory [] (limitOf text) LONGEST reset h (lit≤ tt) 0 (sym reset-accepted) refl
+    ∙ sym (limit-no [] (limitOf text) LONGEST reset refl l))
 
 -- ---- a call that runs
 
 -- the program counter that is read is that of the machine whose image is at the front
 pc-at : (numbers : List ℕ) → machineIn numbers .position .pc ≡ getD numbers POSITION-AT 0
-unfolding machineIn positionOf
+unfolding machineIn machineWith positionOf
 pc-at numbers = section-at numbers POSITION-AT PLACES 0 (lit< tt)
 
 module _ (m : Machine) (s : List ℕ) (f : WellFormed m) where
@@ -106,7 +106,7 @@ report-ran code text h l =
     let a = questions code (writeImage reset) zeroMemory (callOf text) reset .1 (all-yes code text h l) in
     let o = call-started code (writeImage reset) zeroMemory (callOf text) reset a in
     ap (λ (x : Outcome). answerText (x .answer) (x .buffer)) o
-    ∙ ap (ranText (e .steps) (e .ending)) (pcOf-image (e .after .machine) (replicate 708 0) (result-formed code [] (limitOf text) (stateWith reset zeroMemory) reset-formed))
+    ∙ ap (ranText (e .steps) (e .ending)) (pcOf-image (e .after .machine) (replicate LONGEST 0) (result-formed code [] (limitOf text) (stateWith reset zeroMemory) reset-formed))
 
 -- ---- the bytes that are read
 

@@ -21,7 +21,7 @@ use Rattle.execute.proofs.Places.{addressOf, LoadsPlaces, access-raised, other-
 use Rattle.effect.specs.Effect.{Raised}
 use Rattle.effect.specs.Apply.{machineOnly, apply}
 use Rattle.step.specs.Interrupt.{withRequests, acceptedSource, mayAccept}
-use Rattle.step.specs.Step.{isStop, interruptOr, step}
+use Rattle.step.specs.Step.{isStop, interruptOr, unclocked, step}
 use Rattle.step.specs.AddressOrder.{placeBefore, viewBefore, accessOf, Wrapped, WrappedAccess, Compared, changed, unchanged, AddressOrder}
 use Rattle.step.proofs.Accepted.{none-some}
 
@@ -108,11 +108,11 @@ module _ (program : List ℕ) (s : State) (q : ℕ) where
   -- no interrupt is accepted
   module _ (e : acceptedSource v (r .machine) ≡ none) where
     decided-same : (WrappedAccess program r → ⊥) → ((z : ℤ) → accessOf v (v .fetched) ≡ some z → placeAt r z ≡ placeBefore r z) → Steps
-    unfolding step interruptOr decide view withPlaces
+    unfolding step unclocked interruptOr decide view withPlaces
     decided-same n h = unchanged n (rw (e, accepted-same, e, word-same v (heldAt r) loads (placeBefore r) (v .fetched) h))
 
     by-place : (z : ℤ) → accessOf v (v .fetched) ≡ some z → Places r z → Steps
-    unfolding step interruptOr apply machineOnly isStop decide view withPlaces if_then_else_
+    unfolding step unclocked interruptOr apply machineOnly isStop decide view withPlaces if_then_else_
     by-place z a (raised w now before) =
         changed (record { address = z; uninterrupted = e; access = a; wrapped = w })
         (rw (e, word-raised v (heldAt r) loads (v .fetched) z 0x07 a now))
@@ -126,7 +126,7 @@ module _ (program : List ℕ) (s : State) (q : ℕ) where
     by-access none a = decided-same (λ w. none-some (sym a ∙ w .access)) (λ x b. absurd (none-some (sym a ∙ b)))
 
   by-source : (o : Option ℕ) → acceptedSource v (r .machine) ≡ o → Steps
-  unfolding step interruptOr
+  unfolding step unclocked interruptOr
   by-source none e = by-access e _ refl
   by-source (some n) e = unchanged (λ w. none-some (sym (w .uninterrupted) ∙ e)) (rw (e, accepted-same, e))
 

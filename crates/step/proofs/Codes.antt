@@ -16,8 +16,9 @@ use Rattle.effect.specs.Apply.{Transition, machineOnly, storeCell, apply}
 use Rattle.effect.specs.Kind.{Kind}
 use Rattle.effect.specs.Kind as kind
 use Rattle.step.specs.Interrupt.{withRequests, acceptedSource}
-use Rattle.step.specs.Step.{interruptOr, step}
+use Rattle.step.specs.Step.{interruptOr, unclocked, step}
 use Rattle.step.specs.Codes.{isCode, ExceptionCodes, Never01h}
+use Rattle.step.proofs.Clocks.{kind-holds}
 
 -- an exception has a code of those
 abbrev Coded : Kind → Type 0
@@ -26,6 +27,7 @@ Coded kind.Ordinary = Unit {0}
 Coded kind.Interrupt = Unit {0}
 Coded kind.SystemCall = Unit {0}
 Coded kind.InterruptReturn = Unit {0}
+Coded kind.Reset = Unit {0}
 Coded (kind.Stop n) = Unit {0}
 
 code-is : (c : ℕ) → Code c → isCode c ≡ true
@@ -47,9 +49,13 @@ unfolding interruptOr machineOnly
 taken-coded p none s = effect-coded (view p s) s (decide (view p s)) (decide-safe p s)
 taken-coded p (some n) s = tt
 
+unclocked-coded : (p : List ℕ) (s : State) (q : ℕ) → Coded (unclocked p s q .kind)
+unfolding unclocked
+unclocked-coded p s q = let r = withRequests q s in taken-coded p (acceptedSource (view p r) (r .machine)) r
+
 step-coded : (p : List ℕ) (s : State) (q : ℕ) → Coded (step p s q .kind)
 unfolding step
-step-coded p s q = let r = withRequests q s in taken-coded p (acceptedSource (view p r) (r .machine)) r
+step-coded p s q = kind-holds (unclocked p s q) Coded (unclocked-coded p s q) tt
 
 pub exception-codes : ExceptionCodes
 exception-codes p s q c e = rw e at (step-coded p s q)

@@ -3,27 +3,33 @@ use mathlib.Core.Path.{_≡_, refl, sym, ap, _∙_}
 use mathlib.Core.Bool.{Bool, true, false, true≢false}
 use mathlib.Core.List.{List, _∷_}
 use mathlib.Core.Option.{Option, none, some}
-use Prim.Native.Nat.{ℕ, zero, suc, _+_, _/_, _%_, _^_, _<_}
+use Prim.Native.Nat.{ℕ, zero, suc, _+_, _*_, _/_, _%_, _^_, _<_}
 use native.Mathlib.Omega.{arith}
 use native.Mathlib.Nat.{mod-lt}
-use lib.ListN.{length}
+use lib.ListN.{length, set}
 use lib.Dec.{eqb, lit<}
 use borrow.Author.Tests.{eqb-false}
 use Rattle.word.specs.Choice.{if_then_else_}
 use Rattle.word.specs.Word.{bitOf}
 use Rattle.word.specs.Flags.{isAmong}
-use Rattle.word.proofs.Flags.{without-below}
+use Rattle.word.proofs.Flags.{with-below, without-below}
 use Rattle.codec.proofs.Laws.{Below}
-use Rattle.machine.specs.Machine.{Machine, State, PSR, SPSR, LINK, SUPER, psr, userMode, readsSet2, writesSet2, wideWords, interruptsEnabled, statusOf, withRegister, written}
-use Rattle.machine.specs.Control.{controlAt, registers, registerAt, holdsAs, INT-VECTORS, INT-PEND, SYSTEM-ADDR, EXCEP-ADDR, EXCEPTION-CS, EXCEPTION-PC, EXCEPTION-PSR, withPending}
+use Rattle.machine.specs.Machine.{Machine, State, PSR, SPSR, LINK, SUPER, psr, userMode, readsSet2, writesSet2, wideWords, interruptsEnabled, statusOf, withControl, withRegister, written}
+use Rattle.machine.specs.Control.{controlAt, registers, registerAt, holdsAs, INT-VECTORS, INT-PEND, SYSTEM-ADDR, EXCEP-ADDR, EXCEPTION-CS, EXCEPTION-PC, EXCEPTION-PSR, TMR0-CNT, TMR1-CNT, withPending}
+use Rattle.machine.specs.Words.{TIMERS}
 use Rattle.machine.proofs.Bits.{status-small, status-low, status-user, status-kept}
 use Rattle.machine.proofs.Registers.{holds-small}
-use Rattle.formed.proofs.Formed.{sized-set, StatusOk, registers-below, Stacked, pushed, WellFormed, true-formed, formed-true}
+use Rattle.formed.proofs.Formed.{sized-set, StatusOk, registers-below, Stacked, pushed, WellFormed, true-formed, formed-true, reset-formed}
+use Rattle.timer.specs.Timer.{sourceOf, clockTimer}
+use Rattle.timer.specs.Clock.{configurationOf, timerIn, withTimer, counted, notified, Clocked, clockOne, clock}
+use Rattle.timer.proofs.Laws.{source-small, TimerOk, timer-ok}
+use Rattle.timer.specs.declared.Timer.{Timer}
+use Rattle.timer.specs.declared.Ticked.{Ticked}
 use Rattle.view.specs.View.{View, view}
-use Rattle.effect.specs.Apply.{writeRegister, writeFlags, unpacked, wordsOn, nextPc, advance, advanceHolding, jumpTo, raise, systemCall, userReturn, interruptReturn, enableInterrupts, switchWidth, selectSets, machineOnly, storeCell, updated, apply}
+use Rattle.effect.specs.Apply.{writeRegister, writeFlags, unpacked, wordsOn, nextPc, advance, advanceHolding, jumpTo, raise, systemCall, userReturn, interruptReturn, enableInterrupts, switchWidth, selectSets, Transition, machineOnly, storeCell, updated, apply}
 use Rattle.execute.specs.Decide.{decide}
 use Rattle.step.specs.Interrupt.{withRequests, acceptedSource, servicePsr, entryFor, accept}
-use Rattle.step.specs.Step.{interruptOr, step}
+use Rattle.step.specs.Step.{interruptOr, unclocked, step}
 use Rattle.effect.specs.Update.{Update}
 use Rattle.effect.specs.Update as update
 use Rattle.effect.specs.Effect.{Effect, Stopped, Raised, SystemCall, InterruptReturn, StoreCell, Updates}
@@ -32,7 +38,8 @@ use Rattle.word.proofs.Tests.{if-holds}
 use Rattle.formed.proofs.Stored.{control-of, control-put, top-shown, rest-stacked}
 use Rattle.step.specs.Theorems.{Accepted, StaysFormed}
 use Rattle.step.proofs.Accepted.{source-accepted}
-use Rattle.formed.proofs.Parts.{second-of, second-set, set1-formed, set2-formed, psr-formed, conditions-formed, control-formed, stored-formed, position-formed, stack-formed, moved-formed}
+use Rattle.step.proofs.Clocks.{clock-holds}
+use Rattle.formed.proofs.Parts.{second-of, second-set, set1-formed, set2-formed, psr-formed, conditions-formed, control-formed, stored-formed, position-formed, stack-formed, dividers-formed, moved-formed}
 
 -- ---- status: PSR
 
@@ -231,15 +238,50 @@ accept-formed {m} {n} a f =
     (stack-formed (accepted-stacked a f)
     (pending-formed (without-below n (controlAt m INT-PEND) 12 pending) f)))
 
+-- ---- the clock
+
+module _ {m : Machine} where
+  counted-formed : (k x : ℕ) → k < TIMERS → x < 2 ^ 32 → WellFormed m → WellFormed (withControl (set (m .control) (TMR0-CNT + 2 * k) x) m)
+  unfolding isAmong registerAt registers holdsAs
+  counted-formed zero x l h f = control-formed (control-put TMR0-CNT x refl refl refl h (control-of f)) f
+  counted-formed (suc zero) x l h f = control-formed (control-put TMR1-CNT x refl refl refl h (control-of f)) f
+  counted-formed (suc (suc k)) x l h f = absurd (omega arith)
+
+  timer-formed : (k : ℕ) (t : Timer) → k < TIMERS → TimerOk t → WellFormed m → WellFormed (withTimer k t m)
+  unfolding withTimer withControl
+  timer-formed k t l h f = dividers-formed (sized-set k (t .divider) (f .dividers) (h .divider)) (counted-formed k (t .count) l (h .count) f)
+
+  notified-formed : (c : ℕ) → WellFormed m → WellFormed (notified c m .machine)
+  unfolding notified registerAt registers
+  notified-formed c f =
+      let P : Clocked → Type 0 = λ x. WellFormed (x .machine) in
+      let pending : controlAt m INT-PEND < 2 ^ 12 = holds-small (registerAt INT-PEND) (controlAt m INT-PEND) (f .control .hold INT-PEND) in
+      if-holds P _ (λ _. reset-formed) (λ _.
+      if-holds P _ (λ _. pending-formed (with-below (sourceOf c) (controlAt m INT-PEND) 12 (source-small c) pending) f) (λ _. f))
+
+one-formed : {m : Machine} (k : ℕ) → k < TIMERS → WellFormed m → WellFormed (clockOne k m .machine)
+unfolding clockOne counted
+one-formed {m} k l f =
+    let c = configurationOf k m in
+    let t = clockTimer c (timerIn k m) in
+    let ok : TimerOk (t .timer) = timer-ok c (timerIn k m) (record { count = registers-below (f .control) (TMR0-CNT + 2 * k); divider = f .dividers .range k }) in
+    let g = timer-formed k (t .timer) l ok f in
+    if-holds (λ (x : Clocked). WellFormed (x .machine)) (t .reached) (λ _. notified-formed c g) (λ _. g)
+
+pub clock-formed : {m : Machine} → WellFormed m → WellFormed (clock m .machine)
+unfolding clock
+clock-formed f =
+    if-holds (λ (x : Clocked). WellFormed (x .machine)) _ (λ _. one-formed 0 (lit< tt) f) (λ _. one-formed 1 (lit< tt) (one-formed 0 (lit< tt) f))
+
 -- ---- the step
 
 -- what holds of the state before it, of what an accepted interrupt leaves and of what the decided effect leaves, holds of the state after it
 module _ (P : State → Type 0) (program : List ℕ) (s : State) (requests : ℕ) where
-  pub step-holds : let r = withRequests requests s in
+  pub unclocked-holds : let r = withRequests requests s in
       P s → ((n : ℕ) → Accepted (r .machine) n → P (record { machine = accept n (r .machine); memory = r .memory }))
-      → P (apply (decide (view program r)) r .after) → P (step program s requests .after)
-  unfolding step interruptOr machineOnly
-  step-holds before accepted decided = if-holds P _ (λ _. before) (λ _. taken (acceptedSource v (r .machine)) refl)
+      → P (apply (decide (view program r)) r .after) → P (unclocked program s requests .after)
+  unfolding unclocked interruptOr machineOnly
+  unclocked-holds before accepted decided = if-holds P _ (λ _. before) (λ _. taken (acceptedSource v (r .machine)) refl)
     where
       r : State
       r = withRequests requests s
@@ -251,11 +293,18 @@ module _ (P : State → Type 0) (program : List ℕ) (s : State) (requests : ℕ
       taken none e = decided
       taken (some n) e = accepted n (source-accepted v (r .machine) n e)
 
-pub step-formed : (program : List ℕ) (s : State) (requests : ℕ) → WellFormed (s .machine) → WellFormed (step program s requests .after .machine)
-step-formed p s q f =
+pub unclocked-formed : (program : List ℕ) (s : State) (requests : ℕ) → WellFormed (s .machine) → WellFormed (unclocked program s requests .after .machine)
+unclocked-formed p s q f =
     let r = withRequests q s in
     let g = requests-formed s q f in
-    step-holds (λ (t : State). WellFormed (t .machine)) p s q f (λ n a. accept-formed a g) (apply-formed p r (decide (view p r)) (decide-safe p r) g)
+    unclocked-holds (λ (t : State). WellFormed (t .machine)) p s q f (λ n a. accept-formed a g) (apply-formed p r (decide (view p r)) (decide-safe p r) g)
+
+pub step-formed : (program : List ℕ) (s : State) (requests : ℕ) → WellFormed (s .machine) → WellFormed (step program s requests .after .machine)
+unfolding step
+step-formed p s q f =
+    let t = unclocked p s q in
+    let g = unclocked-formed p s q f in
+    clock-holds t (λ (x : Transition). WellFormed (x .after .machine)) (λ _. g) (λ _ _. reset-formed) (λ _ _. clock-formed g)
 
 pub stays-formed : StaysFormed
 stays-formed p s q h = formed-true (step-formed p s q (true-formed (s .machine) h))

@@ -14,8 +14,9 @@ use Rattle.effect.specs.Apply.{Transition, machineOnly, storeCell, apply, stopN
 use Rattle.effect.specs.Kind.{Kind}
 use Rattle.effect.specs.Kind as kind
 use Rattle.step.specs.Interrupt.{withRequests, acceptedSource}
-use Rattle.step.specs.Step.{isStop, interruptOr, step}
+use Rattle.step.specs.Step.{isStop, interruptOr, unclocked, step}
 use Rattle.execute.proofs.Safe.{Safe, decide-safe}
+use Rattle.step.proofs.Clocks.{kind-holds}
 
 -- a stop's number is one of the five
 abbrev Numbered : Kind → Type 0
@@ -29,6 +30,7 @@ numbered-stop kind.Interrupt h = absurd (h refl)
 numbered-stop kind.SystemCall h = absurd (h refl)
 numbered-stop kind.InterruptReturn h = absurd (h refl)
 numbered-stop (kind.Exception c) h = absurd (h refl)
+numbered-stop kind.Reset h = absurd (h refl)
 numbered-stop (kind.Stop n) h = refl
 
 -- 0 is no stop's
@@ -56,7 +58,11 @@ unfolding interruptOr machineOnly isStop stopNumber
 taken-numbered p none s = instruction-numbered p s
 taken-numbered p (some n) s = none-stops
 
--- what a step reports
+-- what a step reports, before its clock and after it
+pub unclocked-number : (p : List ℕ) (s : State) (q : ℕ) → Numbered (unclocked p s q .kind)
+unfolding unclocked
+unclocked-number p s q = let r = withRequests q s in taken-numbered p (acceptedSource (view p r) (r .machine)) r
+
 pub stop-number : (p : List ℕ) (s : State) (q : ℕ) → Numbered (step p s q .kind)
-unfolding step
-stop-number p s q = let r = withRequests q s in taken-numbered p (acceptedSource (view p r) (r .machine)) r
+unfolding step isStop
+stop-number p s q = kind-holds (unclocked p s q) Numbered (unclocked-number p s q) none-stops

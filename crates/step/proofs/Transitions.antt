@@ -1,4 +1,4 @@
--- A step by its two ways, an interrupt or an instruction, from what the parts of its code give. Assumes nothing.
+-- A step before its clock by its two ways, an interrupt or an instruction, from what the parts of its code give. Assumes nothing.
 use mathlib.Core.Path.{_≡_, refl, sym, ap, _∙_}
 use mathlib.Core.Bool.{true, true≢false}
 use mathlib.Core.List.{List}
@@ -13,7 +13,7 @@ use Rattle.execute.specs.Decide.{decide}
 use Rattle.effect.specs.Effect.{Effect, Stopped, Raised, SystemCall, InterruptReturn, StoreCell, Updates}
 use Rattle.effect.specs.Apply.{Transition, machineOnly, storeCell, apply, stopNumber, Report, reported}
 use Rattle.step.specs.Interrupt.{withRequests, acceptedSource, accept}
-use Rattle.step.specs.Step.{isStop, interruptOr, step}
+use Rattle.step.specs.Step.{isStop, interruptOr, unclocked}
 use Rattle.step.proofs.Requests.{pending-back}
 use Rattle.step.proofs.Stops.{numbered-stop, numbered-step, instruction-numbered}
 
@@ -34,10 +34,10 @@ requests-back requests s = rw (pending-back (s .machine) (orOf (controlAt (s .ma
 
 -- r is the state with the requests added
 module _ (program : List ℕ) (s : State) (requests : ℕ) (r : State) (added : r ≡ withRequests requests s) where
-  pub step-accepts : (n : ℕ) → acceptedSource (view program r) (r .machine) ≡ some n
-      → record { stop = 0; after = record { machine = accept n (r .machine); memory = r .memory } } ≡ reported (step program s requests)
-  unfolding step interruptOr machineOnly isStop if_then_else_ reported stopNumber
-  step-accepts n o = rw (← added, o)
+  pub accepts : (n : ℕ) → acceptedSource (view program r) (r .machine) ≡ some n
+      → record { stop = 0; after = record { machine = accept n (r .machine); memory = r .memory } } ≡ reported (unclocked program s requests)
+  unfolding unclocked interruptOr machineOnly isStop if_then_else_ reported stopNumber
+  accepts n o = rw (← added, o)
 
   -- no source is accepted: the instruction is carried out, and t is what that reports
   module _ (t : Report) (o : acceptedSource (view program r) (r .machine) ≡ none) (done : t ≡ reported (apply (decide (view program r)) r)) where
@@ -48,18 +48,18 @@ module _ (program : List ℕ) (s : State) (requests : ℕ) (r : State) (added : 
     unfolding reported
     number = ap (λ (u : Report). u .stop) done
 
-    pub step-goes-on : t .stop ≡ 0 → t ≡ reported (step program s requests)
-    unfolding step interruptOr if_then_else_ reported
-    step-goes-on z =
+    pub goes-on : t .stop ≡ 0 → t ≡ reported (unclocked program s requests)
+    unfolding unclocked interruptOr if_then_else_ reported
+    goes-on z =
         let g = numbered-step (instruction .kind) (instruction-numbered program r) (sym number ∙ z) in
         done ∙ rw (← added, o, g)
 
     -- INT_PEND is put back
-    pub step-stops : (t .stop ≡ 0 → ⊥)
+    pub stops : (t .stop ≡ 0 → ⊥)
         → record { stop = t .stop; after = record { machine = withPending (controlAt (s .machine) INT-PEND) (t .after .machine); memory = t .after .memory } }
-        ≡ reported (step program s requests)
-    unfolding step interruptOr if_then_else_ reported
-    step-stops z =
+        ≡ reported (unclocked program s requests)
+    unfolding unclocked interruptOr if_then_else_ reported
+    stops z =
         let g = numbered-stop (instruction .kind) (λ e. z (number ∙ e)) in
         let same : t .after ≡ withRequests requests s = ap (λ (u : Report). u .after) done ∙ stopped-same (decide (view program r)) r g ∙ added in
         let back = ap (λ (u : State). record { machine = withPending (controlAt (s .machine) INT-PEND) (u .machine); memory = u .memory }) same ∙ requests-back requests s in

@@ -17,7 +17,7 @@ use Rattle.view.specs.View.{Attempt, Found, Raises, Stops, Location, foundAt, h
 use Rattle.effect.specs.Effect.{Raised}
 use Rattle.effect.specs.Apply.{Transition, apply}
 use Rattle.step.specs.Interrupt.{withRequests, acceptedSource}
-use Rattle.step.specs.Step.{stepSeeing, step}
+use Rattle.step.specs.Step.{unclockedSeeing, withClock, step}
 
 -- ---- the step before
 
@@ -35,7 +35,7 @@ viewBefore program s = withPlaces (placeBefore s) (heldAt s) (view program s)
 
 -- one step by the order before
 abbrev pub stepBefore : (program : List ℕ) → State → (requests : ℕ) → Transition
-stepBefore program = stepSeeing (viewBefore program)
+stepBefore program s requests = withClock (unclockedSeeing (viewBefore program) s requests)
 
 -- ---- "The steps that change: user loads and stores with overflow whose wrapped address is protected, 08h before, 07h now"
 
@@ -66,8 +66,8 @@ pub record WrappedAccess (program : List ℕ) (s : State) : Type 0 where
 pub data Compared (program : List ℕ) (s : State) (requests : ℕ) (r : State) : Type 0 where
   -- "08h before, 07h now"
   changed : WrappedAccess program r
-      → step program s requests ≡ apply (Raised 0x07) r
-      → stepBefore program s requests ≡ apply (Raised 0x08) r
+      → step program s requests ≡ withClock (apply (Raised 0x07) r)
+      → stepBefore program s requests ≡ withClock (apply (Raised 0x08) r)
       → Compared program s requests r
   -- "Every other step from the same machine does what it did"
   unchanged : (WrappedAccess program r → ⊥)

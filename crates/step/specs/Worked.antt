@@ -6,6 +6,7 @@ use Prim.Native.Nat.{ℕ, _+_, _*_, _^_}
 use lib.ListN.{getD, set, replicate}
 use Rattle.isa.specs.Operation.{Operation, add, sub, subu, muls, mulu, mulus, ld, jmp, Properties, properties}
 use Rattle.machine.specs.Machine.{Machine, memoryOf, State, PSR, positionAt}
+use Rattle.machine.specs.Words.{ZEROS}
 use Rattle.machine.specs.declared.Position.{Position}
 use Rattle.machine.specs.Control.{controlAt, reset, EXCEPTION-CS, EXCEPTION-PC, EXCEPTION-PSR, DMEM-BOUND-LO, DMEM-BOUND-HI, IMEM-BOUND-LO, IMEM-BOUND-HI}
 use Rattle.codec.specs.Number.{bytesOf}
@@ -38,6 +39,7 @@ start c =
         control = set (set (set (set (set (set (reset .control) EXCEPTION-CS 99) EXCEPTION-PC 99) DMEM-BOUND-LO 0x10) DMEM-BOUND-HI (c .high)) IMEM-BOUND-LO 1) IMEM-BOUND-HI 0;
         position = positionAt 0;
         stack = [];
+        dividers = ZEROS;
       };
       memory = memoryOf (replicate 32 77);
     }

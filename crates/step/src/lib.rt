@@ -1,4 +1,4 @@
-// One step: requests, an interrupt accepted, or an instruction.
+// One step: requests, an interrupt accepted or an instruction, and the timers' clock.
 ghost use mathlib.Core.Path.{_≡_};
 ghost use mathlib.Core.Bool.{true, false};
 ghost use Prim.Native.Nat.{_≤_, _<_};
@@ -11,7 +11,7 @@ ghost use Rattle.formed.specs.Questions.{wellFormed};
 ghost use Rattle.view.specs.View.{viewOf};
 ghost use Rattle.effect.specs.Apply.{reported, reportBy};
 ghost use Rattle.step.specs.Interrupt.{addRequests, priority, candidate, isMulhi, mayAccept, acceptedSource, servicePsr, entryFor, accept};
-ghost use Rattle.step.specs.Step.{step};
+ghost use Rattle.step.specs.Step.{unclocked, step};
 ghost use Rattle.step.specs.Search.{sourceNumber, waiting, mostUrgent, serviceFloor};
 use machine::Entry;
 use machine::Position;
@@ -194,10 +194,10 @@ fn accept(w: &mut [u32], n: u32)
 
 // ---- the step
 
-// One step with its requests, which gives 0; or a stop, which gives its number and leaves everything as before it.
-pub fn step(program: &[u8], w: &mut [u32], cells: &mut [u32], requests: u32) -> u32
+// A step with its requests, before its clock, which gives 0; or a stop, which gives its number and leaves everything as before it.
+fn transition(program: &[u8], w: &mut [u32], cells: &mut [u32], requests: u32) -> u32
     requires { ⌜ MachineWords (now w) × (length (now program) ≤ MOST-MEMORY) × (wellFormed (machineOf (now w)) ≡ true) ⌝ }
-    ensures { λ r. ⌜ reportBy r (now (w .exit)) (memoryOf (now (cells .exit))) ≡ reported (step (now (program .entry)) (stateOf (now (w .entry)) (memoryOf (now (cells .entry)))) requests) ⌝ }
+    ensures { λ r. ⌜ reportBy r (now (w .exit)) (memoryOf (now (cells .exit))) ≡ reported (unclocked (now (program .entry)) (stateOf (now (w .entry)) (memoryOf (now (cells .entry)))) requests) ⌝ }
 {
     let pending = machine::control(w, machine::INT_PEND);
     add_requests(w, requests);
@@ -209,6 +209,18 @@ pub fn step(program: &[u8], w: &mut [u32], cells: &mut [u32], requests: u32) -> 
     let stop = execute::execute(program, w, cells);
     if stop != 0 {
         machine::set_control(w, machine::INT_PEND, pending);
+    }
+    stop
+}
+
+// One step with its requests, which gives 0; or a stop, which gives its number and leaves everything as before it.
+pub fn step(program: &[u8], w: &mut [u32], cells: &mut [u32], requests: u32) -> u32
+    requires { ⌜ MachineWords (now w) × (length (now program) ≤ MOST-MEMORY) × (wellFormed (machineOf (now w)) ≡ true) ⌝ }
+    ensures { λ r. ⌜ reportBy r (now (w .exit)) (memoryOf (now (cells .exit))) ≡ reported (step (now (program .entry)) (stateOf (now (w .entry)) (memoryOf (now (cells .entry)))) requests) ⌝ }
+{
+    let stop = transition(program, w, cells, requests);
+    if stop == 0 {
+        timer::clock(w);
     }
     stop
 }

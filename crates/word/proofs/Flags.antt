@@ -177,6 +177,10 @@ ones-most (suc k) x = let h : onesOf k (x / 2) ≤ k = ones-most k (x / 2) in om
 
 -- ---- the flags of a list
 
+-- one of a list is not one that is none of it
+pub apart-among : (ns : List ℕ) (n i : ℕ) → isAmong i ns ≡ true → isAmong n ns ≡ false → n ≡ i → ⊥
+apart-among ns n i a b e = true≢false (sym a ∙ ap (λ (j : ℕ). isAmong j ns) (sym e) ∙ b)
+
 pub flags-at : (n : ℕ) (ns : List ℕ) → bitAt n (flagsAt ns) ≡ isAmong n ns
 unfolding flagsAt isAmong
 flags-at n [] = rw (zero-div (2 ^ n))

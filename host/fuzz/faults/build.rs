@@ -55,13 +55,13 @@ fn copy_with_faults(crate_root: &Path) {
         };
         // What each copy needs of the modules, and of lib.rs.
         let takes_module = |name: &str| match fault.shown_by {
-            ShownBy::Calls => !matches!(name, "listing" | "encode" | "operands"),
+            ShownBy::Calls | ShownBy::Carried => !matches!(name, "listing" | "encode" | "operands"),
             ShownBy::Listings => matches!(name, "listing" | "operands" | "decode"),
             ShownBy::Choices => matches!(name, "encode" | "operands" | "decode"),
             ShownBy::All => true,
         };
         let takes_line = |line: &str| match fault.shown_by {
-            ShownBy::Calls => !line.starts_with("pub use "),
+            ShownBy::Calls | ShownBy::Carried => !line.starts_with("pub use "),
             ShownBy::Listings => line.starts_with("const ") || line.starts_with("pub use listing"),
             ShownBy::Choices => line.starts_with("pub use encode"),
             ShownBy::All => true,
@@ -99,9 +99,14 @@ fn copy_with_faults(crate_root: &Path) {
             text += CHOOSE;
             encode = format!("Some(fault_{index}::choose)");
         }
+        let mut carry_over = String::from("None");
+        if matches!(fault.shown_by, ShownBy::Carried | ShownBy::All) {
+            carry_over = format!("Some(fault_{index}::carry_over)");
+        }
         text += "}\n";
         table += &format!(
-            "    Faulty {{ name: {:?}, run: {run}, listing: {listing}, encode: {encode} }},\n",
+            "    Faulty {{ name: {:?}, run: {run}, listing: {listing}, encode: {encode}, \
+             carry_over: {carry_over} }},\n",
             fault.name
         );
     }

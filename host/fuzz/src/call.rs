@@ -2,7 +2,7 @@
 //! that demand 3 speaks of).
 
 use crate::damage::{self, Damage, DAMAGES};
-use crate::image::{self, Image, LONGEST, PC, PRODUCT, SLOT};
+use crate::image::{self, Image, Layout, LONGEST, OLD_LONGEST, PC, PRODUCT, SLOT};
 use crate::program::{self, Region, Themes};
 use crate::random::Random;
 use crate::state;
@@ -11,6 +11,9 @@ use crate::state;
 pub const MEMORY_LIMIT: usize = 65_536;
 /// "Step limit at most 1,000,000"
 pub const STEP_LIMIT: u32 = 1_000_000;
+
+/// The layout that question 2 reads.
+const LAYOUT: Layout = Layout::New;
 
 /// Everything that a call lends or gives.
 #[derive(Clone, Default)]
@@ -81,12 +84,12 @@ impl Generator {
                 || (first.refusal() == 2 && second.refusal() == 2)
                 || random.percent(80);
             if alone {
-                damage::apply(&[first], random, &mut self.image, &mut call.image);
+                damage::apply(&[first], LAYOUT, random, &mut self.image, &mut call.image);
                 expected.refusal = Some(first.refusal());
                 expected.damage = Some(index);
             } else {
                 let both: [Damage; 2] = [first, second];
-                damage::apply(&both, random, &mut self.image, &mut call.image);
+                damage::apply(&both, LAYOUT, random, &mut self.image, &mut call.image);
                 expected.refusal = None;
             }
         } else if random.one_in(40) {
@@ -95,7 +98,7 @@ impl Generator {
             coffee_reference::reset(&mut call.image);
             call.image.truncate(image::SHORTEST);
         } else {
-            self.image.write(&mut call.image);
+            self.image.write(LAYOUT, &mut call.image);
         }
         self.own_parts(random, call, expected)
     }
@@ -109,7 +112,7 @@ impl Generator {
             let mut image = Image::read(&call.image);
             image.position = [0; 6];
             image.position[PC] = program::code_address(random, &self.regions, image.wide());
-            image.write(&mut call.image);
+            image.write(LAYOUT, &mut call.image);
         }
         let expected = Expected {
             refusal: Some(0),
@@ -147,11 +150,12 @@ impl Generator {
 
         if random.one_in(rarity) {
             refuse(8);
+            let least = LONGEST as u32;
             let length = match random.below(6) {
                 0 => 0,
-                1 => 707,
-                2 => random.range(516, 707),
-                _ => random.below(708),
+                1 => least - 1,
+                2 => random.range(OLD_LONGEST as u32, least - 1),
+                _ => random.below(least),
             };
             call.buffer.truncate(length as usize);
             // The greatest limit, at no cost: it would give 7 if it were refused.

@@ -1,6 +1,7 @@
 //! One call on both sides, and everything that it may touch.
 
 use crate::call::Call;
+use crate::difference::{self, ImageByte, Unlike};
 use crate::guarded::Guarded;
 use crate::image;
 use crate::series;
@@ -12,61 +13,21 @@ pub type Run = fn(&[u8], &mut [u32], &[u8], &[u32], u32, &mut [u8]) -> Answer;
 
 pub type Sides = series::Sides<Run>;
 
-/// A cell or byte that the sides leave different.
+/// What the sides leave different after a call.
 #[derive(Clone, Debug, PartialEq, Eq)]
-pub struct Unlike<T> {
-    pub index: usize,
-    pub before: T,
-    pub reference: T,
-    pub library: T,
-}
-
-impl<T: fmt::UpperHex> fmt::Display for Unlike<T> {
-    fn fmt(&self, f: &mut fmt::Formatter<'_>) -> fmt::Result {
-        let digits = 2 * std::mem::size_of::<T>();
-        write!(
-            f,
-            "before {:0digits$X}, reference {:0digits$X}, library {:0digits$X}",
-            self.before, self.reference, self.library
-        )
-    }
+pub enum Left {
+    Cell(Unlike<u32>),
+    Byte(ImageByte),
 }
 
 /// What differs after a call.
-#[derive(Clone, Debug, PartialEq, Eq)]
-pub enum Difference {
-    Answer {
-        reference: Answer,
-        library: Answer,
-    },
-    Cell(Unlike<u32>),
-    Byte(Unlike<u8>),
-    /// The library wrote to memory that was lent to be read, or not lent at all.
-    Stray(String),
-    /// Both sides answer alike, and not as the papers say.
-    Both(String),
-}
+pub type Difference = difference::Difference<Answer, Left>;
 
-impl fmt::Display for Difference {
+impl fmt::Display for Left {
     fn fmt(&self, f: &mut fmt::Formatter<'_>) -> fmt::Result {
         match self {
-            Difference::Answer { reference, library } => write!(
-                f,
-                "answer: reference refusal {} steps {} ending {}, library refusal {} steps {} ending {}",
-                reference.refusal,
-                reference.steps,
-                reference.ending,
-                library.refusal,
-                library.steps,
-                library.ending
-            ),
-            Difference::Cell(cell) => write!(f, "cell {}: {cell}", cell.index),
-            Difference::Byte(byte) => {
-                let name = image::name(byte.index / 4);
-                write!(f, "buffer byte {} ({name}): {byte}", byte.index)
-            }
-            Difference::Stray(place) => write!(f, "the library wrote to {place}"),
-            Difference::Both(what) => write!(f, "both sides: {what}"),
+            Left::Cell(cell) => write!(f, "cell {}: {cell}", cell.index),
+            Left::Byte(byte) => byte.fmt(f),
         }
     }
 }
@@ -107,20 +68,18 @@ impl Bench {
             self.library_buffer.lent_mut(),
         );
 
-        if reference != library {
-            return Err(Difference::Answer { reference, library });
-        }
+        let answer = Difference::agreed(reference, library)?;
         let cells = self.library_cells.lent();
-        if let Some(cell) = first_difference(&call.cells, &self.cells, cells) {
-            return Err(Difference::Cell(cell));
+        if let Some(cell) = Unlike::first(&call.cells, &self.cells, cells) {
+            return Err(Difference::Left(Left::Cell(cell)));
         }
         let bytes = self.library_buffer.lent();
-        if let Some(byte) = first_difference(&call.buffer, &self.buffer, bytes) {
-            return Err(Difference::Byte(byte));
+        if let Some(byte) = ImageByte::first(&call.buffer, &self.buffer, bytes) {
+            return Err(Difference::Left(Left::Byte(byte)));
         }
         self.no_stray(call).map_err(Difference::Stray)?;
-        self.as_promised(call, reference)?;
-        Ok(reference)
+        self.as_promised(call, answer)?;
+        Ok(answer)
     }
 
     /// Copies what a call lends.
@@ -181,23 +140,4 @@ impl Bench {
         }
         Ok(())
     }
-}
-
-/// Where two slices of equal length differ first, and what was there before.
-pub fn first_difference<T: Copy + PartialEq>(
-    before: &[T],
-    reference: &[T],
-    library: &[T],
-) -> Option<Unlike<T>> {
-    if reference == library {
-        return None;
-    }
-    let pairs = reference.iter().zip(library);
-    let index = pairs.take_while(|(a, b)| a == b).count();
-    Some(Unlike {
-        index,
-        before: before[index],
-        reference: reference[index],
-        library: library[index],
-    })
 }

@@ -1,12 +1,13 @@
 //! What the calls of a session met. Some calls are repeated step by step, each step a
-//! call of its own on both sides; from the images between, the kind of each step is
-//! known.
+//! call of its own on both sides; from the images between, and from the step without its
+//! clock, the kind of each step is known.
 
 use crate::call::{Call, Expected};
 use crate::compare::{Bench, Difference, Run, Sides};
 use crate::damage::DAMAGES;
 use crate::image::*;
 use crate::met::{line, put, Met, Unmet, WIDTH_NAMES};
+use crate::timers::{Done, Timers};
 use crate::words::{self, *};
 use coffee_reference::Answer;
 
@@ -23,8 +24,23 @@ const FIELD_KINDS: [&str; 3] = ["16-bit exbf", "32-bit exbf", "exbfi"];
 const END_LENGTHS: [usize; 5] = [0, 31, 32, 33, 63];
 const END_POSITIONS: [usize; 2] = [0, 31];
 
-/// A number that EXCEPTION_PSR can hold and that no PSR is.
-const NO_PSR: u32 = 0xFF;
+/// Marks for registers that a step seldom writes. EXCEPTION_PSR can hold its mark, and no PSR
+/// is that; both timers are disabled, and are far from their maxima if the step enables them.
+const MARKS: [(usize, u32); 6] = [
+    (EXCEPTION_PSR, 0xFF),
+    (TMR0_CNT, 0x5A3C_9601),
+    (TMR0_MAX_CNT, 0x3CA5_6902),
+    (TMR1_CNT, 0xC35A_6903),
+    (TMR1_MAX_CNT, 0xA53C_9604),
+    (TMR_CONF, 0x2B4D_1D2B),
+];
+
+/// A step as it is without its clock.
+struct Unclocked {
+    /// The machine as the step's stores leave it.
+    image: Image,
+    done: Done,
+}
 
 /// Counts of what was met.
 pub struct Coverage {
@@ -77,6 +93,7 @@ pub struct Coverage {
     accepted_with_product: u64,
     waited_for_slot: u64,
     waited_for_mulhi: u64,
+    timers: Timers,
 }
 
 impl Coverage {
@@ -118,6 +135,7 @@ impl Coverage {
             accepted_with_product: 0,
             waited_for_slot: 0,
             waited_for_mulhi: 0,
+            timers: Timers::default(),
         }
     }
 
@@ -134,21 +152,22 @@ impl Coverage {
         }
     }
 
-    /// Counts a step: the machine before it, its requests, and the machine after it.
-    /// `cells` are those before and after.
+    /// Counts a step: the machine before it, its requests, and what it does. `cells` are
+    /// those before and after.
     fn count_step(
         &mut self,
         program: &[u8],
         requests: u32,
         before: &Image,
-        after: &Image,
-        exception: bool,
+        unclocked: &Unclocked,
         cells: [&[u32]; 2],
     ) {
+        let after = &unclocked.image;
         self.traced_steps += 1;
+        self.timers.count(unclocked.done, after);
         self.status[before.psr() as usize] += 1;
         let waiting = getting_through(before, requests);
-        if after.depth > before.depth {
+        if unclocked.done == Done::Interrupt {
             self.count_acceptance(before, after, waiting);
             return;
         }
@@ -159,7 +178,7 @@ impl Coverage {
         } else if waiting != 0 && operation == Some(MULHI) {
             self.waited_for_mulhi += 1;
         }
-        if exception {
+        if unclocked.done == Done::Exception {
             let code = after.control[EXCEPTION_CS];
             self.exceptions[code as usize] += 1;
             self.exceptions_user += u64::from(before.user());
@@ -421,6 +440,7 @@ impl Met for Coverage {
         );
         unmet.need(self.waited_for_slot, "interrupt held back by a slot".into());
         unmet.need(self.waited_for_mulhi, "interrupt held back by mulhi".into());
+        self.timers.need(&mut unmet);
         unmet.lines()
     }
 
@@ -510,6 +530,7 @@ impl Met for Coverage {
                 self.waited_for_mulhi
             ),
         );
+        self.timers.report(out);
         let both = |operation: u32| {
             let operation = operation as usize;
             self.done[0][operation] + self.done[1][operation]
@@ -657,13 +678,12 @@ impl Tracer {
             let length = length(&self.bench.buffer);
             let after = Image::read(&self.bench.buffer);
             if number < answer.steps {
-                let exception = self.exception(&before, &after, sides.reference);
+                let unclocked = self.unclocked(&before, sides.reference);
                 coverage.count_step(
                     &self.step.program,
                     requests,
                     &before,
-                    &after,
-                    exception,
+                    &unclocked,
                     [&self.step.cells, &self.bench.cells],
                 );
             }
@@ -687,21 +707,13 @@ impl Tracer {
         &self.step
     }
 
-    /// Whether a step entered an exception. Where the images leave it open, as with
-    /// two exceptions of one kind in a row, the step is repeated with an EXCEPTION_PSR
-    /// that only an exception can replace.
-    fn exception(&mut self, before: &Image, after: &Image, reference: Run) -> bool {
-        let entered = after.depth == before.depth
-            && after.psr() == 0x0E
-            && after.pc() == before.control[EXCEP_ADDR]
-            && after.control[EXCEPTION_PC] == before.pc()
-            && after.control[EXCEPTION_PSR] == before.psr();
-        let registers = EXCEPTION_CS..=EXCEPTION_PSR;
-        if !entered || before.control[registers.clone()] != after.control[registers] {
-            return entered;
-        }
+    /// The last step without its clock: it is repeated with marks, of which those that it
+    /// leaves are replaced by what was there before.
+    fn unclocked(&mut self, before: &Image, reference: Run) -> Unclocked {
         self.marked.clone_from(&self.step.image);
-        set_number(&mut self.marked, COUNTS[3] + 1 + EXCEPTION_PSR, NO_PSR);
+        for (offset, mark) in MARKS {
+            set_number(&mut self.marked, COUNTS[3] + 1 + offset, mark);
+        }
         self.marked_cells.clone_from(&self.step.cells);
         reference(
             &self.step.program,
@@ -711,12 +723,79 @@ impl Tracer {
             1,
             &mut self.marked_buffer,
         );
-        number(&self.marked_buffer, COUNTS[3] + 1 + EXCEPTION_PSR) != NO_PSR
+        let mut image = Image::read(&self.marked_buffer);
+        let written = MARKS.map(|(offset, mark)| image.control[offset] != mark);
+        let [exception, .., configuration] = written;
+        let mut done = if image.depth > before.depth {
+            Done::Interrupt
+        } else if exception {
+            Done::Exception
+        } else {
+            Done::Instruction
+        };
+        for ((offset, _), written) in MARKS.into_iter().zip(written) {
+            // A timer that the step enables may have counted already.
+            let stored = written && (offset == TMR_CONF || !configuration);
+            if stored && TIMER_REGISTERS.contains(&offset) {
+                done = Done::TimerStore(offset);
+            } else if !stored {
+                image.control[offset] = before.control[offset];
+            }
+        }
+        image.dividers = before.dividers;
+        Unclocked { image, done }
     }
 }
 
 impl Default for Tracer {
     fn default() -> Tracer {
         Tracer::new()
+    }
+}
+
+#[cfg(test)]
+mod tests {
+    use super::*;
+
+    /// A step, without its clock: each timer register stored to, an instruction that stores to
+    /// none of them, an exception and an interrupt. Both timers would tick.
+    #[test]
+    fn steps_without_their_clock() {
+        let mut before = Image::new();
+        before.set2[PSR] = IE | IL | RSWR | RSRD;
+        before.set2[2] = 0x9234_8678;
+        before.control[CCB_BASE] = 0x0001_0000;
+        before.set2[1] = 0x0001_0000;
+        before.control[TMR0_CNT..=TMR_CONF].copy_from_slice(&[1, 100, 2, 200, 0x8000_8000]);
+        before.dividers = [7, 8];
+        let store = |offset: usize| wide_immediate(ST, 2, 1, offset as u32);
+        let stores = TIMER_REGISTERS.map(|offset| (store(offset), 0, Done::TimerStore(offset)));
+        let others = [
+            (NOP, 0, Done::Instruction),
+            (store(INT_MASK), 0, Done::Instruction),
+            (wide_registers(TRAP, 0, 0, 3), 0, Done::Exception),
+            (NOP, 1 << 5, Done::Interrupt),
+        ];
+        for (word, requests, done) in stores.into_iter().chain(others) {
+            before.control[INT_MASK] = requests;
+            let mut tracer = Tracer::new();
+            tracer.step.program = word.to_be_bytes().to_vec();
+            tracer.step.requests = vec![requests];
+            before.write(Layout::New, &mut tracer.step.image);
+            let unclocked = tracer.unclocked(&before, coffee_reference::run);
+            assert!(unclocked.done == done);
+            let mut timers = before.control;
+            if let Done::TimerStore(offset) = done {
+                timers[offset] = before.set2[2];
+            }
+            let after = unclocked.image;
+            assert_eq!(
+                after.control[TMR0_CNT..=TMR_CONF],
+                timers[TMR0_CNT..=TMR_CONF]
+            );
+            assert_eq!(after.dividers, before.dividers);
+            assert_eq!(after.control[EXCEPTION_PSR] != 0, done == Done::Exception);
+            assert_eq!(after.depth, usize::from(done == Done::Interrupt));
+        }
     }
 }

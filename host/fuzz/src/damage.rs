@@ -1,5 +1,5 @@
-//! Images that one of questions 2 to 5 refuses, each by one change to a valid image
-//! (01, "Machine image").
+//! Images that one of questions 2 to 5 refuses, each by one change to a valid image of a
+//! layout (01, "Machine image"; 02, wish 5).
 
 use crate::image::*;
 use crate::random::Random;
@@ -24,6 +24,12 @@ pub enum Damage {
     MissingEntry,
     CutShort,
     Empty,
+    /// The count of dividers, or that and the dividers.
+    DividerCount,
+    ExtraDivider,
+    MissingDivider,
+    NoDividers,
+    OtherLayout,
     // Question 3: every number one its register can hold.
     Status,
     Condition,
@@ -39,6 +45,8 @@ pub enum Damage {
     LowWithoutProduct,
     StackedStatus,
     StackedCondition,
+    /// Of the timer with this number.
+    Divider(usize),
     // Question 4: user mode has both set bits 0.
     UserSets,
     StackedUserSets,
@@ -58,7 +66,7 @@ pub enum Damage {
 use Damage::*;
 
 /// Every kind of damage.
-pub const DAMAGES: [Damage; 53] = [
+pub const DAMAGES: [Damage; 60] = [
     Count(0),
     Count(1),
     Count(2),
@@ -76,6 +84,11 @@ pub const DAMAGES: [Damage; 53] = [
     MissingEntry,
     CutShort,
     Empty,
+    DividerCount,
+    ExtraDivider,
+    MissingDivider,
+    NoDividers,
+    OtherLayout,
     Status,
     Condition,
     Control(INT_MODE_IL),
@@ -101,6 +114,8 @@ pub const DAMAGES: [Damage; 53] = [
     LowWithoutProduct,
     StackedStatus,
     StackedCondition,
+    Divider(0),
+    Divider(1),
     UserSets,
     StackedUserSets,
     SourceTooLarge,
@@ -120,12 +135,22 @@ impl Damage {
         match self {
             Count(_) | EntryCountMore | EntryCountLess | ThirteenEntries | EntryCountWraps
             | EntryCountLarge | Shorter | Longer | ExtraNumber | ExtraEntry | MissingEntry
-            | CutShort | Empty => 2,
+            | CutShort | Empty | DividerCount | ExtraDivider | MissingDivider | NoDividers
+            | OtherLayout => 2,
             UserSets | StackedUserSets => 4,
             SourceTooLarge | SourceWraps | SourceTwice | ServiceMore | ServiceLess
             | ReturnAddress | ReturnStatus | ReturnStatusWide | ReturnCondition => 5,
             _ => 3,
         }
+    }
+
+    /// Whether an image of a layout can be damaged so.
+    pub fn is_of(self, layout: Layout) -> bool {
+        let of_dividers = matches!(
+            self,
+            DividerCount | ExtraDivider | MissingDivider | NoDividers | Divider(_)
+        );
+        layout == Layout::New || !of_dividers
     }
 
     /// The stack entries that a valid image needs for this damage.
@@ -182,6 +207,7 @@ impl Damage {
                 }
             }
             StackedCondition => image.stack[place].c0 |= 8 << shift(random, 29),
+            Divider(timer) => image.dividers[timer] |= 256 << shift(random, 24),
             UserSets => image.set2[PSR] |= UM | random.pick(&[RSRD, RSWR, RSRD | RSWR]),
             StackedUserSets => {
                 image.stack[place].psr |= UM | random.pick(&[RSRD, RSWR, RSRD | RSWR]);
@@ -226,9 +252,12 @@ impl Damage {
     }
 
     /// The damage of question 2.
-    fn change_bytes(self, random: &mut Random, depth: u32, bytes: &mut Vec<u8>) {
+    fn change_bytes(self, layout: Layout, random: &mut Random, image: &Image, bytes: &mut Vec<u8>) {
         let length = bytes.len();
+        let depth = image.depth as u32;
         let entries = COUNTS[5];
+        let dividers = last_count(image.depth);
+        let stack_end = 4 * dividers;
         match self {
             Count(section) => {
                 let count = number(bytes, COUNTS[section]);
@@ -244,7 +273,8 @@ impl Damage {
             EntryCountLess => set_number(bytes, entries, depth - 1),
             ThirteenEntries => {
                 set_number(bytes, entries, 13);
-                bytes.resize(SHORTEST + 13 * 16, 0);
+                let more = 16 * (13 - image.depth);
+                bytes.splice(stack_end..stack_end, vec![0; more]);
             }
             EntryCountWraps => {
                 let high = random.range(1, 15) << 28;
@@ -262,18 +292,46 @@ impl Damage {
                 }
             }
             ExtraNumber => bytes.extend_from_slice(&[0; 4]),
-            ExtraEntry => bytes.extend_from_slice(&[0; 16]),
-            MissingEntry => bytes.truncate(length - 16),
+            ExtraEntry => drop(bytes.splice(stack_end..stack_end, [0; 16])),
+            MissingEntry => drop(bytes.drain(stack_end - 16..stack_end)),
             CutShort => bytes.truncate(random.below(length as u32) as usize),
             Empty => bytes.clear(),
+            DividerCount => {
+                let other = match random.below(4) {
+                    0 => 1,
+                    1 => 3,
+                    2 => 0,
+                    _ => 2 ^ 1 << random.below(32),
+                };
+                set_number(bytes, dividers, other);
+            }
+            ExtraDivider => {
+                set_number(bytes, dividers, 3);
+                bytes.extend_from_slice(&[0; 4]);
+            }
+            MissingDivider => {
+                set_number(bytes, dividers, 1);
+                bytes.truncate(length - 4);
+            }
+            NoDividers => {
+                set_number(bytes, dividers, 0);
+                bytes.truncate(length - 8);
+            }
+            OtherLayout => image.write(layout.other(), bytes),
             _ => {}
         }
     }
 }
 
-/// Damages a valid image in each of these ways and writes it to `bytes`. At most one
-/// of them is of question 2.
-pub fn apply(damages: &[Damage], random: &mut Random, image: &mut Image, bytes: &mut Vec<u8>) {
+/// Damages a valid image in each of these ways, which are of its layout, and writes it to
+/// `bytes`. At most one of them is of question 2.
+pub fn apply(
+    damages: &[Damage],
+    layout: Layout,
+    random: &mut Random,
+    image: &mut Image,
+    bytes: &mut Vec<u8>,
+) {
     for damage in damages {
         while image.depth < damage.least_depth() {
             push_any(random, image);
@@ -286,9 +344,9 @@ pub fn apply(damages: &[Damage], random: &mut Random, image: &mut Image, bytes: 
     for damage in damages {
         damage.change_numbers(random, image);
     }
-    image.write(bytes);
+    image.write(layout, bytes);
     for damage in damages {
-        damage.change_bytes(random, image.depth as u32, bytes);
+        damage.change_bytes(layout, random, image, bytes);
     }
 }
 

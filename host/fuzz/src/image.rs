@@ -1,5 +1,5 @@
-//! The machine image as plain numbers (01, "Machine image"), for the generator and
-//! for reports. Nothing here is shared with the reference.
+//! The machine image as plain numbers (01, "Machine image"; 02, wish 5), for the generator
+//! and for reports. Nothing here is shared with the reference.
 
 /// Bits of PSR (002, section 2.4).
 pub const IE: u32 = 16;
@@ -43,6 +43,13 @@ pub const SYSTEM_ADDR: usize = 0x1F;
 pub const EXCEP_ADDR: usize = 0x20;
 pub const BUS_CONF: usize = 0x21;
 pub const COP_CONF: usize = 0x22;
+pub const TMR0_CNT: usize = 0x23;
+pub const TMR0_MAX_CNT: usize = 0x24;
+pub const TMR1_CNT: usize = 0x25;
+pub const TMR1_MAX_CNT: usize = 0x26;
+pub const TMR_CONF: usize = 0x27;
+/// The registers of the timers, which follow each other.
+pub const TIMER_REGISTERS: [usize; 5] = [TMR0_CNT, TMR0_MAX_CNT, TMR1_CNT, TMR1_MAX_CNT, TMR_CONF];
 pub const RETI_ADDR: usize = 0x28;
 pub const RETI_PSR: usize = 0x29;
 pub const RETI_CR0: usize = 0x2A;
@@ -53,10 +60,50 @@ pub const CORE_VER_ID: usize = 0x2C;
 pub const CONTROL_REGISTERS: usize = 45;
 /// The number of interrupt sources, and the stack's greatest depth.
 pub const SOURCES: usize = 12;
+/// The number of timers.
+pub const TIMERS: usize = 2;
 /// The length of an image with an empty stack.
-pub const SHORTEST: usize = 516;
+pub const SHORTEST: usize = 528;
 /// The length of an image with a full stack, and the least buffer (question 8).
-pub const LONGEST: usize = 708;
+pub const LONGEST: usize = 720;
+/// The same lengths in the old layout.
+pub const OLD_SHORTEST: usize = 516;
+pub const OLD_LONGEST: usize = 708;
+
+/// The sections of an image.
+#[derive(Clone, Copy, Debug, Default, PartialEq, Eq)]
+pub enum Layout {
+    /// Those of 01.
+    Old,
+    /// Those, and "a last section of 2 dividers".
+    #[default]
+    New,
+}
+
+impl Layout {
+    pub fn other(self) -> Layout {
+        match self {
+            Layout::Old => Layout::New,
+            Layout::New => Layout::Old,
+        }
+    }
+}
+
+/// A timer as an image has it.
+#[derive(Clone, Copy, Debug, PartialEq, Eq)]
+pub struct Timer {
+    pub count: u32,
+    pub maximum: u32,
+    /// Its half of TMR_CONF.
+    pub half: u32,
+    pub divider: u32,
+}
+
+/// Bits of a timer's half of TMR_CONF (002, table 3.2).
+pub const EN: u32 = 0x8000;
+pub const CONT: u32 = 0x4000;
+pub const GINT: u32 = 0x2000;
+pub const WDOG: u32 = 0x1000;
 
 /// The bits that the control block register at `offset` can hold (002, section 2.6).
 pub fn control_mask(offset: usize) -> u32 {
@@ -94,6 +141,7 @@ pub struct Image {
     /// The hardware stack, top last; only the first `depth` entries count.
     pub stack: [Entry; SOURCES],
     pub depth: usize,
+    pub dividers: [u32; TIMERS],
 }
 
 impl Image {
@@ -109,6 +157,7 @@ impl Image {
             position: [0; 6],
             stack: [Entry::default(); SOURCES],
             depth: 0,
+            dividers: [0; TIMERS],
         };
         image.show_stack();
         image
@@ -155,6 +204,23 @@ impl Image {
         }
     }
 
+    pub fn timer(&self, number: usize) -> Timer {
+        Timer {
+            count: self.control[TMR0_CNT + 2 * number],
+            maximum: self.control[TMR0_CNT + 2 * number + 1],
+            half: self.control[TMR_CONF] >> (16 * number) & 0xFFFF,
+            divider: self.dividers[number],
+        }
+    }
+
+    pub fn set_timer(&mut self, number: usize, timer: Timer) {
+        self.control[TMR0_CNT + 2 * number] = timer.count;
+        self.control[TMR0_CNT + 2 * number + 1] = timer.maximum;
+        self.control[TMR_CONF] &= !(0xFFFF << (16 * number));
+        self.control[TMR_CONF] |= timer.half << (16 * number);
+        self.dividers[number] = timer.divider;
+    }
+
     /// Makes INT_SERV and RETI_ agree with the stack (question 5).
     pub fn show_stack(&mut self) {
         let top = match self.depth {
@@ -174,8 +240,8 @@ impl Image {
         self.control[RETI_CR0] = top.c0;
     }
 
-    /// Replaces `bytes` by the image's.
-    pub fn write(&self, bytes: &mut Vec<u8>) {
+    /// Replaces `bytes` by the image's in a layout.
+    pub fn write(&self, layout: Layout, bytes: &mut Vec<u8>) {
         bytes.clear();
         let sections: [&[u32]; 5] = [
             &self.set1,
@@ -196,6 +262,12 @@ impl Image {
             push(bytes, entry.address);
             push(bytes, entry.psr);
             push(bytes, entry.c0);
+        }
+        if layout == Layout::New {
+            push(bytes, TIMERS as u32);
+            for divider in self.dividers {
+                push(bytes, divider);
+            }
         }
     }
 
@@ -227,6 +299,10 @@ impl Image {
             entry.psr = next();
             entry.c0 = next();
         }
+        next();
+        for divider in &mut image.dividers {
+            *divider = next();
+        }
         image
     }
 }
@@ -239,7 +315,15 @@ impl Default for Image {
 
 /// The length of the image at the front of `bytes`.
 pub fn length(bytes: &[u8]) -> usize {
-    SHORTEST + 16 * number(bytes, SHORTEST / 4 - 1) as usize
+    SHORTEST + 16 * depth(bytes)
+}
+
+/// The stack's depth in the image at the front of `bytes`; 0 where they are too few.
+pub fn depth(bytes: &[u8]) -> usize {
+    if bytes.len() < OLD_SHORTEST {
+        return 0;
+    }
+    number(bytes, COUNTS[5]) as usize
 }
 
 /// The number with this index in an image.
@@ -257,11 +341,16 @@ fn push(bytes: &mut Vec<u8>, number: u32) {
     bytes.extend_from_slice(&number.to_be_bytes());
 }
 
-/// The index of each section's count.
+/// The index of each section's count, but for the last.
 pub const COUNTS: [usize; 6] = [0, 33, 66, 75, 121, 128];
 
-/// The name of the number with this index in an image.
-pub fn name(index: usize) -> String {
+/// The index of the last section's count.
+pub fn last_count(depth: usize) -> usize {
+    COUNTS[5] + 1 + 4 * depth
+}
+
+/// The name of the number with this index in an image of a depth.
+pub fn name(index: usize, depth: usize) -> String {
     let position = [
         "PC",
         "slot flag",
@@ -285,11 +374,16 @@ pub fn name(index: usize) -> String {
         121 => "count of position".to_string(),
         122..=127 => position[index - 122].to_string(),
         128 => "stack count".to_string(),
-        _ => format!(
+        _ if index < last_count(depth) => format!(
             "stack entry {} {}",
             (index - 129) / 4,
             entry[(index - 129) % 4]
         ),
+        _ => match index - last_count(depth) {
+            0 => "count of dividers".to_string(),
+            place if place <= TIMERS => format!("divider {}", place - 1),
+            _ => "behind the image".to_string(),
+        },
     }
 }
 
@@ -297,24 +391,54 @@ pub fn name(index: usize) -> String {
 mod tests {
     use super::*;
 
+    /// A timer keeps to its own registers, its half of TMR_CONF and its divider.
+    #[test]
+    fn timers() {
+        let timers = [0, 1].map(|number| Timer {
+            count: 10 + number,
+            maximum: 20 + number,
+            half: 0xF5A0 + number,
+            divider: 30 + number,
+        });
+        for order in [[0, 1], [1, 0]] {
+            let mut image = Image::new();
+            image.control[TMR_CONF] = u32::MAX;
+            for number in order {
+                image.set_timer(number, timers[number]);
+            }
+            assert_eq!([0, 1].map(|number| image.timer(number)), timers);
+            let registers = [10, 20, 11, 21, 0xF5A1_F5A0];
+            assert_eq!(image.control[TMR0_CNT..=TMR_CONF], registers);
+            assert_eq!(image.dividers, [30, 31]);
+        }
+    }
+
     #[test]
     fn lengths_and_indices() {
         let mut image = Image::new();
         let mut bytes = Vec::new();
-        image.write(&mut bytes);
+        image.write(Layout::New, &mut bytes);
         assert_eq!(bytes.len(), SHORTEST);
-        let counts = [32, 32, 8, 45, 6, 0];
-        for (index, count) in COUNTS.into_iter().zip(counts) {
+        let counts = [32, 32, 8, 45, 6, 0, 2];
+        let indices = COUNTS.into_iter().chain([last_count(0)]);
+        for (index, count) in indices.zip(counts) {
             assert_eq!(number(&bytes, index), count);
         }
+        let new = bytes.clone();
+        image.write(Layout::Old, &mut bytes);
+        assert_eq!(bytes[..], new[..OLD_SHORTEST]);
         image.depth = SOURCES;
         for (source, entry) in image.stack.iter_mut().enumerate() {
             entry.source = source as u32;
         }
         image.show_stack();
-        image.write(&mut bytes);
+        image.dividers = [3, 4];
+        image.write(Layout::Old, &mut bytes);
+        assert_eq!(bytes.len(), OLD_LONGEST);
+        image.write(Layout::New, &mut bytes);
         assert_eq!(bytes.len(), LONGEST);
         assert_eq!(length(&bytes), LONGEST);
+        assert_eq!(number(&bytes, last_count(SOURCES)), 2);
         assert_eq!(Image::read(&bytes), image);
     }
 
@@ -324,7 +448,7 @@ mod tests {
         assert_eq!(coffee_reference::reset(&mut buffer), 0);
         let image = Image::read(&buffer);
         let mut bytes = Vec::new();
-        image.write(&mut bytes);
+        image.write(Layout::New, &mut bytes);
         assert_eq!(bytes[..], buffer[..SHORTEST]);
         assert_eq!(image.psr(), 0x0E);
     }

@@ -1,15 +1,18 @@
-//! Compares two implementations of the COFFEE core's run call, of its listing and of its
-//! writing of words on seeded random calls.
+//! Compares two implementations of the COFFEE core's run call, of its listing, of its writing
+//! of words and of its carrying over of old images on seeded random calls.
 //!
 //! 01 says what a run call is ("Machine image") and what it does ("One step"); 02 says what
-//! a listing is (wish 2) and how a word is written (wish 7). One side is the reference
+//! a listing is (wish 2), what the timers do and what is carried over (wish 5), and how a word
+//! is written (wish 7). One side is the reference
 //! emulator of host/reference; the other is the proved library, or, to show that the
 //! comparison can fail, a faulty copy of the reference.
 
 pub mod call;
+pub mod carried;
 pub mod compare;
 pub mod coverage;
 pub mod damage;
+pub mod difference;
 pub mod encode;
 pub mod guarded;
 pub mod image;
@@ -21,4 +24,5 @@ pub mod series;
 pub mod session;
 pub mod shrink;
 pub mod state;
+pub mod timers;
 pub mod words;

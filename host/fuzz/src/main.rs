@@ -1,16 +1,18 @@
-//! `fuzz [--seed N] [--calls N] [--seconds N] [--words N] [--choices N]`, and `[--case N]`,
-//! `[--listing N]` or `[--choice N]` to repeat one: compares the COFFEE library with the
-//! reference emulator on every 16-bit word and on random 32-bit words, listed; on words
-//! written from every 16-bit word, from random 32-bit words and from random choices; and on
-//! seeded random calls.
+//! `fuzz [--seed N] [--calls N] [--seconds N] [--words N] [--choices N] [--carried N]`, and
+//! `[--case N]`, `[--listing N]`, `[--choice N]` or `[--carry N]` to repeat one: compares the
+//! COFFEE library with the reference emulator on every 16-bit word and on random 32-bit words,
+//! listed; on words written from every 16-bit word, from random 32-bit words and from random
+//! choices; on images of the old layout carried over; and on seeded random calls.
 //!
-//! Prints what each of the three met, `fuzz: N 32-bit words and N 16-bit words listed, no
+//! Prints what each of the four met, `fuzz: N 32-bit words and N 16-bit words listed, no
 //! difference`, `fuzz: N choices compared, N 32-bit words and N 16-bit words among them, no
-//! difference`, and at the end `fuzz: N calls, no difference`; or the first difference, with
-//! everything that is needed to repeat it, and ends with 1. It ends with 1 too where 200,000
-//! 32-bit words or more, 2,000,000 choices or more, or 2,000,000 calls or more, did not meet
-//! all that they should.
+//! difference`, `fuzz: N carry-overs compared, N images carried over, no difference`, and at
+//! the end `fuzz: N calls, no difference`; or the first difference, with everything that is
+//! needed to repeat it, and ends with 1. It ends with 1 too where 200,000 32-bit words or more,
+//! 2,000,000 choices or more, 200,000 carry-overs or more, or 2,000,000 calls or more, did not
+//! meet all that they should.
 
+use coffee_fuzz::carried;
 use coffee_fuzz::compare::Sides;
 use coffee_fuzz::coverage::Coverage;
 use coffee_fuzz::encode;
@@ -28,9 +30,10 @@ const SEED: u64 = 1;
 const CALLS: u64 = 2_000_000;
 const WORDS: u64 = 200_000;
 const CHOICES: u64 = 2_000_000;
+const CARRIED: u64 = 200_000;
 
 const USAGE: &str = "fuzz [--seed N] [--calls N] [--seconds N] [--words N] [--choices N] \
-                     [--case N] [--listing N] [--choice N]";
+                     [--carried N] [--case N] [--listing N] [--choice N] [--carry N]";
 
 mod library {
     //! The C interface of libcoffee.a.
@@ -58,7 +61,13 @@ mod library {
             buffer: *mut u8,
             buffer_len: usize,
         ) -> CoffeeAnswer;
-        fn coffee_reset(buffer: *mut u8, buffer_len: usize) -> u32;
+        fn coffee_reset(buffer: *mut u8, buffer_bytes: usize) -> u32;
+        fn coffee_carry_over(
+            image: *const u8,
+            image_bytes: usize,
+            buffer: *mut u8,
+            buffer_bytes: usize,
+        ) -> u32;
         fn coffee_listing(
             program: *const u8,
             program_bytes: usize,
@@ -115,19 +124,35 @@ mod library {
         unsafe { coffee_reset(buffer.as_mut_ptr(), buffer.len()) }
     }
 
+    pub fn carry_over(image: &[u8], buffer: &mut [u8]) -> u32 {
+        // Each pointer comes with the length of the slice that it is of; one of no bytes may
+        // be null.
+        let (image_start, buffer_start) = (start(image), start_mut(buffer));
+        unsafe { coffee_carry_over(image_start, image.len(), buffer_start, buffer.len()) }
+    }
+
+    /// The start of a slice, null where it has no bytes.
+    fn start(bytes: &[u8]) -> *const u8 {
+        if bytes.is_empty() {
+            std::ptr::null()
+        } else {
+            bytes.as_ptr()
+        }
+    }
+
+    /// The start of a slice to be written, null where it has no bytes.
+    fn start_mut(bytes: &mut [u8]) -> *mut u8 {
+        if bytes.is_empty() {
+            std::ptr::null_mut()
+        } else {
+            bytes.as_mut_ptr()
+        }
+    }
+
     pub fn listing(program: &[u8], wide: u32, text: &mut [u8]) -> u32 {
         // Each pointer comes with the length of the slice that it is of; one of no bytes may
         // be null.
-        let program_start = if program.is_empty() {
-            std::ptr::null()
-        } else {
-            program.as_ptr()
-        };
-        let text_start = if text.is_empty() {
-            std::ptr::null_mut()
-        } else {
-            text.as_mut_ptr()
-        };
+        let (program_start, text_start) = (start(program), start_mut(text));
         unsafe { coffee_listing(program_start, program.len(), wide, text_start, text.len()) }
     }
 
@@ -207,6 +232,7 @@ fn main() -> ExitCode {
         calls: Some(CALLS),
         words: WORDS,
         choices: CHOICES,
+        carried: CARRIED,
         ..Options::of_seed(SEED)
     };
     let options = match session::options(usual, std::env::args().skip(1)) {
@@ -223,11 +249,16 @@ fn main() -> ExitCode {
         println!("{message}");
         return ExitCode::FAILURE;
     }
-    let one_alone = options.case.is_some() || options.listing.is_some() || options.choice.is_some();
+    let one_alone = [options.case, options.listing, options.choice, options.carry]
+        .iter()
+        .any(Option::is_some);
     if (options.listing.is_some() || !one_alone) && !compare_listings(&options) {
         return ExitCode::FAILURE;
     }
     if (options.choice.is_some() || !one_alone) && !compare_choices(&options) {
+        return ExitCode::FAILURE;
+    }
+    if (options.carry.is_some() || !one_alone) && !compare_carried(&options) {
         return ExitCode::FAILURE;
     }
     if (options.case.is_some() || !one_alone) && !compare_calls(&options) {
@@ -297,6 +328,28 @@ fn compare_choices(options: &Options) -> bool {
     tell(&outcome, options.seed, start, told, encode::explain)
 }
 
+/// Compares carry-overs, prints what they met, and says whether all is as it should be.
+fn compare_carried(options: &Options) -> bool {
+    let start = Instant::now();
+    let sides = carried::Sides {
+        reference: coffee_reference::carry_over,
+        library: library::carry_over,
+    };
+    let outcome = carried::run(options, sides);
+    let compared = outcome.coverage.compared;
+    let told = Told {
+        name: "carry-overs",
+        compared: format!("{compared} carry-overs"),
+        agreed: format!(
+            "{compared} carry-overs compared, {} images carried over",
+            outcome.coverage.carried()
+        ),
+        alone: options.carry.is_some(),
+        many: compared >= CARRIED,
+    };
+    tell(&outcome, options.seed, start, told, carried::explain)
+}
+
 /// What is said of a session.
 struct Told {
     name: &'static str,
@@ -340,7 +393,7 @@ fn tell<C: Met, F>(
     true
 }
 
-/// Compares reset on buffers of every length around the least, 708.
+/// Compares reset on buffers of every length around the least, LONGEST.
 fn compare_reset() -> Result<(), String> {
     for length in 0..LONGEST + 40 {
         let mut expected = vec![0xA5; length];

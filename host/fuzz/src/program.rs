@@ -1,5 +1,6 @@
 //! Random programs: regions of 16-bit and 32-bit words, biased towards words that run.
 
+use crate::image::{TIMER_REGISTERS, TMR0_CNT, TMR_CONF};
 use crate::random::Random;
 use crate::words::{self, *};
 
@@ -33,11 +34,20 @@ pub const AMOUNT: u32 = 4;
 /// Registers for the second source of exbf.
 pub const FIELDS: [u32; 2] = [13, 27];
 
+/// What is mostly between each of the control bases and the first timer register.
+const TO_TIMERS: [u32; 2] = [TMR0_CNT as u32, 3];
+/// Registers for TMR_CONF.
+pub const TIMER_CONFIGURATIONS: [u32; 2] = [14, 28];
+/// Registers for a timer's count and maximum.
+pub const TIMER_COUNTS: [u32; 2] = [15, 16];
+
 /// The draw of a raw random word, after the operations.
 const RAW: u32 = 64;
 
 /// The number of kinds of programs.
-pub const THEMES: usize = 9;
+pub const THEMES: usize = 10;
+/// Programs that load and store timer registers.
+const TIMER_THEME: usize = 9;
 
 /// For each kind of program, the operations, each as often as its weight.
 pub struct Themes {
@@ -117,6 +127,7 @@ fn weight(theme: usize, operation: u32) -> u32 {
         // Every operation alike, and raw words.
         (7, _) => 1,
         (8, RAW) => 60,
+        (TIMER_THEME, LD | ST) => 3 * mixed,
         _ => mixed,
     }
 }
@@ -337,7 +348,15 @@ impl Filler<'_> {
     /// ld or st, mostly close to the bounds, the cells or the control block.
     fn memory(&mut self, operation: u32, wide: bool) -> u32 {
         let width_index = usize::from(!wide || self.random.one_in(4));
+        let timers = self.theme == TIMER_THEME && self.random.percent(50);
         let (base, immediate) = match self.random.below(32) {
+            _ if timers => {
+                let register = self.random.below(TIMER_REGISTERS.len() as u32);
+                (
+                    CONTROL_BASES[width_index],
+                    TO_TIMERS[width_index] + register,
+                )
+            }
             0..=16 => (
                 DATA_BASES[width_index],
                 self.random.below(7).wrapping_sub(2),
@@ -347,15 +366,31 @@ impl Filler<'_> {
             30 => (DATA_BASES[width_index], self.random.word()),
             _ => (self.source(), self.random.word()),
         };
-        let data = if operation == ST {
-            self.source()
-        } else {
-            self.target()
+        let data = match operation {
+            ST if self.random.percent(70) => self.stored(base, immediate),
+            ST => self.source(),
+            _ => self.target(),
         };
         if wide {
             wide_immediate(operation, data, base, immediate & 511) | self.conditional(operation)
         } else {
             short_memory(operation, base, data, immediate)
+        }
+    }
+
+    /// A register to store, for a timer register mostly one with a fitting number.
+    fn stored(&mut self, base: u32, immediate: u32) -> u32 {
+        let register = CONTROL_BASES
+            .iter()
+            .position(|&other| other == base)
+            .and_then(|index| {
+                let place = immediate.wrapping_sub(TO_TIMERS[index]);
+                TIMER_REGISTERS.get(place as usize)
+            });
+        match register {
+            Some(&TMR_CONF) => self.random.pick(&TIMER_CONFIGURATIONS),
+            Some(_) => self.random.pick(&TIMER_COUNTS),
+            None => self.source(),
         }
     }
 

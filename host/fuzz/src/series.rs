@@ -1,4 +1,5 @@
-//! A series of numbered cases, listings or choices on both sides, until a difference.
+//! A series of numbered cases, listings, choices or carry-overs on both sides, until a
+//! difference.
 
 use std::fmt::Display;
 use std::sync::atomic::{AtomicU64, AtomicUsize, Ordering};
@@ -9,11 +10,12 @@ pub enum Kind {
     Case,
     Listing,
     Choice,
+    Carry,
 }
 
-const KIND_OPTIONS: [&str; 3] = ["--case", "--listing", "--choice"];
+const KIND_OPTIONS: [&str; 4] = ["--case", "--listing", "--choice", "--carry"];
 
-/// The case, listing or choice that is being run, for a message where the process ends early.
+/// The number and kind of what is being run, for a message where the process ends early.
 static CURRENT_NUMBER: AtomicU64 = AtomicU64::new(0);
 static CURRENT_KIND: AtomicUsize = AtomicUsize::new(0);
 
@@ -51,7 +53,7 @@ impl<F: Copy> Sides<F> {
 pub struct Place {
     pub seed: u64,
     pub kind: Kind,
-    /// The number of the case, listing or choice in the session, from 0.
+    /// Its number in the session, from 0.
     pub number: u64,
 }
 
@@ -97,6 +99,27 @@ pub fn until_difference<D>(
     }
 }
 
+/// A session: `compare` makes the input of a number, compares it and counts what it met, as
+/// `until_difference` has it.
+pub fn run<C: Default, D, I: Default>(
+    kind: Kind,
+    seed: u64,
+    alone: Option<u64>,
+    mut compare: impl FnMut(u64, &mut I, &mut C) -> Result<bool, D>,
+) -> Outcome<C, Found<D, I>> {
+    let mut coverage = C::default();
+    let mut input = I::default();
+    let found = until_difference(kind, seed, alone, |number| {
+        compare(number, &mut input, &mut coverage)
+    });
+    let found = found.map(|(place, difference)| Found {
+        difference,
+        place,
+        input,
+    });
+    Outcome { coverage, found }
+}
+
 #[cfg(test)]
 pub mod tests {
     use super::*;
@@ -131,6 +154,7 @@ pub mod tests {
             Kind::Case => &mut alone.case,
             Kind::Listing => &mut alone.listing,
             Kind::Choice => &mut alone.choice,
+            Kind::Carry => &mut alone.carry,
         };
         *number = Some(found.place.number);
         let again = run(&alone).found.expect("a difference");

@@ -25,10 +25,13 @@ pub struct Options {
     pub words: u64,
     /// The number of choices to write words from, but for every 16-bit word at the least.
     pub choices: u64,
-    /// Only this case, listing or choice, and nothing of the others.
+    /// The number of carry-overs.
+    pub carried: u64,
+    /// Only this case, listing, choice or carry-over, and nothing of the others.
     pub case: Option<u64>,
     pub listing: Option<u64>,
     pub choice: Option<u64>,
+    pub carry: Option<u64>,
 }
 
 impl Options {
@@ -40,9 +43,11 @@ impl Options {
             seconds: None,
             words: 0,
             choices: 0,
+            carried: 0,
             case: None,
             listing: None,
             choice: None,
+            carry: None,
         }
     }
 }
@@ -216,6 +221,8 @@ pub fn options(
             "--listing" => options.listing = Some(value),
             "--choices" => options.choices = value,
             "--choice" => options.choice = Some(value),
+            "--carried" => options.carried = value,
+            "--carry" => options.carry = Some(value),
             "--calls" | "--seconds" => {
                 // A limit that is given replaces the usual ones.
                 if !limited {
@@ -238,6 +245,7 @@ pub fn options(
 #[cfg(test)]
 mod tests {
     use super::*;
+    use crate::compare::Left;
     use crate::series::tests::{found_twice, no_difference_twice};
     use coffee_reference::Answer;
 
@@ -281,6 +289,9 @@ mod tests {
         let [found, _] = found_twice(&OPTIONS, |options| run(options, sides));
         let (call, difference) = shrink(&found.input.call, sides).expect("a difference");
         assert_eq!(call.limit, 3);
-        assert!(matches!(difference, Difference::Byte(byte) if byte.index == 32));
+        assert!(matches!(
+            difference,
+            Difference::Left(Left::Byte(left)) if left.byte.index == 32
+        ));
     }
 }

@@ -2,7 +2,7 @@
 
 use crate::call::{summary, Call};
 use crate::compare::{Bench, Difference, Sides};
-use crate::image::{self, Entry, Image, LONGEST, SOURCES};
+use crate::image::{self, Entry, Image, Layout, LONGEST, SOURCES, TIMERS};
 use std::fmt::Write;
 
 /// A smaller call on which the sides still differ, and how: first with fewer steps,
@@ -127,7 +127,7 @@ impl Shrinker {
             let old = image.clone();
             change(&mut image);
             if image != old {
-                image.write(&mut bytes);
+                image.write(Layout::New, &mut bytes);
                 this.keep(|call| call.image.clone_from(&bytes));
             }
         };
@@ -146,6 +146,9 @@ impl Shrinker {
                 image.control[n] = 1;
                 image.control[n + 1] = 0;
             });
+        }
+        for n in 0..TIMERS {
+            try_image(self, &|image| image.dividers[n] = 0);
         }
         try_image(self, &|image| image.position[1..3].fill(0));
         try_image(self, &|image| image.position[3..6].fill(0));
@@ -180,6 +183,7 @@ fn readable(bytes: &[u8]) -> bool {
             .all(|(index, count)| image::number(bytes, index) == count)
         && image::number(bytes, image::COUNTS[5]) <= SOURCES as u32
         && image::length(bytes) == bytes.len()
+        && image::number(bytes, image::last_count(image::depth(bytes))) == TIMERS as u32
         && Image::read(bytes)
             .stack
             .iter()
@@ -218,16 +222,21 @@ pub fn describe(call: &Call) -> String {
     if readable(&call.image) {
         let image = Image::read(&call.image);
         put(format!("  image: {}", summary(&image)));
-        let mut reset = [0; LONGEST];
-        coffee_reference::reset(&mut reset);
+        let mut buffer = [0; LONGEST];
+        coffee_reference::reset(&mut buffer);
+        // With as many entries, each of them 0.
+        let mut reset = Image::read(&buffer);
+        reset.depth = image.depth;
+        let mut usual = Vec::new();
+        reset.write(Layout::New, &mut usual);
         let mut numbers = String::new();
         for index in 0..call.image.len() / 4 {
             let number = image::number(&call.image, index);
-            if number != image::number(&reset, index) {
+            if number != image::number(&usual, index) {
                 let _ = write!(
                     numbers,
                     " {}={number:X}",
-                    image::name(index).replace(' ', "_")
+                    image::name(index, image.depth).replace(' ', "_")
                 );
             }
         }
@@ -242,7 +251,7 @@ pub fn describe(call: &Call) -> String {
 }
 
 /// Bytes in hexadecimal; a long tail of zeros is left out.
-fn hex(bytes: &[u8]) -> String {
+pub fn hex(bytes: &[u8]) -> String {
     let used = bytes.len() - bytes.iter().rev().take_while(|&&byte| byte == 0).count();
     let mut text = String::new();
     for byte in &bytes[..used] {

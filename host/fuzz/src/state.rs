@@ -1,7 +1,10 @@
-//! Random images that questions 2 to 5 accept (01, "Machine image").
+//! Random images that questions 2 to 5 accept (01, "Machine image"; 02, wish 5).
 
 use crate::image::*;
-use crate::program::{self, Region, Role, AMOUNT, CODE_BASES, CONTROL_BASES, DATA_BASES, FIELDS};
+use crate::program::{
+    self, Region, Role, AMOUNT, CODE_BASES, CONTROL_BASES, DATA_BASES, FIELDS,
+    TIMER_CONFIGURATIONS, TIMER_COUNTS,
+};
 use crate::random::Random;
 use crate::words;
 
@@ -22,9 +25,49 @@ pub fn build(
         image,
     };
     builder.control_block();
+    builder.timers();
     builder.registers();
     builder.position();
     builder.stack();
+}
+
+/// A half of TMR_CONF, mostly of a timer that is enabled, seldom of a watchdog.
+fn timer_half(random: &mut Random) -> u32 {
+    let mut half = match random.below(8) {
+        0..=3 => 0,
+        4 | 5 => random.range(1, 3),
+        6 => random.range(4, 30),
+        _ => 255 - random.below(2),
+    };
+    // INTN and the reserved bit.
+    half |= random.below(16) << 8;
+    for (bit, percent) in [(EN, 85), (CONT, 50), (GINT, 65), (WDOG, 16)] {
+        if random.percent(percent) {
+            half |= bit;
+        }
+    }
+    half
+}
+
+/// A count and a maximum, mostly close to each other.
+fn timer_counts(random: &mut Random) -> (u32, u32) {
+    let maximum = match random.below(8) {
+        0 | 1 => 0,
+        2 | 3 => random.range(1, 5),
+        4 | 5 => random.below(60),
+        6 => u32::MAX - random.below(3),
+        _ => random.number(),
+    };
+    let count = match random.below(8) {
+        0 => maximum.wrapping_sub(1),
+        1 | 2 => maximum.wrapping_sub(random.below(8)),
+        3 => maximum.wrapping_sub(random.below(60)),
+        4 => maximum,
+        5 => maximum.wrapping_add(random.range(1, 4)),
+        6 => u32::MAX - random.below(6),
+        _ => random.number(),
+    };
+    (count, maximum)
 }
 
 struct Builder<'a> {
@@ -93,6 +136,41 @@ impl Builder<'_> {
             } else {
                 program::word_of(self.random, region, true)
             };
+        }
+    }
+
+    /// Both timers, of which one or none runs more often than both.
+    fn timers(&mut self) {
+        let running = self.random.pick(&[0, 0, 0, 0, 0b01, 0b10, 0b11, 0b11]);
+        // Both at their maxima with the same clock.
+        let together = self.random.percent(20);
+        let clocks = self.random.range(1, 4);
+        for number in 0..TIMERS {
+            let (mut count, maximum) = timer_counts(self.random);
+            let mut half = timer_half(self.random);
+            if together {
+                count = maximum.wrapping_sub(clocks);
+                half &= !0xFF;
+            }
+            if running >> number & 1 == 0 {
+                half &= !EN;
+            }
+            let div = half & 0xFF;
+            let divider = match self.random.below(8) {
+                0..=2 => 0,
+                3 => div,
+                4 => div.saturating_sub(1),
+                5 => (div + 1).min(255),
+                6 => 255,
+                _ => self.random.below(256),
+            };
+            let timer = Timer {
+                count,
+                maximum,
+                half,
+                divider,
+            };
+            self.image.set_timer(number, timer);
         }
     }
 
@@ -236,6 +314,18 @@ impl Builder<'_> {
                     0
                 };
                 self.set(second, register, above | length << 5 | position);
+            }
+            for register in TIMER_CONFIGURATIONS {
+                let mut both = timer_half(self.random) << 16 | timer_half(self.random);
+                // Watchdogs that bite at once.
+                if self.random.one_in(4) {
+                    both = (EN | WDOG) << 16 | EN | WDOG | both & (CONT << 16 | CONT);
+                }
+                self.set(second, register, both);
+            }
+            let (count, maximum) = timer_counts(self.random);
+            for (register, number) in TIMER_COUNTS.into_iter().zip([count, maximum]) {
+                self.set(second, register, number);
             }
             let wide = self.random.percent(60);
             let link = self.code_address(wide);

@@ -1,13 +1,23 @@
-//! The machine image (01, "Machine image"): 32-bit numbers, high byte first, in six
-//! sections, each after its count.
+//! The machine image (01, "Machine image"; 02, wish 5): 32-bit numbers, high byte first, in
+//! seven sections, each after its count. Images saved before wish 5 have no last section.
 
 use crate::machine::{
     control_can_hold, offset, Machine, Position, StackEntry, CONTROL_REGISTERS, PSR, RSRD, RSWR,
     SOURCES, UM,
 };
+use crate::timers::{DIVIDER_LIMIT, TIMERS};
 
-/// The length of an image with a full stack: 516 + 16 × 12 bytes.
-pub const LONGEST_IMAGE: usize = 708;
+/// The length of an image with a full stack: 528 + 16 × 12 bytes.
+pub const LONGEST_IMAGE: usize = 720;
+
+/// The sections that question 2 asks for.
+#[derive(Clone, Copy, Debug, PartialEq, Eq)]
+pub enum Layout {
+    /// Those of 01, as "images saved by cards already on lines" have them.
+    Old,
+    /// "The image gains a last section of 2 dividers"; "question 2 reads the longer layout".
+    New,
+}
 
 /// The numbers of an image, section by section, before anything is asked of them.
 #[derive(Clone, Debug, PartialEq, Eq)]
@@ -20,12 +30,14 @@ pub struct Sections {
     pub position: [u32; 6],
     /// Entries of source, address, PSR and C0, top last.
     pub stack: Vec<[u32; 4]>,
+    /// The timers' dividers; 0 in the old layout, which has none.
+    pub dividers: [u32; TIMERS],
 }
 
 impl Sections {
     /// Question 2: the sections of an image that consists of exactly these sections
     /// and counts, else nothing.
-    pub fn read(image: &[u8]) -> Option<Sections> {
+    pub fn read(image: &[u8], layout: Layout) -> Option<Sections> {
         let chunks = image.chunks_exact(4);
         if !chunks.remainder().is_empty() {
             return None;
@@ -45,6 +57,10 @@ impl Sections {
         for _ in 0..entries {
             stack.push(read_numbers(&mut numbers)?);
         }
+        let dividers = match layout {
+            Layout::Old => [0; TIMERS],
+            Layout::New => read_section(&mut numbers)?,
+        };
         if numbers.next().is_some() {
             return None;
         }
@@ -55,12 +71,13 @@ impl Sections {
             control,
             position,
             stack,
+            dividers,
         })
     }
 
     /// Question 3: "Every number one its register can hold (CCB_BASE's low byte 0,
     /// FPU_STATUS 0, CORE_VER_ID 1), PSR at most 31, flags 0 or 1, a 0 flag's
-    /// numbers 0?"
+    /// numbers 0?" 02: "question 3 a divider at most 255".
     pub fn registers_can_hold(&self) -> bool {
         let [_, slot_flag, target, product_flag, high, low] = self.position;
         let slot = slot_flag == 1 || (slot_flag == 0 && target == 0);
@@ -74,6 +91,10 @@ impl Sections {
                 .stack
                 .iter()
                 .all(|&[_, _, psr, c0]| psr <= 31 && c0 <= 7)
+            && self
+                .dividers
+                .iter()
+                .all(|&divider| divider <= DIVIDER_LIMIT)
     }
 
     /// Question 4: "Every current or stacked PSR with UM 1 has both set bits 0?"
@@ -126,6 +147,7 @@ impl Sections {
                     c0,
                 })
                 .collect(),
+            dividers: self.dividers,
         }
     }
 
@@ -158,10 +180,11 @@ impl Sections {
                 .iter()
                 .map(|entry| [entry.source, entry.address, entry.psr, entry.c0])
                 .collect(),
+            dividers: machine.dividers,
         }
     }
 
-    /// The image's bytes, 516 + 16 per stack entry.
+    /// The bytes of the image in the new layout, 528 + 16 per stack entry.
     pub fn to_bytes(&self) -> Vec<u8> {
         let mut bytes = Vec::new();
         write_section(&mut bytes, &self.set1);
@@ -175,14 +198,14 @@ impl Sections {
                 write_number(&mut bytes, number);
             }
         }
+        write_section(&mut bytes, &self.dividers);
         bytes
     }
 }
 
-/// Writes a machine's image to the front of a buffer; "its further bytes keep their
-/// values".
-pub fn write_image(machine: &Machine, buffer: &mut [u8]) {
-    let bytes = Sections::of_machine(machine).to_bytes();
+/// Writes an image to the front of a buffer; "its further bytes keep their values".
+pub fn write_image(sections: &Sections, buffer: &mut [u8]) {
+    let bytes = sections.to_bytes();
     buffer[..bytes.len()].copy_from_slice(&bytes);
 }
 

@@ -1,7 +1,7 @@
 //! A reference emulator of the COFFEE core, to compare other implementations with.
 //!
-//! It is written from three papers alone: 02 (the change requests, of which wishes 1 to 3
-//! and 7 are done), 01 (the board's rules) and 002 (the COFFEE Core user manual, July 2007).
+//! It is written from three papers alone: 02 (the change requests, of which wishes 1 to 3,
+//! 5 and 7 are done), 01 (the board's rules) and 002 (the COFFEE Core user manual, July 2007).
 //! Where they differ, 02 decides, then 01. It is meant to be read beside them, and puts
 //! clarity before speed.
 
@@ -12,12 +12,14 @@ mod listing;
 mod machine;
 mod operands;
 mod step;
+mod timers;
 
 #[cfg(test)]
 mod tests;
 
-use image::{write_image, Sections, LONGEST_IMAGE};
+use image::{write_image, Layout, Sections, LONGEST_IMAGE};
 use machine::Machine;
+use std::fmt;
 
 pub use encode::{cleared, encode, operand_ranges, reading, Choice};
 pub use listing::listing;
@@ -41,6 +43,17 @@ pub struct Answer {
     pub steps: u32,
     /// 0 when the limit was reached, or the stop's number, 11 to 15; 0 on a refusal.
     pub ending: u32,
+}
+
+impl fmt::Display for Answer {
+    fn fmt(&self, f: &mut fmt::Formatter<'_>) -> fmt::Result {
+        let Answer {
+            refusal,
+            steps,
+            ending,
+        } = self;
+        write!(f, "refusal {refusal} steps {steps} ending {ending}")
+    }
 }
 
 /// Runs the machine of `image` for at most `limit` steps, with the `requests` of each
@@ -78,7 +91,7 @@ pub fn run(
             }
         }
     }
-    write_image(&machine, buffer);
+    write_image(&Sections::of_machine(&machine), buffer);
     Answer {
         refusal: 0,
         steps,
@@ -88,12 +101,28 @@ pub fn run(
 
 /// Writes the image of the machine after reset to the front of `buffer`, whose further
 /// bytes keep their values, and answers 0; or answers 8 and changes nothing when the
-/// buffer has fewer than 708 bytes.
+/// buffer has fewer than 720 bytes.
 pub fn reset(buffer: &mut [u8]) -> u32 {
     if buffer.len() < LONGEST_IMAGE {
         return 8;
     }
-    write_image(&Machine::reset(), buffer);
+    write_image(&Sections::of_machine(&Machine::reset()), buffer);
+    0
+}
+
+/// Carries an image of the old layout over (02, wish 5): writes it with a last section of
+/// dividers 0, "all else the same", to the front of `buffer`, whose further bytes keep their
+/// values, and answers 0; or answers the number of the first question whose answer is no,
+/// 2 to 5 "by the old layout, then 8", and changes nothing.
+pub fn carry_over(image: &[u8], buffer: &mut [u8]) -> u32 {
+    let sections = match questions_2_to_5(image, Layout::Old) {
+        Ok(sections) => sections,
+        Err(refusal) => return refusal,
+    };
+    if buffer.len() < LONGEST_IMAGE {
+        return 8;
+    }
+    write_image(&sections, buffer);
     0
 }
 
@@ -110,16 +139,7 @@ fn admit(
     if program.len() > PROGRAM_LIMIT || cells.len() > DATA_LIMIT {
         return Err(1);
     }
-    let sections = Sections::read(image).ok_or(2_u32)?;
-    if !sections.registers_can_hold() {
-        return Err(3);
-    }
-    if !sections.user_mode_has_set_1() {
-        return Err(4);
-    }
-    if !sections.stack_agrees() {
-        return Err(5);
-    }
+    let sections = questions_2_to_5(image, Layout::New)?;
     if requests.iter().any(|&request| request > REQUEST_LIMIT) {
         return Err(6);
     }
@@ -130,4 +150,20 @@ fn admit(
         return Err(8);
     }
     Ok(sections.to_machine())
+}
+
+/// Asks the questions 2 to 5 of an image in a layout: its sections, or the number of the
+/// first question whose answer is no.
+fn questions_2_to_5(image: &[u8], layout: Layout) -> Result<Sections, u32> {
+    let sections = Sections::read(image, layout).ok_or(2_u32)?;
+    if !sections.registers_can_hold() {
+        return Err(3);
+    }
+    if !sections.user_mode_has_set_1() {
+        return Err(4);
+    }
+    if !sections.stack_agrees() {
+        return Err(5);
+    }
+    Ok(sections)
 }

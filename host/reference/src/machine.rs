@@ -1,5 +1,8 @@
 //! The state of the machine: two register sets, eight condition registers, the
-//! control block, the position in the program and the hardware stack.
+//! control block, the position in the program, the hardware stack and the dividers of
+//! the timers.
+
+use crate::timers::TIMERS;
 
 /// Bit 4 of PSR: interrupts enabled (002, section 2.4).
 pub const IE: u32 = 1 << 4;
@@ -60,6 +63,10 @@ pub mod offset {
     pub const EXCEP_ADDR: usize = 0x20;
     pub const BUS_CONF: usize = 0x21;
     pub const COP_CONF: usize = 0x22;
+    /// Of timer 0 and of timer 1, as the next.
+    pub const TMR_CNT: [usize; 2] = [0x23, 0x25];
+    pub const TMR_MAX_CNT: [usize; 2] = [0x24, 0x26];
+    pub const TMR_CONF: usize = 0x27;
     pub const RETI_ADDR: usize = 0x28;
     pub const RETI_PSR: usize = 0x29;
     pub const RETI_CR0: usize = 0x2A;
@@ -148,6 +155,8 @@ pub struct Machine {
     pub position: Position,
     /// The hardware stack, top last.
     pub stack: Vec<StackEntry>,
+    /// The divider of each timer.
+    pub dividers: [u32; TIMERS],
 }
 
 impl Machine {
@@ -188,6 +197,7 @@ impl Machine {
                 product: None,
             },
             stack: Vec::new(),
+            dividers: [0; TIMERS],
         }
     }
 

@@ -1,5 +1,6 @@
 //! One step of the machine (01, "One step"): an interrupt is accepted, or one
-//! instruction runs, or an exception is entered; or the machine stops.
+//! instruction runs, or an exception is entered, and the timers have their clock; or the
+//! machine stops.
 
 use crate::decode::{decode, operation_number, Instruction, Operation, WordLength};
 use crate::machine::{
@@ -69,6 +70,8 @@ impl Machine {
                 Err(Fault::Stop(number)) => return Err(number),
             }
         }
+        // "one clock for each completed step, after the step's stores; a stop is no clock"
+        next.clock();
         *self = next;
         Ok(())
     }

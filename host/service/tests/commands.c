@@ -19,13 +19,6 @@
 #define LOOP "88010007 5807883D 7C000C00 70000801 6C001001 4C0014A1 91FFFFF4 70001402 " \
              "4C0018C1 C8000000 00000000 00000000 00000000"
 
-static unsigned rights_of(const char *path)
-{
-    struct stat state;
-
-    return stat(path, &state) == 0 ? state.st_mode & 07777 : 0;
-}
-
 static void test_new(void)
 {
     section("new");
@@ -65,12 +58,14 @@ static void test_new(void)
 }
 
 /* Sees that show prints a stored text. */
-static void shown(const char *name, const char *expected, const char *path)
+static void shown(const char *name, const char *expected, char *const *words)
 {
-    char *stored = (char *)read_bytes(text("%s/expected/%s", test_folder, expected), NULL);
-
-    ACCEPTED(name, stored, "show", (char *)path);
+    accepted_words(name, (char *)read_bytes(text("%s/expected/%s", test_folder, expected), NULL),
+                   words);
 }
+
+#define SHOWN(name, expected, ...) \
+    shown(name, expected, (char *[]){"service", "show", __VA_ARGS__, NULL})
 
 /* What show says of a PSR (002, section 2.4). */
 static void mode(uint32_t psr, const char *words)
@@ -80,20 +75,6 @@ static void mode(uint32_t psr, const char *words)
     RUN("show", "m");
     outcome.out[strcspn(outcome.out, "\n")] = '\0';
     same_text(text("mode of PSR %02Xh", psr), text("mode: %s", words), outcome.out);
-}
-
-/* Sets words of a file from a place on. */
-static void set_words(const char *path, size_t place, const char *words)
-{
-    char *end;
-
-    for (;; words = end) {
-        unsigned long word = strtoul(words, &end, 16);
-
-        if (end == words)
-            return;
-        set_word(path, place++, (uint32_t)word);
-    }
 }
 
 /* A machine in service of source 0, which interrupted the service of source 5; every kind of
@@ -110,7 +91,7 @@ static void stacked(const char *path)
     set_word(path, INT_SERV, 0x21);
     set_words(path, RETI_ADDR, "20 18 2");
     set_words(path, POSITION, "301 1 303 1 305 306");
-    set_words(path, STACK_COUNT, "2 5 10 1E 5 0 20 18 2");
+    set_words(path, STACK_COUNT, "2 5 10 1E 5 0 20 18 2 2 7 FF");
 }
 
 static void test_show(void)
@@ -121,14 +102,15 @@ static void test_show(void)
     fresh();
     sources = text("%s", "");
     machine("m", 16);
-    shown("show of the machine at reset", "reset.show", "m");
+    SHOWN("show of the machine at reset", "reset.show", "m");
     plain_image("plain");
-    shown("show of a plain image", "reset.show", "plain");
+    SHOWN("show of a plain image", "reset.show", "--plain", "plain");
     write_words("program", EXAMPLE);
     RUN("run", "program", "m", "3");
-    shown("show of 01's example", "example.show", "m");
+    SHOWN("show of 01's example", "example.show", "m");
     stacked("m");
-    shown("show of two stack entries, a slot and a product", "stack.show", "m");
+    SHOWN("show of two stack entries, a slot, a product and dividers", "stack.show", "m",
+          "--plain");
 
     /* Sources 0 to 3 are COP, 4 to 11 EXT (01); all twelve on one stack, source 11 on top. */
     plain_image("full");
@@ -136,7 +118,12 @@ static void test_show(void)
     set_word("full", INT_SERV, 0xFFF);
     for (unsigned i = 0; i < 12; i++)
         set_words("full", ENTRY + 4 * i, text("%X 1 9 0", i));
-    RUN("show", "full");
+    set_words("full", ENTRY + 4 * 12, "2 1 2");
+    RUN("show", "full", "--plain");
+    check("show of a full stack", outcome.status == 0);
+    check("show of the dividers behind a full stack",
+          strstr(outcome.out, "\ndividers\ntimer 0       00000001\ntimer 1       00000002\n") !=
+              NULL);
     for (char *at = strstr(outcome.out, "\nsource"); at != NULL && at[1] != '\0';) {
         unsigned source;
         char name[16];
@@ -184,7 +171,7 @@ static void test_cells(void)
     REFUSED("COUNT that is no number", "-1: COUNT is neither decimal nor hexadecimal as 1F0h",
             "cells", "m", "1", "-1");
     plain_image("plain");
-    ACCEPTED("a plain image", "no cells\n", "cells", "plain");
+    ACCEPTED("a plain image", "no cells\n", "cells", "--plain", "plain");
     /* The control block comes first at its 256 addresses (01 "Memories"). */
     machine("m", 520);
     set_word("m", CCB_BASE, 0x100);
@@ -337,7 +324,7 @@ static void test_run(void)
     /* A plain image stays one. */
     write_words("program", EXAMPLE);
     plain_image("plain");
-    ACCEPTED("a plain image", "3 0 00000000\n", "run", "program", "plain", "3");
+    ACCEPTED("a plain image", "3 0 00000000\n", "run", "--plain", "program", "plain", "3");
     plain_image("expected");
     set_words("expected", SET_2 + 1, "5 4");
     set_word("expected", C0, 1);
@@ -346,6 +333,17 @@ static void test_run(void)
     machine("m", 0);
     RUN("run", "program", "m", "3");
     same_number("a machine with 0 cells is saved as one", 0, word_at("m", CELL_COUNT));
+}
+
+/* A machine that takes requests: IE 1, every source let through, service in super user mode,
+   source 4 (EXT 0) at 20h. */
+static void listening(const char *path)
+{
+    machine(path, 4);
+    set_word(path, PSR, 0x1E);
+    set_word(path, INT_MASK, 0xFFF);
+    set_word(path, INT_MODE_UM, 0);
+    set_word(path, EXT_INT0_VEC, 0x20);
 }
 
 static void test_in_words(void)
@@ -372,7 +370,7 @@ static void test_in_words(void)
     write_words("program", "00000000 00000000 00000000 00000000");
     machine("m", 4);
     set_words("m", EXCEPTION_CS, "E3 8 E");
-    set_word("m", CONTROL + 0x20, 0xC);
+    set_word("m", EXCEP_ADDR, 0xC);
     set_word("m", POSITION, 8);
     ACCEPTED("a nop that looks like an exception",
              "1 0 0000000C\nall steps done, next at 0000000C; no exception entered\n", "run", "-v",
@@ -393,11 +391,20 @@ static void test_in_words(void)
     /* 1,000,001 steps are not all watched: trap in the first one, then jmp to itself. */
     write_words("program", "DC000001 91FFFFFE 00000000");
     machine("m", 4);
-    set_word("m", CONTROL + 0x20, 4);
+    set_word("m", EXCEP_ADDR, 4);
     ACCEPTED("a long run",
              "1000001 0 00000004\nall steps done, next at 00000004; at least 1 exception entered, "
-             "the last: code E1h at 00000000\n",
+             "the last that shows: code E1h at 00000000\n",
              "run", "-v", "program", "m", "1000001");
+    /* The last two steps are not watched: an interrupt is accepted, and its vector is misaligned. */
+    write_words("program", "91FFFFFE 00000000");
+    listening("m");
+    set_word("m", EXT_INT0_VEC, 1);
+    write_text("requests", "1000001: 10\n");
+    ACCEPTED("a long run with an exception that shows",
+             "1000002 0 00000000\nall steps done, next at 00000000; at least 1 exception entered, "
+             "the last that shows: code 05h at 00000001\n",
+             "run", "-v", "program", "m", "1000002", "requests");
 }
 
 /* However the steps are divided, the machine is that of one run. */
@@ -425,17 +432,6 @@ static void divided(const char *name, unsigned steps, const char *start, const c
         }
     }
     pass(name);
-}
-
-/* A machine that takes requests: IE 1, every source let through, service in super user mode,
-   source 4 (EXT 0) at 20h. */
-static void listening(const char *path)
-{
-    machine(path, 4);
-    set_word(path, PSR, 0x1E);
-    set_word(path, INT_MASK, 0xFFF);
-    set_word(path, INT_MODE_UM, 0);
-    set_word(path, EXT_INT0_VEC, 0x20);
 }
 
 /* A list with a request of source 4 in step 1; the next step is in service. */
@@ -558,6 +554,119 @@ static void test_long(void)
              "1000000000000");
 }
 
+/* A machine whose timer 0 is set by TMR_CONF, and counts from 0 to a maximum. */
+static void timed(const char *path, uint32_t conf, uint32_t maximum)
+{
+    machine(path, 4);
+    set_word(path, TMR_CONF, conf);
+    set_word(path, TMR0_MAX_CNT, maximum);
+}
+
+/* TMR_CONF's bits for timer 0 (002, section 3.1). */
+enum { EN = 0x8000, CONT = 0x4000, GINT = 0x2000, WDOG = 0x1000 };
+
+static void test_timers(void)
+{
+    section("timers");
+    /* Timer 0 ticks with every third clock, timer 1 with every fifth. */
+    fresh();
+    write_words("program", "00000000 00000000 00000000 00000000");
+    timed("m", (EN | 4u) << 16 | EN | 2, 9);
+    ACCEPTED("four clocks", "4 0 00000010\n", "run", "program", "m", "4");
+    same_text("four clocks: the dividers", "00000002 00000001 00000004",
+              words_of("m", DIVIDER_COUNT, 3));
+    same_text("four clocks: the counts", "00000001 00000009 00000000", words_of("m", TMR0_CNT, 3));
+    RUN("show", "m");
+    check("four clocks: show", strstr(outcome.out, "\n\ndividers\ntimer 0       00000001\n"
+                                                   "timer 1       00000004\n") != NULL);
+    ACCEPTED("a stop is no clock", "0 11 00000010\n", "run", "program", "m", "9");
+    same_text("a stop is no clock: the dividers", "00000002 00000001 00000004",
+              words_of("m", DIVIDER_COUNT, 3));
+
+    /* A request of source 4 with clocks 6, 14, 22, 30 and 38. */
+    write_words("program", LOOP);
+    listening("start");
+    set_word("start", TMR_CONF, EN | CONT | GINT | 1);
+    set_word("start", TMR0_MAX_CNT, 3);
+    copy("start", "m");
+    RUN("run", "program", "m", "44");
+    same_number("a timer's requests are served", 5, word_at("m", SET_2 + 6));
+    copy("m", "expected");
+    divided("44 steps with a timer in two runs, divided anywhere", 44, "start", NULL);
+    copy("start", "m");
+    RUN("run", "-v", "program", "m", "44");
+    same_bytes("the same with the steps watched", "expected", "m");
+
+    /* The core is reset with the third step, and the data kept. */
+    timed("m", EN | WDOG, 3);
+    set_words("m", CELLS, "A B C D");
+    set_words("m", SET_1, "1 2 3");
+    ACCEPTED("a watchdog", "3 0 00000000\n", "run", "program", "m", "3");
+    machine("expected", 4);
+    set_words("expected", CELLS, "A B C D");
+    same_bytes("a watchdog leaves the machine at reset with its cells", "expected", "m");
+    timed("m", EN | WDOG, 3);
+    ACCEPTED("the steps go on after a watchdog", "5 0 00000008\n", "run", "program", "m", "5");
+}
+
+/* What run -v says of a program and a machine that is ready. */
+static void in_words(const char *name, const char *words, char *steps, const char *line,
+                     const char *exceptions)
+{
+    write_words("program", words);
+    ACCEPTED(name, text("%s\nall steps done, next at %s; %s\n", line, strrchr(line, ' ') + 1,
+                        exceptions),
+             "run", "-v", "program", "m", steps);
+}
+
+/* A store of a number resets the core in its own step, which enters no exception. */
+static void reset_by_store(const char *name, uint32_t address, uint32_t number)
+{
+    set_words("m", SET_2 + 1, text("%X %X", address, number));
+    in_words(name, "70000820", "1", "1 0 00000000", "no exception entered");
+    machine("expected", 4);
+    same_bytes(text("%s: at reset", name), "expected", "m");
+}
+
+static void test_watched(void)
+{
+    section("run -v with a watchdog, which clears what an image tells of exceptions");
+    fresh();
+    timed("m", EN | WDOG, 3);
+    set_word("m", EXCEP_ADDR, 4);
+    in_words("an exception, then a reset", "DC000003 00000000 00000000", "3", "3 0 00000000",
+             "1 exception entered, code E3h at 00000000");
+    timed("m", EN | WDOG, 1);
+    in_words("an exception in the step of a reset", "DC000003", "1", "1 0 00000000",
+             "1 exception entered, code E3h at 00000000");
+    timed("m", EN | WDOG, 1);
+    set_words("m", EXCEPTION_CS, "E3 0 E");
+    in_words("a reset without an exception", "00000000", "1", "1 0 00000000",
+             "no exception entered");
+    same_text("a reset clears the last exception", "00000000 00000000 00000000",
+              words_of("m", EXCEPTION_CS, 3));
+    /* The step makes its reset itself: st PR2 to TMR_CONF, and to TMR0_MAX_CNT. */
+    timed("m", 0, 1);
+    reset_by_store("the watchdog starts", 0x10027, EN | WDOG);
+    timed("m", 0, 0);
+    reset_by_store("the watchdog starts at its maximum", 0x10027, EN | CONT | WDOG);
+    timed("m", EN | WDOG, 9);
+    reset_by_store("the maximum comes down", 0x10024, 1);
+    machine("m", 4);
+    set_word("m", TMR1_MAX_CNT, 1);
+    reset_by_store("the watchdog is timer 1", 0x10027, (EN | WDOG) * 0x10000u);
+    /* The last step, which is not watched, has the reset; before it, jmp to itself. */
+    timed("m", EN | WDOG, 1000001);
+    set_word("m", EXCEP_ADDR, 4);
+    in_words("a long run, an exception, then a reset", "DC000001 91FFFFFE 00000000", "1000001",
+             "1000001 0 00000000",
+             "at least 1 exception entered, the last that shows: code E1h at 00000000");
+    timed("m", EN | WDOG, 1000001);
+    set_words("m", EXCEPTION_CS, "E3 8 E");
+    in_words("a long run, then a reset", "91FFFFFE 00000000", "1000001", "1000001 0 00000000",
+             "no exception entered in the first 1,000,000 steps, none shows since");
+}
+
 static void test_import(void)
 {
     section("import and export");
@@ -584,7 +693,7 @@ static void test_import(void)
     ACCEPTED("export --replace", "", "export", "--replace", "m", "image2", "data2");
     same_bytes("the image with a stack", "image", "image2");
     same_bytes("no cells", "data", "data2");
-    ACCEPTED("export of a plain image", "", "export", "image", "image3", "data3");
+    ACCEPTED("export of a plain image", "", "export", "--plain", "image", "image3", "data3");
     same_bytes("a plain image as it is", "image", "image3");
     same_bytes("without cells", "data", "data3");
 }
@@ -597,8 +706,8 @@ static void test_help(void)
     check("--help", outcome.status == 0 && outcome.err[0] == '\0' &&
                         strncmp(outcome.out, "usage: service new [--replace] MACHINE [CELLS]\n", 47) ==
                             0 &&
-                        strstr(outcome.out, "service run [-v] [--strict] PROGRAM MACHINE STEPS "
-                                            "[REQUESTS]\n") != NULL);
+                        strstr(outcome.out, "service run [-v] [--strict] [--plain] PROGRAM MACHINE "
+                                            "STEPS [REQUESTS]\n") != NULL);
     RUN("run", "--help");
     check("run --help", outcome.status == 0 && strncmp(outcome.out, "usage:", 6) == 0);
     RUN("list", "--help");
@@ -608,7 +717,11 @@ static void test_help(void)
     check("encode --help",
           outcome.status == 0 &&
               strstr(outcome.out, "service encode WIDTH [CONDITION Cn] NAME OPERAND..\n") != NULL);
-    ACCEPTED("--version", "service 1.2.0\n", "--version");
+    RUN("carry-over", "--help");
+    check("carry-over --help",
+          outcome.status == 0 &&
+              strstr(outcome.out, "service carry-over [--replace] OLD NEW\n") != NULL);
+    ACCEPTED("--version", "service 2.0.0\n", "--version");
 }
 
 /* Names with blanks, in other folders, through links. */
@@ -644,6 +757,8 @@ void test_commands(void)
     test_in_words();
     test_resume();
     test_long();
+    test_timers();
+    test_watched();
     test_import();
     test_help();
     test_names();

@@ -32,6 +32,8 @@ struct coffee_answer __real_coffee_run(const uint8_t *program, size_t program_by
                                        size_t request_count, uint32_t limit, uint8_t *buffer,
                                        size_t buffer_bytes);
 uint32_t __real_coffee_reset(uint8_t *buffer, size_t buffer_bytes);
+uint32_t __real_coffee_carry_over(const uint8_t *image, size_t image_bytes, uint8_t *buffer,
+                                  size_t buffer_bytes);
 uint32_t __real_coffee_listing(const uint8_t *program, size_t program_bytes, uint32_t wide,
                                uint8_t *text, size_t text_bytes);
 uint64_t __real_coffee_encode(uint32_t operation, uint32_t wide, uint32_t conditional,
@@ -248,6 +250,14 @@ uint32_t __wrap_coffee_reset(uint8_t *buffer, size_t buffer_bytes)
     if (in_child && fault_setting.refusal != 0)
         return fault_setting.refusal;
     return __real_coffee_reset(buffer, buffer_bytes);
+}
+
+uint32_t __wrap_coffee_carry_over(const uint8_t *image, size_t image_bytes, uint8_t *buffer,
+                                  size_t buffer_bytes)
+{
+    if (in_child && fault_setting.refusal != 0)
+        return fault_setting.refusal;
+    return __real_coffee_carry_over(image, image_bytes, buffer, buffer_bytes);
 }
 
 uint32_t __wrap_coffee_listing(const uint8_t *program, size_t program_bytes, uint32_t wide,

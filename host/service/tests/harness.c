@@ -264,6 +264,19 @@ void set_word(const char *path, size_t place, uint32_t word)
     close(file);
 }
 
+void set_words(const char *path, size_t place, const char *words)
+{
+    char *end;
+
+    for (;; words = end) {
+        unsigned long word = strtoul(words, &end, 16);
+
+        if (end == words)
+            return;
+        set_word(path, place++, (uint32_t)word);
+    }
+}
+
 char *words_of(const char *path, size_t first, size_t count)
 {
     char *words = text("%s", "");
@@ -295,6 +308,13 @@ void same_bytes(const char *name, const char *expected, const char *found)
         pass(name);
     else
         fail(name, "%s and %s differ", expected, found);
+}
+
+unsigned rights_of(const char *path)
+{
+    struct stat state;
+
+    return stat(path, &state) == 0 ? state.st_mode & 07777 : 0;
 }
 
 char *names_in(const char *path)
@@ -360,10 +380,10 @@ char *snapshot(void)
     return add_folder(text("%s", ""), ".");
 }
 
-/* The words of expected/reset.words, comments left out. */
-static size_t reset_words(uint8_t *bytes)
+/* The words of a file that the tests keep, comments left out. */
+static size_t stored_words(const char *name, uint8_t *bytes)
 {
-    const char *at = (const char *)read_bytes(text("%s/expected/reset.words", test_folder), NULL);
+    const char *at = (const char *)read_bytes(text("%s/%s", test_folder, name), NULL);
     size_t len = 0;
 
     while (*at != '\0') {
@@ -380,20 +400,49 @@ static size_t reset_words(uint8_t *bytes)
     return len;
 }
 
-void plain_image(const char *path)
+void stored(const char *path, const char *name)
 {
     uint8_t bytes[1024];
 
-    write_bytes(path, bytes, reset_words(bytes));
+    write_bytes(path, bytes, stored_words(name, bytes));
+}
+
+#define RESET "expected/reset.words"
+
+/* The dividers and their count, which the earlier layout has not. */
+enum { DIVIDER_BYTES = 12 };
+
+void plain_image(const char *path)
+{
+    stored(path, RESET);
+}
+
+void earlier_image(const char *path)
+{
+    uint8_t bytes[1024];
+
+    write_bytes(path, bytes, stored_words(RESET, bytes) - DIVIDER_BYTES);
+}
+
+/* Writes the image at reset, but for its last bytes, and so many zero cells. */
+static void with_cells(const char *path, size_t left_out, size_t cells)
+{
+    uint8_t *bytes = keep(calloc(1, 1024 + 4 * cells));
+    size_t len = stored_words(RESET, bytes) - left_out;
+
+    put_word(bytes + len, (uint32_t)cells);
+    memset(bytes + len + 4, 0, 4 * cells);
+    write_bytes(path, bytes, len + 4 + 4 * cells);
 }
 
 void machine(const char *path, size_t cells)
 {
-    uint8_t *bytes = keep(calloc(1, 1024 + 4 * cells));
-    size_t len = reset_words(bytes);
+    with_cells(path, 0, cells);
+}
 
-    put_word(bytes + len, (uint32_t)cells);
-    write_bytes(path, bytes, len + 4 + 4 * cells);
+void earlier_machine(const char *path, size_t cells)
+{
+    with_cells(path, DIVIDER_BYTES, cells);
 }
 
 /* ---- the service program */
@@ -569,8 +618,8 @@ static const struct {
     void (*test)(void);
 } parts[] = {
     {"commands", test_commands}, {"messages", test_messages}, {"encode", test_encode},
-    {"saving", test_saving},     {"kills", test_kills},       {"pairs", test_pairs},
-    {"check", test_check},
+    {"carry", test_carry},       {"saving", test_saving},     {"kills", test_kills},
+    {"pairs", test_pairs},       {"check", test_check},
 };
 
 /* tests FOLDER PART..: runs parts of the tests; the last line is 'N passed, N failed'. */

@@ -53,6 +53,9 @@ uint8_t *read_bytes(const char *path, size_t *len);
 uint32_t word_at(const char *path, size_t place);
 void set_word(const char *path, size_t place, uint32_t word);
 
+/* Sets words from a place on, from hexadecimal text. */
+void set_words(const char *path, size_t place, const char *words);
+
 /* Words of a file as hexadecimal text with single blanks. */
 char *words_of(const char *path, size_t first, size_t count);
 
@@ -60,15 +63,25 @@ void copy(const char *from, const char *to);
 bool same_files(const char *one, const char *other);
 void same_bytes(const char *name, const char *expected, const char *found);
 
+/* The rights of a file, or 0 where there is none. */
+unsigned rights_of(const char *path);
+
 /* The names in a folder, sorted, with single blanks. */
 char *names_in(const char *path);
 
 /* Names, owners, rights, times and contents of all in the folder of tests. */
 char *snapshot(void);
 
+/* Writes a file of 32-bit words that the tests keep, as expected/reset.words. */
+void stored(const char *path, const char *name);
+
 /* Writes the image at reset as a plain image, and as a machine with so many zero cells. */
 void plain_image(const char *path);
 void machine(const char *path, size_t cells);
+
+/* The same in the earlier layout. */
+void earlier_image(const char *path);
+void earlier_machine(const char *path, size_t cells);
 
 /* ---- the service program */
 
@@ -119,6 +132,7 @@ void refused_words(const char *name, int status, const char *err, char *const *w
 void test_commands(void);
 void test_messages(void);
 void test_encode(void);
+void test_carry(void);
 void test_saving(void);
 void test_kills(void);
 void test_pairs(void);

@@ -3,6 +3,7 @@
 #include "harness.h"
 #include "places.h"
 
+#include <coffee.h>
 #include <errno.h>
 #include <stdlib.h>
 #include <string.h>
@@ -80,14 +81,14 @@ static void damaged(size_t place, uint32_t word, const char *line)
     check("show: the rest is marked",
           starts(outcome.out, "NOT ACCEPTED: these are the numbers that the file has\n\nmode: "));
     /* Counts are not shown. */
-    if (strstr(line, "the count of") == NULL && place < STACK_COUNT)
+    if (strstr(line, "the count of") == NULL && place < CELL_COUNT)
         check("show: the wrong number is there", strstr(outcome.out, text(" %08X", word)) != NULL);
 }
 
-/* The same for a machine with two stack entries, of sources 5 and 0. */
+/* The same for a machine with two stack entries, of sources 5 and 0, and no cells. */
 static void damaged_stack(size_t place, uint32_t word, const char *line)
 {
-    static const uint32_t stack[] = {2, 5, 0x10, 0x1E, 5, 0, 0x20, 0x18, 2};
+    static const uint32_t stack[] = {2, 5, 0x10, 0x1E, 5, 0, 0x20, 0x18, 2, 2, 0, 0, 0};
 
     good();
     plain_image("m");
@@ -112,7 +113,64 @@ static void cut_short(size_t len, const char *line)
     run_refused(text("a machine of %zu bytes", len), text("m: refused with 2: %s", line));
     RUN("show", "m");
     same_text(text("show: %s", line), text("service: m: refused with 2: %s\n", line), outcome.err);
-    check("show: absent numbers", (strstr(outcome.out, "--------") != NULL) == (len < 512));
+    check("show: absent numbers",
+          (strstr(outcome.out, "--------") != NULL) == (len < COFFEE_IMAGE_MIN));
+}
+
+/* A machine with dividers 7 and 8, whose cells are all 2, the count of dividers. */
+static void with_dividers(void)
+{
+    enum { MANY = 100 };
+
+    good();
+    machine("m", MANY);
+    for (size_t i = 0; i < MANY; i++)
+        set_word("m", CELLS + i, 2);
+    set_words("m", DIVIDER, "7 8");
+}
+
+/* What show prints ends with this. */
+static void show_ends(const char *name, const char *end)
+{
+    size_t len = strlen(end), out;
+
+    RUN("show", "m");
+    out = strlen(outcome.out);
+    same_text(text("show: %s", name), end, outcome.out + (out < len ? 0 : out - len));
+}
+
+static void test_shown(void)
+{
+#define DIVIDERS(first, second) "\n\ndividers\ntimer 0       " first "\ntimer 1       " second "\n"
+    section("show of numbers that are there, and of others");
+    with_dividers();
+    set_word("m", DIVIDER_COUNT, 1);
+    show_ends("a count of 1 divider", DIVIDERS("00000007", "00000008"));
+    set_word("m", DIVIDER_COUNT, 0xFFFFFFFF);
+    show_ends("a count of too many dividers", DIVIDERS("00000007", "00000008"));
+    check("shorter", truncate("m", COFFEE_IMAGE_MIN - 4) == 0);
+    show_ends("one divider", DIVIDERS("00000007", "--------"));
+    check("shorter", truncate("m", COFFEE_IMAGE_MIN - 5) == 0);
+    show_ends("a part of a divider", DIVIDERS("--------", "--------"));
+    with_dividers();
+    set_word("m", STACK_COUNT, 13);
+    show_ends("13 stack entries",
+              "\n\nstack: more than 12 entries" DIVIDERS("--------", "--------"));
+    set_word("m", STACK_COUNT, 0xFFFFFFFF);
+    show_ends("too many stack entries",
+              "\n\nstack: more than 12 entries" DIVIDERS("--------", "--------"));
+    set_word("m", STACK_COUNT, 2);
+    check("shorter", truncate("m", COFFEE_IMAGE_MIN) == 0);
+    show_ends("a part of the stack", "\n\nstack, top first\n"
+                                     "source       address   PSR       Z N C\n"
+                                     "--------     --------  --------  --------\n"
+                                     " 2 COP2_INT  00000007  00000008  --------" DIVIDERS(
+                                         "--------", "--------"));
+    check("shorter", truncate("m", COFFEE_IMAGE_ENTRIES) == 0);
+    show_ends("no stack", "\n\nstack: --------" DIVIDERS("--------", "--------"));
+    check("shorter", truncate("m", 4 * PSR) == 0);
+    RUN("show", "m");
+    check("show: no PSR", strstr(outcome.out, "\nmode: --------\n\nset 1\n") != NULL);
 }
 
 static void test_damaged(void)
@@ -126,6 +184,8 @@ static void test_damaged(void)
     damaged(75, 0x2E, "2: the count of the control block is 0000002E: it must be 0000002D");
     damaged(121, 7, "2: the count of the position is 00000007: it must be 00000006");
     damaged(STACK_COUNT, 13, "2: the count of the stack is 0000000D: it must be at most 12");
+    damaged(DIVIDER_COUNT, 1, "2: the count of the dividers is 00000001: it must be 00000002");
+    damaged(DIVIDER_COUNT, 3, "2: the count of the dividers is 00000003: it must be 00000002");
     damaged(PSR, 0x20, "3: PSR is 00000020: it must be at most 1Fh");
     damaged(C0, 8, "3: C0 is 00000008: it must be at most 7h");
     damaged(C0 + 7, 0xFFFFFFFF, "3: C7 is FFFFFFFF: it must be at most 7h");
@@ -138,6 +198,8 @@ static void test_damaged(void)
     damaged(POSITION + 3, 0x80000000, "3: product flag is 80000000: it must be 0 or 1");
     damaged(POSITION + 4, 1, "3: product high is 00000001: it must be 0, as the product flag is");
     damaged(POSITION + 5, 9, "3: product low is 00000009: it must be 0, as the product flag is");
+    damaged(DIVIDER, 0x100, "3: divider of timer 0 is 00000100: it must be at most FFh");
+    damaged(DIVIDER + 1, 0xFFFFFFFF, "3: divider of timer 1 is FFFFFFFF: it must be at most FFh");
     damaged(PSR, 0x0B, "4: PSR is 0000000B: in user mode both set bits must be 0");
     damaged(PSR, 0x0D, "4: PSR is 0000000D: in user mode both set bits must be 0");
     damaged(INT_SERV, 1,
@@ -148,7 +210,7 @@ static void test_damaged(void)
             "5: RETI_PSR (29h) is 00000008: it must be 00000009, as the stack is empty");
     damaged(RETI_CR0, 1,
             "5: RETI_CR0 (2Ah) is 00000001: it must be 00000000, as the stack is empty");
-    damaged(CELL_COUNT, 5, "2: the file ends after 536 bytes, in the data memory");
+    damaged(CELL_COUNT, 5, "2: the file ends after 548 bytes, in the data memory");
     damaged(CELL_COUNT, 3, "2: bytes follow the data memory of 3 cells, the last section");
     damaged_stack(ENTRY + 2, 0x20, "3: PSR of stack entry 1 is 00000020: it must be at most 1Fh");
     damaged_stack(ENTRY + 7, 8, "3: C0 of stack entry 2 is 00000008: it must be at most 7h");
@@ -159,14 +221,18 @@ static void test_damaged(void)
                   "5: source of stack entry 2 is 00000005: an entry below has it too");
     damaged_stack(ENTRY + 5, 0x24,
                   "5: RETI_ADDR (28h) is 00000020: it must be 00000024, as in the top entry");
+    damaged_stack(ENTRY + 8, 4, "2: the count of the dividers is 00000004: it must be 00000002");
+    damaged_stack(ENTRY + 9, 0x100, "3: divider of timer 0 is 00000100: it must be at most FFh");
     cut_short(0, "the file ends after 0 bytes, in the count of set 1");
     cut_short(3, "the file ends after 3 bytes, in the count of set 1");
     cut_short(4, "the file ends after 4 bytes, in set 1");
     cut_short(300, "the file ends after 300 bytes, in the count of the control block");
     cut_short(511, "the file ends after 511 bytes, in the position");
     cut_short(515, "the file ends after 515 bytes, in the count of the stack");
-    cut_short(517, "the file ends after 517 bytes, in the count of the data memory");
-    cut_short(535, "the file ends after 535 bytes, in the data memory");
+    cut_short(517, "the file ends after 517 bytes, in the count of the dividers");
+    cut_short(527, "the file ends after 527 bytes, in the dividers");
+    cut_short(529, "the file ends after 529 bytes, in the count of the data memory");
+    cut_short(547, "the file ends after 547 bytes, in the data memory");
     good();
     write_text("m", "#!/bin/sh\necho this is no machine at all\n");
     run_refused("a text", "m: refused with 2: the count of set 1 is 23212F62: "
@@ -365,11 +431,15 @@ static void test_files(void)
     bad_file("IMAGE", 2, WORDS("import", "", "data", "x"));
     bad_file("DATA", 3, WORDS("import", "image", "", "x"));
     bad_file("MACHINE", 2, WORDS("export", "", "x", "y"));
+    earlier_machine("old", 4);
+    bad_file("OLD", 2, WORDS("carry-over", "", "x"));
     bad_target("MACHINE", 2, WORDS("new", ""));
     bad_target("MACHINE", 3, WORDS("new", "--replace", ""));
     bad_target("MACHINE", 4, WORDS("import", "image", "data", ""));
     bad_target("IMAGE", 3, WORDS("export", "m", "", "y"));
     bad_target("DATA", 4, WORDS("export", "m", "x", ""));
+    bad_target("NEW", 3, WORDS("carry-over", "old", ""));
+    bad_target("NEW", 4, WORDS("carry-over", "--replace", "old", ""));
     REFUSED("a line end in a name", "a?b: No such file or directory", "show", "a\nb");
 
     for (unsigned len = 1; len < 8; len += len == 3 ? 2 : 1) {
@@ -381,7 +451,7 @@ static void test_files(void)
     write_zeros("data", 262148);
     REFUSED("data of 65,537 cells", "data: refused with 1: more than 65,536 cells of data",
             "import", "image", "data", "x");
-    REFUSED("a machine as image", "m: has a data memory of its own; IMAGE is a plain image",
+    REFUSED("a machine as image", "m: has a data memory of its own; a plain image has none",
             "import", "m", "data", "x");
     set_word("image", PSR, 0x20);
     REFUSED("a damaged image", "image: refused with 3: PSR is 00000020: it must be at most 1Fh",
@@ -495,6 +565,12 @@ static void test_usage(void)
             "m", "x");
     MISUSED("export with two words", "export: its words are MACHINE IMAGE DATA" MORE, "export",
             "m", "x");
+    MISUSED("carry-over with one word", "carry-over: its words are OLD NEW" MORE, "carry-over", "m");
+    MISUSED("carry-over with three words", "carry-over: its words are OLD NEW" MORE, "carry-over",
+            "m", "x", "y");
+    MISUSED("an option of carry-over", "--plain: no such option" MORE, "carry-over", "--plain", "m",
+            "x");
+    MISUSED("an option of new", "--plain: no such option" MORE, "new", "--plain", "x");
     MISUSED("an option that there is not", "--stict: no such option" MORE, "run", "--stict",
             "program", "m", "3");
     MISUSED("an option of another command", "--replace: no such option" MORE, "run", "program",
@@ -507,6 +583,7 @@ void test_messages(void)
 {
     test_limits();
     test_damaged();
+    test_shown();
     test_order();
     test_listing();
     test_list_faults();

@@ -1,4 +1,5 @@
-/* Places in an image, counted in words from its front (01 "Machine image"; 002 section 2.9). */
+/* Places in an image, counted in words from its front (01 "Machine image"; 02, wish 5; 002 section
+   2.9). */
 #ifndef PLACES_H
 #define PLACES_H
 
@@ -22,15 +23,25 @@ enum {
     EXCEPTION_PC = CONTROL + 0x18,
     EXCEPTION_PSR = CONTROL + 0x19,
     MEM_CONF = CONTROL + 0x1E,
+    EXCEP_ADDR = CONTROL + 0x20,
+    TMR0_CNT = CONTROL + 0x23,
+    TMR0_MAX_CNT = CONTROL + 0x24,
+    TMR1_MAX_CNT = CONTROL + 0x26,
+    TMR_CONF = CONTROL + 0x27,
     RETI_ADDR = CONTROL + 0x28,
     RETI_PSR = CONTROL + 0x29,
     RETI_CR0 = CONTROL + 0x2A,
     FPU_STATUS = CONTROL + 0x2B,
     CORE_VER_ID = CONTROL + 0x2C,
 
-    /* Of a machine with an empty stack: the count of cells, and cell 0. */
-    CELL_COUNT = 129,
-    CELLS = 130
+    /* Of a machine with an empty stack: the count of dividers and the first one, the count of cells
+       and cell 0; and in the earlier layout, which has no dividers, the last two. */
+    DIVIDER_COUNT = ENTRY,
+    DIVIDER,
+    CELL_COUNT = DIVIDER + 2,
+    CELLS,
+    EARLIER_CELL_COUNT = ENTRY,
+    EARLIER_CELLS
 };
 
 #endif

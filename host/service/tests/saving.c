@@ -19,7 +19,8 @@
 
 enum { OWNER = 60001, OTHER = 60002, SHARED = 60010, KILLED = 256 + SIGKILL };
 
-/* A machine before a run of 3 steps, and after it: lli PR1, 5; st PR1 to PR0 + 1; trap 3. */
+/* A machine before a run of 3 steps, and after it: lli PR1, 5; st PR1 to PR0 + 1; trap 3. Another
+   of the earlier layout, twice, and carried over. */
 static void before_and_after(void)
 {
     fresh();
@@ -35,6 +36,18 @@ static void before_and_after(void)
     set_word("kept/new", EXCEPTION_PSR, 0xE);
     set_word("kept/new", CELLS + 1, 5);
     copy("kept/old", "files/m");
+    earlier_machine("kept/earlier", 4);
+    set_word("kept/earlier", EARLIER_CELLS + 1, 7);
+    copy("kept/earlier", "kept/same");
+    machine("kept/carried", 4);
+    set_word("kept/carried", CELLS + 1, 7);
+}
+
+/* The same where the machine is to be replaced by the one that is carried over. */
+static void before_carry(void)
+{
+    before_and_after();
+    copy("kept/carried", "kept/new");
 }
 
 /* Which machine is there, old or new, and any other file. */
@@ -48,6 +61,9 @@ static const char *found(void)
                                                                                          : "mixed";
 }
 
+#define CARRY "carry-over", "kept/earlier", "files/n"
+#define CARRY_M "carry-over", "--replace", "kept/earlier", "files/m"
+#define CARRIED "a machine of 4 cells is carried over\n"
 #define RUN_M "run", "kept/program", "files/m", "3"
 #define LIST "list", "kept/program", "32"
 
@@ -56,6 +72,13 @@ static void cannot_save(const char *name, const char *reason)
 {
     REFUSED(name, text("files/m: cannot save in %s/files: %s; nothing is changed", here(), reason),
             RUN_M);
+}
+
+/* The same of carry-over to a new file. */
+static void cannot_carry(const char *name, const char *reason)
+{
+    REFUSED(name, text("files/n: cannot save in %s/files: %s; nothing is changed", here(), reason),
+            CARRY);
 }
 
 /* Prints a listing of 1,572,864 bytes to an output that takes a part of it: one line tells why. */
@@ -98,6 +121,26 @@ static void test_outputs(void)
     ACCEPTED("new needs no output", "", "new", "files/n");
     setting.output = BROKEN;
     REFUSED("run to a broken pipe", "standard output: Broken pipe; nothing is changed", RUN_M);
+    before_and_after();
+    setting.output = FULL;
+    REFUSED("carry-over to a full output",
+            "standard output: No space left on device; nothing is changed", CARRY);
+    setting.output = CLOSED;
+    REFUSED("carry-over to no output", "standard output: Bad file descriptor; nothing is changed",
+            CARRY_M);
+    setting.output = BROKEN;
+    REFUSED("carry-over to a broken pipe", "standard output: Broken pipe; nothing is changed",
+            CARRY_M);
+    earlier_image("kept/image");
+    write_words("kept/data", "1");
+    setting.output = FULL;
+    REFUSED("import of the earlier layout to a full output",
+            "standard output: No space left on device; nothing is changed", "import", "kept/image",
+            "kept/data", "files/n");
+    plain_image("kept/image");
+    setting.output = CLOSED;
+    ACCEPTED("import of the present layout needs no output", "", "import", "kept/image",
+             "kept/data", "files/n");
     setting.output = FULL;
     REFUSED("list to a full output",
             "standard output: No space left on device; nothing is changed", LIST);
@@ -138,6 +181,14 @@ static void test_full(void)
                  here()),
             "new", "files/a\nb/n");
     before_and_after();
+    setting.file_limit = 1;
+    cannot_carry("no file may grow: carry-over", "File too large");
+    setting.file_limit = 1 + 547;
+    cannot_carry("files may grow to a byte less than carry-over wants", "File too large");
+    setting.file_limit = 1 + 548;
+    ACCEPTED("files may grow as far as carry-over wants", CARRIED, CARRY);
+    same_bytes("files may grow as far as carry-over wants: the file", "kept/carried", "files/n");
+    before_and_after();
     if (mount("service-test", "files", "tmpfs", 0, "size=8k,mode=777") != 0) {
         skip("a full disk and a read-only disk: no file system can be mounted here");
         return;
@@ -146,7 +197,11 @@ static void test_full(void)
     copy("kept/old", "files/m");
     write_text("files/other", "a full page");
     cannot_save("a full disk", "No space left on device");
+    cannot_carry("a full disk: carry-over", "No space left on device");
     unlink("files/other");
+    ACCEPTED("a disk with just enough room: carry-over", CARRIED, CARRY_M);
+    same_bytes("a disk with just enough room: carried over", "kept/carried", "files/m");
+    copy("kept/old", "files/m");
     ACCEPTED("a disk with just enough room", "3 0 00000000\n", RUN_M);
     same_text("a disk with just enough room: the machine", "new", found());
     check("read-only", mount("service-test", "files", "tmpfs", MS_REMOUNT | MS_RDONLY, NULL) == 0);
@@ -155,6 +210,8 @@ static void test_full(void)
             text("files/n: cannot save in %s/files: Read-only file system; nothing is changed",
                  here()),
             "new", "files/n");
+    cannot_carry("a read-only disk: carry-over", "Read-only file system");
+    REFUSED("a read-only disk: carry-over --replace", "files/m: Read-only file system", CARRY_M);
     ACCEPTED("a read-only disk: cells", "00000000  00000000 00000005 00000000 00000000\n", "cells",
              "files/m");
     check("unmount", umount("files") == 0);
@@ -250,6 +307,29 @@ static void test_rights(void)
     REFUSED("a program that may not be read: list", "kept/program: Permission denied", LIST);
 
     before_and_after();
+    chmod("kept/earlier", 0600);
+    setting.user = OWNER;
+    REFUSED("carry-over of what may not be read", "kept/earlier: Permission denied", CARRY);
+    chmod("kept/earlier", 0444);
+    chmod("kept", 0555);
+    setting.user = OWNER;
+    ACCEPTED("carry-over of what may not be written", CARRIED, CARRY);
+    same_bytes("carry-over of what may not be written: the file", "kept/carried", "files/n");
+    same_bytes("carry-over of what may not be written: the old one", "kept/same", "kept/earlier");
+    unlink("files/n");
+    setting.user = OWNER;
+    REFUSED("carry-over to a machine of another", "files/m: Permission denied", CARRY_M);
+    chmod("files/m", 0666);
+    setting.user = OWNER;
+    REFUSED("carry-over to a machine of another that may be written", NOT_KEPT, CARRY_M);
+    chmod("files", 0555);
+    setting.user = OWNER;
+    cannot_carry("carry-over to a folder that may not be written", "Permission denied");
+    own(OWNER, SHARED, 0640);
+    ACCEPTED("root carries over to a user's machine", CARRIED, CARRY_M);
+    same_text("that stays the user's", "60001 60010 640", owner());
+
+    before_and_after();
     if (setxattr("files/m", "system.posix_acl_access", list, sizeof list, 0) != 0) {
         skip("access lists: none on this file system");
         return;
@@ -288,16 +368,17 @@ static void test_order_of_calls(void)
               calls);
 }
 
-/* A command with a fault at each of its calls in turn. The machine is as the status says: 1 old,
-   0 and 3 new; after a cut old, and from some call on new. A next run ends all well. */
-static void every(const char *name, enum kind kind, char *const *words)
+/* A command with a fault at each of its calls in turn, the files made anew each time. The machine
+   is as the status says: 1 old, 0 and 3 new; after a cut old, and from some call on new. A next run
+   ends all well. */
+static void every(const char *name, enum kind kind, void (*prepare)(void), char *const *words)
 {
     bool renamed = false;
 
     for (unsigned at = 1;; at++) {
         const char *there;
 
-        before_and_after();
+        prepare();
         fault_setting.kind = kind;
         fault_setting.at = at;
         setting.quick = true;
@@ -328,24 +409,77 @@ static void every(const char *name, enum kind kind, char *const *words)
     }
 }
 
-static void test_faults(void)
+/* Carry-over to a new file with a fault at each of its calls in turn: the new file is there as the
+   status says, whole, and not there otherwise; the old one stays. A next one ends all well. */
+static void every_new(const char *name, enum kind kind)
 {
-    char *const run[] = {"service", RUN_M, NULL};
+    bool renamed = false;
 
-    section("each call of the system fails, or the program is killed there");
-    every("run, a call fails", FAIL, run);
-    every("run, all calls fail from one on", DEAD, run);
-    every("run, killed", CUT, run);
+    for (unsigned at = 1;; at++) {
+        bool there;
+
+        before_carry();
+        unlink("files/m");
+        fault_setting.kind = kind;
+        fault_setting.at = at;
+        setting.quick = true;
+        RUN("carry-over", "kept/earlier", "files/m");
+        if (!fault_came()) {
+            check(text("%s: each of %u calls", name, at - 1), at > 7);
+            return;
+        }
+        there = access("files/m", F_OK) == 0;
+        renamed = renamed || there;
+        if (there && !same_files("files/m", "kept/new"))
+            fail(name, "mixed at call %u", at);
+        if (there != (outcome.status == KILLED ? renamed : outcome.status != 1))
+            fail(name, "at call %u: status %d, the new file is %sthere", at, outcome.status,
+                 there ? "" : "not ");
+        if (kind == FAIL && strcmp(names_in("files"), there ? "m" : "") != 0)
+            fail(name, "at call %u: %s in the folder", at, names_in("files"));
+        if (!same_files("kept/earlier", "kept/same"))
+            fail(name, "at call %u: the old file is changed", at);
+        setting.quick = true;
+        RUN(CARRY_M);
+        if (outcome.status != 0 || strcmp(found(), "new") != 0)
+            fail(name, "at call %u: then %s%s", at, found(), outcome.err);
+    }
+}
+
+/* A command saves the file of this path in a folder that cannot be flushed. */
+static void not_flushed(const char *name, const char *path, char *const *words)
+{
     before_and_after();
     fault_setting.kind = FAIL;
     fault_setting.call = "fsync";
     fault_setting.at = 2;
-    RUN(RUN_M);
-    check("status 3 when the folder cannot be flushed", outcome.status == 3);
-    same_text("status 3: the line",
-              "service: files/m: saved, but the disk does not confirm it: Input/output error\n",
+    run_words(words);
+    check(text("%s: status 3 when the folder cannot be flushed", name), outcome.status == 3);
+    same_text(text("%s: status 3: the line", name),
+              text("service: %s: saved, but the disk does not confirm it: Input/output error\n",
+                   path),
               outcome.err);
-    same_text("status 3: the machine", "new", found());
+}
+
+static void test_faults(void)
+{
+    char *const run[] = {"service", RUN_M, NULL};
+    char *const carry[] = {"service", CARRY_M, NULL};
+
+    section("each call of the system fails, or the program is killed there");
+    every("run, a call fails", FAIL, before_and_after, run);
+    every("run, all calls fail from one on", DEAD, before_and_after, run);
+    every("run, killed", CUT, before_and_after, run);
+    every("carry-over --replace, a call fails", FAIL, before_carry, carry);
+    every("carry-over --replace, all calls fail from one on", DEAD, before_carry, carry);
+    every("carry-over --replace, killed", CUT, before_carry, carry);
+    every_new("carry-over, a call fails", FAIL);
+    every_new("carry-over, all calls fail from one on", DEAD);
+    every_new("carry-over, killed", CUT);
+    not_flushed("carry-over", "files/n", (char *[]){"service", CARRY, NULL});
+    same_bytes("carry-over: status 3: the file", "kept/carried", "files/n");
+    not_flushed("run", "files/m", run);
+    same_text("run: status 3: the machine", "new", found());
     before_and_after();
     fault_setting.kind = FAIL;
     fault_setting.call = "fsync";
@@ -409,6 +543,32 @@ static void beside(const char *name, const char *call, unsigned at, const char *
     same_text(text("%s: the machine", name), then, found());
 }
 
+/* Of two carry-overs to one new file at once, one writes it and the other is refused. */
+static void carry_pairs(void)
+{
+    char *const words[] = {"service", CARRY, NULL};
+
+    before_and_after();
+    for (int i = 0; i < 100; i++) {
+        pid_t first, second;
+        int one, other;
+
+        unlink("files/n");
+        setting.quick = true;
+        first = start(words);
+        second = start(words);
+        one = wait_for(first);
+        other = wait_for(second);
+        if (one + other != 1 || !same_files("files/n", "kept/carried") ||
+            strcmp(names_in("files"), "m n") != 0) {
+            fail("two carry-overs at once", "pair %d: status %d and %d; in the folder: %s", i, one,
+                 other, names_in("files"));
+            return;
+        }
+    }
+    pass("two carry-overs at once");
+}
+
 static void test_locks(void)
 {
     int file;
@@ -419,6 +579,14 @@ static void test_locks(void)
     REFUSED("a machine in use", "files/m: another run is using it", RUN_M);
     close(file);
     ACCEPTED("a machine no longer in use", "3 0 00000000\n", RUN_M);
+    before_and_after();
+    file = hold("files/m");
+    REFUSED("carry-over to a machine in use", "files/m: another run is using it", CARRY_M);
+    close(file);
+    file = hold("kept/earlier");
+    ACCEPTED("carry-over of a machine in use", CARRIED, CARRY);
+    close(file);
+    same_bytes("carry-over of a machine in use: the file", "kept/carried", "files/n");
     beside("before the steps", "coffee_run", 1, "old");
     beside("before the save", "write", 1, "old");
     beside("in the save", "write", 2, "old");
@@ -437,6 +605,13 @@ static void test_locks(void)
             "files/n: on a network file system, where a lock cannot be trusted; use a copy on a "
             "disk of this computer",
             "new", "files/n");
+    fault_setting.file_system = 0xFE534D42;
+    unlink("files/n");
+    REFUSED("SMB: carry-over",
+            "files/n: on a network file system, where a lock cannot be trusted; use a copy on a "
+            "disk of this computer",
+            "carry-over", "kept/old", "files/n");
+    carry_pairs();
 }
 
 /* What another program does to the machine during a run. */
@@ -538,6 +713,16 @@ static void test_others(void)
     same_text("a file that comes by the name of a new one",
               "service: files/n: is there already; nothing is changed\n", outcome.err);
     same_bytes("that file is left alone", "kept/new", "files/n");
+    before_and_after();
+    fault_setting.kind = HOOK;
+    fault_setting.call = "rename";
+    fault_setting.at = 1;
+    fault_setting.hook = make_machine;
+    RUN(CARRY);
+    check("a file that comes by the name of carry-over's", outcome.status == 1);
+    same_text("a file that comes by the name of carry-over's: the line",
+              "service: files/n: is there already; nothing is changed\n", outcome.err);
+    same_bytes("a file that comes by the name of carry-over's is left alone", "kept/new", "files/n");
     /* The temporary file of a run under way is no left over. */
     before_and_after();
     fault_setting.kind = HOOK;

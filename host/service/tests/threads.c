@@ -8,11 +8,12 @@
 
 enum { THREADS = 8, PROGRAM = 32, CELLS = 64, STEPS = 1000 };
 
-/* A machine, the answers of its calls added up, and its program's lines. */
+/* A machine, the answers of its calls added up, its program's lines, and an image carried over. */
 struct job {
     pthread_t thread;
     long calls;
     uint8_t program[PROGRAM], images[2][COFFEE_IMAGE_MAX], lines[PROGRAM / 4 * COFFEE_LINE];
+    uint8_t carried[COFFEE_IMAGE_MAX];
     uint32_t cells[CELLS], requests[STEPS];
     uint64_t steps;
 };
@@ -48,6 +49,8 @@ static void *work(void *argument)
         job->steps += answer.steps;
         coffee_listing(job->program, PROGRAM, 1, job->lines, sizeof job->lines);
         coffee_reset(job->images[i % 2], COFFEE_IMAGE_MAX);
+        coffee_carry_over(job->images[i % 2], COFFEE_EARLIER_IMAGE_MIN, job->carried,
+                          COFFEE_IMAGE_MAX);
     }
     return NULL;
 }

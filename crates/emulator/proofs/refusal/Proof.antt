@@ -6,8 +6,8 @@ use borrow.Author.Tests.{not-true, not-false}
 use Rattle.machine.specs.Machine.{memoryOf}
 use Rattle.machine.specs.Words.{machineOf}
 use Rattle.formed.specs.Questions.{readBy}
-use Rattle.image.specs.Image.{question2, readImage}
-use Rattle.image.proofs.Reading.{said-deep, said-asked}
+use Rattle.image.specs.Image.{machineIn, question2, readImage}
+use Rattle.image.proofs.Reading.{question2-stack, said-deep, said-asked}
 use Rattle.emulator.specs.Run.{firstNo, askedBy, ask}
 use Rattle.emulator.proofs.Asked.{ofCall, program-no, cells-no, sections-no, image-no, past-image, requests-no, limit-no, room-no, all-yes}
 use Rattle.emulator.proofs.refusal.Statement.{statement}
@@ -22,7 +22,7 @@ said : (c : tie.After-ask-machine) → let read = c .before .before .before .bef
     readBy (c .ask-machine .result) (machineOf (read .read .last .1 .0))
     ≡ readImage (read .before .before .before .before .before .before .before .before .before .before .before .args .image .now)
 said c = let read = c .before .before .before .before in
-    c .ask-machine .ensures ∙ said-asked _ (fits (read .before .before)) _ (read .read .ensures)
+    c .ask-machine .ensures ∙ said-asked _ _ _ (fits (read .before .before)) (read .read .ensures)
 
 -- past question 5, what 6 to 8 say of the call decides
 past : (c : tie.Else4) → let read = c .before .before .before .before .before in
@@ -46,8 +46,9 @@ read-requires : tie.Need-read-requires
 read-requires c κs = (search needs, fits (c .before))
 
 ask-machine-requires : tie.Need-ask-machine-requires
+unfolding machineIn
 ask-machine-requires c κs = let read = c .before .before .before in
-    (search needs, rw (read .read .ensures) (said-deep _ (fits (read .before .before))))
+    (search needs, rw (read .read .ensures) (said-deep _ _ (question2-stack _ (fits (read .before .before)))))
 
 returns-4 : tie.Need-returns-4
 returns-4 c = let sizes = c .before .before .before .before .before .before .before .before .before in

@@ -8,14 +8,15 @@ use Rattle.formed.proofs.numbers_fit.Tie as tie
 
 returns : tie.Need-returns
 unfolding machineOf
-returns c = let known = c .before .before .before .before .before .before .before .before in
+returns c = let known = c .before .before .before .before .before .before .before .before .before .before in
     rw (
-      c .entries-pass .ensures,
-      c .before .position-fits .ensures,
-      c .before .before .position-of .ensures,
-      c .before .before .before .all-held .ensures,
-      c .before .before .before .before .before .all-below .ensures,
-      c .before .before .before .before .before .before .before .psr .ensures,
+      c .all-below2 .ensures,
+      c .before .before .entries-pass .ensures,
+      c .before .before .before .position-fits .ensures,
+      c .before .before .before .before .position-of .ensures,
+      c .before .before .before .before .before .all-held .ensures,
+      c .before .before .before .before .before .before .before .all-below .ensures,
+      c .before .before .before .before .before .before .before .before .before .psr .ensures,
     )
     (numbers-words (known .before .args .w .now) (λ i. omega (arith, known .shared-slice-known .given i)))
 
@@ -23,5 +24,5 @@ pub numbers-fit-spec : {M : Type 1} → statement M
 numbers-fit-spec =
     tie.close
     (tie.spec
-    (λ c κs. search needs) (λ c. search needs) (λ c. search needs) (λ c. search needs) (λ c. search needs) (λ c κs. search needs) (λ c. search needs) (λ c. search needs) (λ c. search needs) (λ c. search needs) (λ c κs. search needs) (λ c κs. search needs) (λ c κs. search needs) (λ c κs. search needs)
+    (λ c κs. search needs) (λ c. search needs) (λ c. search needs) (λ c. search needs) (λ c. search needs) (λ c κs. search needs) (λ c. search needs) (λ c. search needs) (λ c. search needs) (λ c. search needs) (λ c κs. search needs) (λ c κs. search needs) (λ c κs. search needs) (λ c κs. search needs) (λ c. search needs) (λ c. search needs) (λ c. search needs) (λ c. search needs) (λ c κs. search needs)
     returns)

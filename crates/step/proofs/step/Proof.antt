@@ -1,112 +1,51 @@
--- `step` meets its contract: by its two ways. Assumes nothing.
-use mathlib.Core.Path.{_≡_, ap}
-use mathlib.Core.Option.{Option, none, some}
-use Prim.Native.Nat.{ℕ}
-use Rattle.machine.specs.Machine.{Machine, memoryOf, State}
+-- `step` meets its contract: a completed step has its clock, a stop has none. Assumes nothing.
+use mathlib.Core.Path.{_≡_, sym, ap, _∙_}
+use Rattle.machine.specs.Machine.{memoryOf}
 use Rattle.machine.specs.Words.{machineOf, stateOf}
-use Rattle.formed.proofs.Formed.{stacked-distinct, WellFormed, formed-true, true-formed}
-use Rattle.view.specs.View.{view}
-use Rattle.effect.specs.Apply.{reportOn}
-use Rattle.effect.proofs.Service.{stack-shown}
-use Rattle.machine.specs.Control.{withPending}
-use Rattle.step.specs.Interrupt.{withRequests, acceptedSource}
-use Rattle.step.proofs.Accepted.{source-accepted}
-use Rattle.step.proofs.Formed.{requests-formed}
-use Rattle.step.proofs.Urgency.{number-some, number-none}
-use Rattle.step.proofs.Transitions.{step-accepts, step-goes-on, step-stops}
+use Rattle.formed.proofs.Formed.{stacked-depth, true-formed}
+use Rattle.effect.specs.Apply.{Transition, stopNumber, Report, reported}
+use Rattle.step.specs.Step.{unclocked, step}
+use Rattle.step.proofs.Formed.{unclocked-formed}
+use Rattle.step.proofs.Stops.{numbered-stop, numbered-step, unclocked-number}
+use Rattle.step.proofs.Clocks.{stop-reported, step-reported}
 use borrow.Author.Needs.{needs}
 use Rattle.step.proofs.step.Statement.{statement}
 use Rattle.step.proofs.step.Tie as tie
 
--- the places that the answers name: the entry, as seen from after the requests; that place, as seen from where the source is known; and where none
--- is accepted, as seen from after the instruction
-abbrev entry : tie.After-add-requests → tie.Start
-entry c = c .before .before .before .before .before .before .before
+-- the step before its clock
+abbrev before-clock : tie.Start → Transition
+before-clock s = unclocked (s .args .program .now) (stateOf (s .args .w .now) (memoryOf (s .args .cells .now))) (s .args .requests)
 
-abbrev asked : tie.After-accepted-source → tie.After-add-requests
-asked c = c .before .before .before .before
+abbrev entry : tie.After-transition → tie.Start
+entry c = c .before .before .before .before .before .before
 
-abbrev left : tie.After-execute → tie.Else1
-left c = c .before .before .before
+number : (c : tie.After-transition) → c .transition .result ≡ stopNumber (before-clock (entry c) .kind)
+unfolding reported
+number c = ap (λ (r : Report). r .stop) (c .transition .ensures)
 
--- the state before the step, and the state with its requests
-abbrev start : tie.Start → State
-start s = stateOf (s .args .w .now) (memoryOf (s .args .cells .now))
-
-abbrev requested : tie.After-add-requests → State
-requested c = stateOf (c .add-requests .last .0) (memoryOf (entry c .args .cells .now))
-
-added : (c : tie.After-add-requests) → requested c ≡ withRequests (entry c .args .requests) (start (entry c))
-unfolding withRequests
-added c = ap (λ (m : Machine). record { machine = m; memory = memoryOf (entry c .args .cells .now) }) (c .add-requests .ensures)
-
-formed : (c : tie.After-add-requests) → WellFormed (requested c .machine)
-unfolding withRequests
-formed c =
-    let s = entry c in
-    rw (c .add-requests .ensures) (requests-formed (start s) (s .args .requests) (true-formed (machineOf (s .args .w .now)) (s .pre .2)))
-
--- the source accepted, or none
-abbrev source : tie.After-add-requests → Option ℕ
-source c = acceptedSource (view (entry c .args .program .now) (requested c)) (requested c .machine)
-
-accepted : (c : tie.Then1) → source (asked (c .before)) ≡ some (c .before .accepted-source .result)
-accepted c = number-some _ (c .before .accepted-source .ensures (memoryOf (entry (asked (c .before)) .args .cells .now))) (c .if1 .taken)
-
-refused : (c : tie.Else1) → source (asked (c .before)) ≡ none
-refused c =
-    number-none _ (λ k e. source-accepted _ _ k e .below) (c .before .accepted-source .ensures (memoryOf (entry (asked (c .before)) .args .cells .now))) (c .if1 .left)
-
-accepted-source-requires : tie.Need-accepted-source-requires
-accepted-source-requires c κs = (search needs, formed-true (formed (c .before .before .before)))
-
-accept-requires : tie.Need-accept-requires
-accept-requires c κs =
-    let taken = c .before in
-    ((search needs, formed-true (formed (asked (taken .before)))), (taken .if1 .taken, source-accepted _ _ _ (accepted taken) .new))
+clock-requires : tie.Need-clock-requires
+unfolding reported
+clock-requires c κs =
+    let t = c .before .before .before .before .before .before in
+    let s = entry t in
+    let f = unclocked-formed (s .args .program .now) (stateOf (s .args .w .now) (memoryOf (s .args .cells .now))) (s .args .requests) (true-formed (machineOf (s .args .w .now)) (s .pre .2)) in
+    (search needs, rw (ap (λ (r : Report). r .after .machine) (t .transition .ensures)) (stacked-depth (f .stack)))
 
 returns : tie.Need-returns
+unfolding step
 returns c =
-    let taken = c .before .before .before .before in
-    let a = asked (taken .before) in
-    let s = entry a in
-    rw (c .before .before .accept .ensures)
-    (step-accepts (s .args .program .now) (start s) (s .args .requests) (requested a) (added a) (taken .before .accepted-source .result) (accepted taken))
-
-execute-requires : tie.Need-execute-requires
-execute-requires c κs =
-    let f = formed (asked (c .before .before .before)) in
-    (search needs, search needs, stack-shown (f .served) (f .return-address) (f .return-status) (f .return-flags) (stacked-distinct (f .stack)))
+    let t = c .before .before .before .before .before .before .before .before .before in
+    let s = entry t in
+    let none = c .before .before .before .before .if1 .taken in
+    rw (none, c .before .before .clock .ensures)
+    (step-reported (before-clock s) _ (t .transition .ensures) (numbered-step _ (unclocked-number _ _ _) (sym (number t) ∙ none)) none)
 
 returns-2 : tie.Need-returns-2
-unfolding withPending reportOn
+unfolding step
 returns-2 c =
-    let stopped = c .before .before .before .before in
-    let e = stopped .before .before .before .before .before in
-    let a = asked (left e .before) in
-    let s = entry a in
-    rw (c .before .before .set-control .ensures, a .before .before .control .ensures)
-    (step-stops (s .args .program .now) (start s) (s .args .requests) (requested a) (added a) _ (refused (left e)) (e .execute .ensures) (stopped .if2 .taken))
-
-returns-3 : tie.Need-returns-3
-unfolding reportOn
-returns-3 c =
-    let e = c .before .before .before .before .before in
-    let a = asked (left e .before) in
-    let s = entry a in
-    step-goes-on (s .args .program .now) (start s) (s .args .requests) (requested a) (added a) _ (refused (left e)) (e .execute .ensures) (c .if2 .left)
+    let t = c .before .before .before .before .before in
+    let s = entry t in
+    stop-reported (before-clock s) _ (t .transition .ensures) (numbered-stop _ (λ e. c .if1 .left (number t ∙ e)))
 
 pub step-spec : {M : Type 1} → statement M
-step-spec =
-    tie.close
-    (tie.spec
-    (λ c κs. search needs) (λ c κs. search needs)
-    accepted-source-requires
-    accept-requires
-    (λ c. search needs)
-    returns
-    execute-requires
-    (λ c κs. search needs) (λ c. search needs) (λ c. search needs)
-    returns-2
-    (λ c. search needs) (λ c. search needs)
-    returns-3)
+step-spec = tie.close (tie.spec (λ c κs. search needs) clock-requires (λ c. search needs) (λ c. search needs) returns (λ c. search needs) (λ c. search needs) returns-2)

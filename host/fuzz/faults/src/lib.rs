@@ -9,15 +9,18 @@ type Run = fn(&[u8], &mut [u32], &[u8], &[u32], u32, &mut [u8]) -> Answer;
 type Listing = fn(&[u8], u32, &mut [u8]) -> u32;
 /// The writing of a word: the word, or 2^32 plus the refusal's number.
 type Encode = fn(&Choice) -> u64;
+/// A carry-over: image, buffer.
+type CarryOver = fn(&[u8], &mut [u8]) -> u32;
 
 /// A copy of the reference.
 pub struct Faulty {
     /// The fault's name, `none` for the copy without a fault.
     pub name: &'static str,
-    /// What is to show the fault. The copy without one has all three.
+    /// What is to show the fault. The copy without one has all four.
     pub run: Option<Run>,
     pub listing: Option<Listing>,
     pub encode: Option<Encode>,
+    pub carry_over: Option<CarryOver>,
 }
 
 include!(concat!(env!("OUT_DIR"), "/copies.rs"));

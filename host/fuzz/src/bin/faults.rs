@@ -1,12 +1,14 @@
-//! `faults [--seed N] [--calls N] [--seconds N] [--words N] [--choices N] [NAME]`: shows that
-//! the comparison can fail. Each fault of faults/list.rs is put into a copy of the reference,
-//! alone; the copy is compared with the reference as the library would be, by calls, by
-//! listings or by written words.
+//! `faults [--seed N] [--calls N] [--seconds N] [--words N] [--choices N] [--carried N] [NAME]`:
+//! shows that the comparison can fail. Each fault of faults/list.rs is put into a copy of the
+//! reference, alone; the copy is compared with the reference as the library would be, by calls,
+//! by listings, by written words or by carry-overs.
 //!
-//! Prints for each fault the number of calls, of listed words or of choices after which it was
-//! found, and ends with 1 if one was not. With a name, prints that fault's difference in full.
+//! Prints for each fault the number of calls, of listed words, of choices or of carry-overs
+//! after which it was found, and ends with 1 if one was not. With a name, prints that fault's
+//! difference in full.
 
 use coffee_faults::FAULTS;
+use coffee_fuzz::carried;
 use coffee_fuzz::compare::Sides;
 use coffee_fuzz::encode;
 use coffee_fuzz::listing;
@@ -26,6 +28,9 @@ const WORDS: u64 = 200_000;
 /// A fault in writing words has to be found within this many choices, on which the copy
 /// without a fault has to agree.
 const CHOICES: u64 = 300_000;
+/// A fault in carrying over has to be found within this many carry-overs, on which the copy
+/// without a fault has to agree.
+const CARRIED: u64 = 50_000;
 
 /// What the faults came to.
 #[derive(Default)]
@@ -35,10 +40,11 @@ struct Tally {
     tried: u64,
     /// Those that were not as they should be.
     wrong: u64,
-    /// The latest call, listing and choice at which one was found.
+    /// The latest call, listing, choice and carry-over at which one was found.
     latest_call: u64,
     latest_listing: u64,
     latest_choice: u64,
+    latest_carry: u64,
 }
 
 impl Tally {
@@ -71,6 +77,7 @@ fn main() -> ExitCode {
         calls: Some(CALLS),
         words: WORDS,
         choices: CHOICES,
+        carried: CARRIED,
         ..Options::of_seed(SEED)
     };
     let mut arguments: Vec<String> = std::env::args().skip(1).collect();
@@ -83,7 +90,7 @@ fn main() -> ExitCode {
         Err(message) => {
             eprintln!("faults: {message}");
             eprintln!(
-                "faults [--seed N] [--calls N] [--seconds N] [--words N] [--choices N] [NAME]"
+                "faults [--seed N] [--calls N] [--seconds N] [--words N] [--choices N] [--carried N] [NAME]"
             );
             return ExitCode::from(2);
         }
@@ -118,13 +125,20 @@ fn main() -> ExitCode {
             };
             try_choices(copy.name, sides, &options, &mut tally);
         }
+        if let Some(carry_over) = copy.carry_over {
+            let sides = carried::Sides {
+                reference: coffee_reference::carry_over,
+                library: carry_over,
+            };
+            try_carried(copy.name, sides, &options, &mut tally);
+        }
     }
     if tally.tried == 0 {
         eprintln!("faults: no such fault");
         return ExitCode::from(2);
     }
     println!(
-        "faults: {} tried, {}, the latest found at call {}, at listing {} and at choice {}",
+        "faults: {} tried, {}, the latest found at call {}, at listing {}, at choice {} and at carry-over {}",
         tally.tried,
         if tally.wrong == 0 {
             "all as they should be"
@@ -133,7 +147,8 @@ fn main() -> ExitCode {
         },
         tally.latest_call,
         tally.latest_listing,
-        tally.latest_choice
+        tally.latest_choice,
+        tally.latest_carry
     );
     if tally.wrong == 0 {
         ExitCode::SUCCESS
@@ -197,6 +212,23 @@ fn try_choices(fault: &str, sides: encode::Sides, options: &Options, tally: &mut
         }
         None => {
             let compared = format!("{} choices", outcome.coverage.choices);
+            tally.agreed(fault, start, &compared, &outcome.coverage);
+        }
+    }
+}
+
+/// Compares the carry-overs of a copy.
+fn try_carried(fault: &str, sides: carried::Sides, options: &Options, tally: &mut Tally) {
+    let start = Instant::now();
+    let outcome = carried::run(options, sides);
+    match &outcome.found {
+        Some(found) => {
+            tally.latest_carry = tally.latest_carry.max(found.place.number);
+            let at = format!("carry-over {}", found.place.number);
+            tally.found(fault, start, &at, || carried::explain(found));
+        }
+        None => {
+            let compared = format!("{} carry-overs", outcome.coverage.compared);
             tally.agreed(fault, start, &compared, &outcome.coverage);
         }
     }

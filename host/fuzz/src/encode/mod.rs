@@ -3,12 +3,14 @@
 mod coverage;
 mod generate;
 
-use crate::series::{self, until_difference, Kind};
+use crate::difference;
+use crate::series::{self, Kind};
 use crate::session::Options;
 use crate::words::{self, NAMES};
 use coffee_reference::{cleared, reading, Choice};
 pub use coverage::Coverage;
 pub use generate::{choice, Forms, FEWEST};
+use std::convert::Infallible;
 use std::fmt;
 
 /// The writing of a word: the word, or 2^32 plus the refusal's number.
@@ -53,27 +55,8 @@ impl fmt::Display for Answer {
     }
 }
 
-/// What differs in a written word.
-#[derive(Clone, Debug, PartialEq, Eq)]
-pub enum Difference {
-    Answer {
-        reference: Answer,
-        library: Answer,
-    },
-    /// Both sides answer alike, and not as the papers say.
-    Both(String),
-}
-
-impl fmt::Display for Difference {
-    fn fmt(&self, f: &mut fmt::Formatter<'_>) -> fmt::Result {
-        match self {
-            Difference::Answer { reference, library } => {
-                write!(f, "answer: reference {reference}, library {library}")
-            }
-            Difference::Both(what) => write!(f, "both sides: {what}"),
-        }
-    }
-}
+/// What differs in a written word; no memory is lent.
+pub type Difference = difference::Difference<Answer, Infallible>;
 
 /// Asks both sides for a word, compares their answers, and writes once more what is read in
 /// the word.
@@ -85,13 +68,8 @@ pub fn compare(input: &Input, sides: Sides) -> Result<Answer, Difference> {
 
 /// The answer to a choice, where both sides give it.
 fn agreed(choice: &Choice, sides: Sides) -> Result<Answer, Difference> {
-    let reference = Answer((sides.reference)(choice));
-    let library = Answer((sides.library)(choice));
-    if reference == library {
-        Ok(reference)
-    } else {
-        Err(Difference::Answer { reference, library })
-    }
+    let [reference, library] = [sides.reference, sides.library].map(|side| Answer(side(choice)));
+    Difference::agreed(reference, library)
 }
 
 /// What can be said of every answer: it is a refusal where the generator meant it to be; else
@@ -153,21 +131,14 @@ pub type Outcome = series::Outcome<Coverage, Found>;
 /// choices that the options give.
 pub fn run(options: &Options, sides: Sides) -> Outcome {
     let forms = Forms::new();
-    let mut coverage = Coverage::new();
-    let mut input = Input::default();
     let enough = options.choices.max(FEWEST);
-    let found = until_difference(Kind::Choice, options.seed, options.choice, |number| {
-        choice(options.seed, number, &forms, &mut input);
-        let answer = compare(&input, sides)?;
-        coverage.count(&input, answer, &forms);
+    let compare = |number, input: &mut Input, coverage: &mut Coverage| {
+        choice(options.seed, number, &forms, input);
+        let answer = compare(input, sides)?;
+        coverage.count(input, answer, &forms);
         Ok(number + 1 >= enough)
-    });
-    let found = found.map(|(place, difference)| Found {
-        difference,
-        place,
-        input,
-    });
-    Outcome { coverage, found }
+    };
+    series::run(Kind::Choice, options.seed, options.choice, compare)
 }
 
 /// A found difference as text, with everything that is needed to repeat it.

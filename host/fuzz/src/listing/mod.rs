@@ -4,10 +4,10 @@
 mod coverage;
 mod generate;
 
-use crate::compare::{first_difference, Unlike};
+use crate::difference::{self, Unlike};
 use crate::guarded::Guarded;
 use crate::random::Random;
-use crate::series::{self, until_difference, Kind};
+use crate::series::{self, Kind};
 use crate::session::Options;
 use crate::words::{self, word_at, NAMES};
 pub use coverage::Coverage;
@@ -45,13 +45,9 @@ impl Input {
     }
 }
 
-/// What differs after a listing.
+/// What the sides leave different after a listing.
 #[derive(Clone, Debug, PartialEq, Eq)]
-pub enum Difference {
-    Answer {
-        reference: u32,
-        library: u32,
-    },
+pub enum Left {
     Line {
         number: usize,
         word: u32,
@@ -60,19 +56,15 @@ pub enum Difference {
     },
     /// A byte that is of no line.
     Byte(Unlike<u8>),
-    /// The library wrote to memory that was lent to be read, or not lent at all.
-    Stray(String),
-    /// Both sides answer alike, and not as the papers say.
-    Both(String),
 }
 
-impl fmt::Display for Difference {
+/// What differs after a listing.
+pub type Difference = difference::Difference<u32, Left>;
+
+impl fmt::Display for Left {
     fn fmt(&self, f: &mut fmt::Formatter<'_>) -> fmt::Result {
         match self {
-            Difference::Answer { reference, library } => {
-                write!(f, "answer: reference {reference}, library {library}")
-            }
-            Difference::Line {
+            Left::Line {
                 number,
                 word,
                 reference,
@@ -81,9 +73,7 @@ impl fmt::Display for Difference {
                 f,
                 "line {number} of word {word:X}:\n  reference {reference:?}\n  library   {library:?}"
             ),
-            Difference::Byte(byte) => write!(f, "text byte {}, of no line: {byte}", byte.index),
-            Difference::Stray(place) => write!(f, "the library wrote to {place}"),
-            Difference::Both(what) => write!(f, "both sides: {what}"),
+            Left::Byte(byte) => write!(f, "text byte {}, of no line: {byte}", byte.index),
         }
     }
 }
@@ -108,12 +98,10 @@ impl Bench {
 
         let reference = (sides.reference)(&input.program, input.wide, &mut self.text);
         let library = (sides.library)(&self.program, input.wide, self.library_text.lent_mut());
-        if reference != library {
-            return Err(Difference::Answer { reference, library });
-        }
+        let answer = Difference::agreed(reference, library)?;
         let library_text = self.library_text.lent();
-        if let Some(byte) = first_difference(&input.text, &self.text, library_text) {
-            return Err(self.text_difference(input, byte, reference));
+        if let Some(byte) = Unlike::first(&input.text, &self.text, library_text) {
+            return Err(Difference::Left(self.left(input, byte, answer)));
         }
         if self.program != input.program {
             return Err(Difference::Stray("the program".to_string()));
@@ -121,21 +109,20 @@ impl Bench {
         self.library_text
             .untouched("the text")
             .map_err(Difference::Stray)?;
-        self.as_promised(input, reference)
-            .map_err(Difference::Both)?;
-        Ok(reference)
+        self.as_promised(input, answer).map_err(Difference::Both)?;
+        Ok(answer)
     }
 
     /// The line of the byte at which the texts differ first, or that byte.
-    fn text_difference(&self, input: &Input, byte: Unlike<u8>, answer: u32) -> Difference {
+    fn left(&self, input: &Input, byte: Unlike<u8>, answer: u32) -> Left {
         let number = byte.index / LINE;
         if answer != 0 || number >= input.words() {
-            return Difference::Byte(byte);
+            return Left::Byte(byte);
         }
         let line = |text: &[u8]| {
             String::from_utf8_lossy(&text[number * LINE..number * LINE + LINE]).into_owned()
         };
-        Difference::Line {
+        Left::Line {
             number,
             word: input_word(input, number),
             reference: line(&self.text),
@@ -218,26 +205,19 @@ pub type Outcome = series::Outcome<Coverage, Found>;
 /// Lists every 16-bit word, the longest program of 32-bit words, and then random programs,
 /// until a difference or the number of 32-bit words that the options give.
 pub fn run(options: &Options, sides: Sides) -> Outcome {
-    let mut coverage = Coverage::new();
     let mut bench = Bench::default();
-    let mut input = Input::default();
-    let found = until_difference(Kind::Listing, options.seed, options.listing, |listing| {
+    let compare = |listing, input: &mut Input, coverage: &mut Coverage| {
         let mut random = Random::of_case(options.seed, listing);
         match listing {
-            0 | 1 => every_short_word(options.seed, listing, &mut random, &mut input),
-            2 => longest(&mut random, &mut input),
-            _ => random_listing(&mut random, &mut input),
+            0 | 1 => every_short_word(options.seed, listing, &mut random, input),
+            2 => longest(&mut random, input),
+            _ => random_listing(&mut random, input),
         }
-        let answer = bench.compare(&input, sides)?;
-        coverage.count(&input, answer);
+        let answer = bench.compare(input, sides)?;
+        coverage.count(input, answer);
         Ok(listing >= 2 && coverage.lines[1] >= options.words)
-    });
-    let found = found.map(|(place, difference)| Found {
-        difference,
-        place,
-        input,
-    });
-    Outcome { coverage, found }
+    };
+    series::run(Kind::Listing, options.seed, options.listing, compare)
 }
 
 /// A found difference as text, with everything that is needed to repeat it.
@@ -297,7 +277,7 @@ mod tests {
         let [found, again] = found_twice(&OPTIONS, |options| run(options, sides));
         assert!(matches!(
             found.difference,
-            Difference::Line { word, .. } if word & 0xFF == 0xAB
+            Difference::Left(Left::Line { word, .. }) if word & 0xFF == 0xAB
         ));
         assert_eq!(explain(&found), explain(&again));
     }

@@ -1,6 +1,6 @@
 //! A machine with its memories to try things on, and builders of instruction words.
 
-use crate::image::Sections;
+use crate::image::{Layout, Sections};
 use crate::machine::{offset, Machine, StackEntry};
 use crate::{run, Answer};
 
@@ -32,6 +32,12 @@ impl Bench {
         bench.program = words.iter().flat_map(|word| word.to_be_bytes()).collect();
         bench.machine.set_psr(SUPER_USER_16_PSR);
         bench
+    }
+
+    /// Sets the divider of a timer.
+    pub fn divider(mut self, timer: usize, divider: u32) -> Bench {
+        self.machine.dividers[timer] = divider;
+        self
     }
 
     /// Goes to user mode, keeping the word length, with nothing protected.
@@ -91,7 +97,7 @@ impl Bench {
     /// Calls `run`, which must not refuse, and goes on with the image it leaves.
     pub fn run(&mut self, limit: u32) -> Answer {
         let image = self.image();
-        let mut buffer = [0xA5; 720];
+        let mut buffer = [0xA5; 732];
         let answer = run(
             &self.program,
             &mut self.cells,
@@ -102,9 +108,9 @@ impl Bench {
         );
         assert_eq!(answer.refusal, 0);
         let entries = u32::from_be_bytes([buffer[512], buffer[513], buffer[514], buffer[515]]);
-        let length = 516 + 16 * entries as usize;
+        let length = 528 + 16 * entries as usize;
         assert!(buffer[length..].iter().all(|&byte| byte == 0xA5));
-        let sections = Sections::read(&buffer[..length]).expect("question 2");
+        let sections = Sections::read(&buffer[..length], Layout::New).expect("question 2");
         assert!(sections.registers_can_hold());
         assert!(sections.user_mode_has_set_1());
         assert!(sections.stack_agrees());

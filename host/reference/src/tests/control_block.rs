@@ -149,14 +149,14 @@ fn stores_act_from_the_next_step() {
     assert_eq!(bench.machine.stack[0].address, 4);
 }
 
-/// "Timer, peripheral (PCB), bus, coprocessor and MEM_CONF registers hold what is stored
-/// and do nothing."
+/// "Peripheral (PCB), bus, coprocessor and MEM_CONF registers hold what is stored and do
+/// nothing", and so do timers that are not enabled.
 #[test]
 fn registers_without_effect() {
     let mut bench = Bench::new(&[NOP; 64])
         .control(0x23, 5)
         .control(0x24, 5)
-        .control(0x27, 0xF000_F000)
+        .control(0x27, 0x7000_7000)
         .control(0x01, 0)
         .control(0x02, 0xFFFF_FFFF)
         .control(0x03, 0);

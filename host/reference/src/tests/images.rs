@@ -1,12 +1,12 @@
-//! Images: reset, round trip, and the refusals 1 to 8.
+//! Images: reset, round trip, and the refusals 1 to 8; the longer layout of 02, wish 5.
 
 use super::bench::*;
-use crate::image::Sections;
+use crate::image::{Layout, Sections};
 use crate::machine::{Machine, StackEntry};
 use crate::{reset, run, Answer};
 
 /// The reset image, number by number (01's sections, 002's section 2.9).
-fn reset_numbers() -> Vec<u32> {
+pub fn reset_numbers() -> Vec<u32> {
     let mut numbers = vec![32];
     numbers.extend([0; 32]);
     numbers.push(32);
@@ -26,10 +26,11 @@ fn reset_numbers() -> Vec<u32> {
     numbers.push(6);
     numbers.extend([0; 6]);
     numbers.push(0);
+    numbers.extend([2, 0, 0]);
     numbers
 }
 
-fn bytes(numbers: &[u32]) -> Vec<u8> {
+pub fn bytes(numbers: &[u32]) -> Vec<u8> {
     numbers
         .iter()
         .flat_map(|number| number.to_be_bytes())
@@ -37,11 +38,11 @@ fn bytes(numbers: &[u32]) -> Vec<u8> {
 }
 
 // Indices of numbers in an image.
-const SET_2: usize = 34;
-const CONDITIONS: usize = 67;
-const CONTROL: usize = 76;
-const POSITION: usize = 122;
-const STACK: usize = 129;
+pub const SET_2: usize = 34;
+pub const CONDITIONS: usize = 67;
+pub const CONTROL: usize = 76;
+pub const POSITION: usize = 122;
+pub const STACK: usize = 129;
 
 /// A reset image with changed numbers.
 fn changed(changes: &[(usize, u32)]) -> Vec<u8> {
@@ -53,7 +54,7 @@ fn changed(changes: &[(usize, u32)]) -> Vec<u8> {
 }
 
 /// A reset image with a hardware stack of these entries and what must agree with it.
-fn with_stack(entries: &[[u32; 4]]) -> Vec<u32> {
+pub fn with_stack(entries: &[[u32; 4]]) -> Vec<u32> {
     let mut numbers = reset_numbers();
     numbers[STACK - 1] = entries.len() as u32;
     for &[source, address, psr, c0] in entries {
@@ -61,7 +62,9 @@ fn with_stack(entries: &[[u32; 4]]) -> Vec<u32> {
         numbers[CONTROL + 0x28] = address;
         numbers[CONTROL + 0x29] = psr;
         numbers[CONTROL + 0x2A] = c0;
-        numbers.extend([source, address, psr, c0]);
+        // Before the last section.
+        let end = numbers.len() - 3;
+        numbers.splice(end..end, [source, address, psr, c0]);
     }
     numbers
 }
@@ -69,7 +72,7 @@ fn with_stack(entries: &[[u32; 4]]) -> Vec<u32> {
 /// Runs no step of an image and gives the refusal; a refused call must change nothing,
 /// a good one must hand the same image back.
 fn refusal(image: &[u8]) -> u32 {
-    let mut buffer = [0x5A; 708];
+    let mut buffer = [0x5A; 720];
     let mut cells = [1, 2, 3];
     let answer = run(&[0; 4], &mut cells, image, &[], 0, &mut buffer);
     assert_eq!((answer.steps, answer.ending), (0, 0));
@@ -78,7 +81,7 @@ fn refusal(image: &[u8]) -> u32 {
         assert_eq!(buffer[..image.len()], *image);
         assert!(buffer[image.len()..].iter().all(|&byte| byte == 0x5A));
     } else {
-        assert_eq!(buffer, [0x5A; 708]);
+        assert_eq!(buffer, [0x5A; 720]);
     }
     answer.refusal
 }
@@ -86,17 +89,17 @@ fn refusal(image: &[u8]) -> u32 {
 #[test]
 fn reset_image() {
     let image = bytes(&reset_numbers());
-    assert_eq!(image.len(), 516);
+    assert_eq!(image.len(), 528);
+    let mut buffer = [0x5A; 732];
+    assert_eq!(reset(&mut buffer), 0);
+    assert_eq!(buffer[..528], image[..]);
+    assert_eq!(buffer[528..], [0x5A; 204]);
+    assert_eq!(refusal(&image), 0);
     let mut buffer = [0x5A; 720];
     assert_eq!(reset(&mut buffer), 0);
-    assert_eq!(buffer[..516], image[..]);
-    assert_eq!(buffer[516..], [0x5A; 204]);
-    assert_eq!(refusal(&image), 0);
-    let mut buffer = [0x5A; 708];
-    assert_eq!(reset(&mut buffer), 0);
-    let mut buffer = [0x5A; 707];
+    let mut buffer = [0x5A; 719];
     assert_eq!(reset(&mut buffer), 8);
-    assert_eq!(buffer, [0x5A; 707]);
+    assert_eq!(buffer, [0x5A; 719]);
     assert_eq!(reset(&mut []), 8);
 }
 
@@ -121,10 +124,11 @@ fn round_trip() {
             c0: source % 8,
         });
     }
+    machine.dividers = [255, 1];
     let sections = Sections::of_machine(&machine);
     let image = sections.to_bytes();
-    assert_eq!(image.len(), 516 + 48);
-    assert_eq!(Sections::read(&image), Some(sections.clone()));
+    assert_eq!(image.len(), 528 + 48);
+    assert_eq!(Sections::read(&image, Layout::New), Some(sections.clone()));
     assert_eq!(sections.to_machine(), machine);
     assert_eq!(refusal(&image), 0);
     let number =
@@ -138,9 +142,9 @@ fn round_trip() {
         position,
         [0x3333_3333, 1, 0x4444_4444, 1, 0x5555_5555, 0x6666_6666]
     );
-    let stack: Vec<u32> = (STACK - 1..STACK + 12).map(number).collect();
+    let end: Vec<u32> = (STACK - 1..STACK + 15).map(number).collect();
     assert_eq!(
-        stack,
+        end,
         [
             3,
             5,
@@ -154,7 +158,10 @@ fn round_trip() {
             11,
             0x7700_000B,
             0x19,
-            3
+            3,
+            2,
+            255,
+            1
         ]
     );
 }
@@ -162,7 +169,7 @@ fn round_trip() {
 #[test]
 fn refusal_1() {
     let image = bytes(&reset_numbers());
-    let mut buffer = [0; 708];
+    let mut buffer = [0; 720];
     for (program, cells, expected) in [
         (65_536, 65_536, 0),
         (65_537, 0, 1),
@@ -179,7 +186,7 @@ fn refusal_1() {
 fn refusal_2() {
     let image = bytes(&reset_numbers());
     // Too short, too long, empty.
-    for length in 0..516 {
+    for length in 0..528 {
         assert_eq!(refusal(&image[..length]), 2);
     }
     for extra in 1..=20 {
@@ -204,6 +211,24 @@ fn refusal_2() {
     let mut numbers = with_stack(&entries[..2]);
     numbers.pop();
     assert_eq!(refusal(&bytes(&numbers)), 2);
+    // The last section: its count, and as many dividers as it says.
+    for count in [0, 1, 3, 0x0200_0000, 0xFFFF_FFFF] {
+        assert_eq!(refusal(&changed(&[(STACK, count)])), 2);
+    }
+    for dividers in [0, 1, 3, 4] {
+        let mut numbers = reset_numbers();
+        numbers.truncate(STACK);
+        numbers.push(dividers);
+        numbers.extend(vec![0; dividers as usize]);
+        assert_eq!(refusal(&bytes(&numbers)), 2);
+    }
+    // The old layout, at every depth.
+    for depth in 0..=12 {
+        let mut numbers = with_stack(&entries[..depth]);
+        assert_eq!(refusal(&bytes(&numbers)), 0);
+        numbers.truncate(numbers.len() - 3);
+        assert_eq!(refusal(&bytes(&numbers)), 2);
+    }
 }
 
 #[test]
@@ -279,6 +304,18 @@ fn refusal_3() {
         numbers[CONTROL + 0x13] &= 0xFFF;
         assert_eq!(refusal(&bytes(&numbers)), expected);
     }
+    // "a divider at most 255", whatever EN and DIV are.
+    for timer in 0..2 {
+        for configuration in [0, 0x8000_8000, 0x80FF_80FF] {
+            for (divider, expected) in [(0, 0), (1, 0), (255, 0), (256, 3), (0xFFFF_FFFF, 3)] {
+                let mut numbers = with_stack(&[[3, 0, 8, 0]]);
+                numbers[CONTROL + 0x27] = configuration;
+                let place = numbers.len() - 2 + timer;
+                numbers[place] = divider;
+                assert_eq!(refusal(&bytes(&numbers)), expected);
+            }
+        }
+    }
 }
 
 #[test]
@@ -342,18 +379,18 @@ fn answer(requests: &[u32], limit: u32, length: usize) -> Answer {
 
 #[test]
 fn refusals_6_7_8() {
-    assert_eq!(answer(&[0xFFF, 0], 1, 708).refusal, 0);
-    assert_eq!(answer(&[0x1000], 1, 708).refusal, 6);
+    assert_eq!(answer(&[0xFFF, 0], 1, 720).refusal, 0);
+    assert_eq!(answer(&[0x1000], 1, 720).refusal, 6);
     // Also past the limit.
-    assert_eq!(answer(&[0, 0, 0xFFFF_FFFF], 1, 708).refusal, 6);
-    assert_eq!(answer(&[0x1000], 0, 708).refusal, 6);
-    assert_eq!(answer(&[], 1_000_000, 708).refusal, 0);
-    assert_eq!(answer(&[], 1_000_001, 708).refusal, 7);
-    assert_eq!(answer(&[], 0xFFFF_FFFF, 708).refusal, 7);
-    assert_eq!(answer(&[], 1, 707).refusal, 8);
-    assert_eq!(answer(&[], 0, 516).refusal, 8);
+    assert_eq!(answer(&[0, 0, 0xFFFF_FFFF], 1, 720).refusal, 6);
+    assert_eq!(answer(&[0x1000], 0, 720).refusal, 6);
+    assert_eq!(answer(&[], 1_000_000, 720).refusal, 0);
+    assert_eq!(answer(&[], 1_000_001, 720).refusal, 7);
+    assert_eq!(answer(&[], 0xFFFF_FFFF, 720).refusal, 7);
+    assert_eq!(answer(&[], 1, 719).refusal, 8);
+    assert_eq!(answer(&[], 0, 708).refusal, 8);
     assert_eq!(answer(&[], 0, 0).refusal, 8);
-    assert_eq!(answer(&[], 1, 709).refusal, 0);
+    assert_eq!(answer(&[], 1, 721).refusal, 0);
 }
 
 /// "Asked in order": with several answers no, the first gives the number.
@@ -373,26 +410,26 @@ fn order_of_refusals() {
         )
         .refusal
     };
-    assert_eq!(ask(&numbers, 0, &[], 1, 707), 8);
-    assert_eq!(ask(&numbers, 0, &[], 1_000_001, 707), 7);
-    assert_eq!(ask(&numbers, 0, &[0x1000], 1_000_001, 707), 6);
+    assert_eq!(ask(&numbers, 0, &[], 1, 719), 8);
+    assert_eq!(ask(&numbers, 0, &[], 1_000_001, 719), 7);
+    assert_eq!(ask(&numbers, 0, &[0x1000], 1_000_001, 719), 6);
     numbers[CONTROL + 0x13] = 0;
-    assert_eq!(ask(&numbers, 0, &[0x1000], 1_000_001, 707), 5);
+    assert_eq!(ask(&numbers, 0, &[0x1000], 1_000_001, 719), 5);
     numbers[STACK + 2] = 7;
-    assert_eq!(ask(&numbers, 0, &[0x1000], 1_000_001, 707), 4);
+    assert_eq!(ask(&numbers, 0, &[0x1000], 1_000_001, 719), 4);
     numbers[CONDITIONS] = 8;
-    assert_eq!(ask(&numbers, 0, &[0x1000], 1_000_001, 707), 3);
+    assert_eq!(ask(&numbers, 0, &[0x1000], 1_000_001, 719), 3);
     numbers.push(0);
-    assert_eq!(ask(&numbers, 0, &[0x1000], 1_000_001, 707), 2);
-    assert_eq!(ask(&numbers, 65_537, &[0x1000], 1_000_001, 707), 1);
+    assert_eq!(ask(&numbers, 0, &[0x1000], 1_000_001, 719), 2);
+    assert_eq!(ask(&numbers, 65_537, &[0x1000], 1_000_001, 719), 1);
 }
 
-/// A buffer longer than 708 bytes keeps its further bytes, a shorter image's too.
+/// A buffer longer than 720 bytes keeps its further bytes, a shorter image's too.
 #[test]
 fn further_bytes() {
     let bench = Bench::new(&[NOP]);
     let mut buffer = vec![0xC3; 1000];
     let answer = run(&bench.program, &mut [], &bench.image(), &[], 5, &mut buffer);
     assert_eq!((answer.steps, answer.ending), (1, 11));
-    assert!(buffer[516..].iter().all(|&byte| byte == 0xC3));
+    assert!(buffer[528..].iter().all(|&byte| byte == 0xC3));
 }

@@ -5,7 +5,7 @@ use crate::machine::{offset, StackEntry};
 
 /// A machine with interrupts enabled, all sources unmasked, super user and 32-bit words
 /// in every service routine, and the vector of source s at 100h + 10h × s.
-fn ready(words: &[u32]) -> Bench {
+pub fn ready(words: &[u32]) -> Bench {
     let mut bench = Bench::new(words);
     bench.machine.set_psr(0x1E);
     bench.machine.control[offset::INT_MASK] = 0xFFF;
@@ -211,7 +211,7 @@ fn the_deepest_stack() {
     bench.steps(24);
     assert_eq!(bench.machine.stack.len(), 12);
     assert_eq!(bench.machine.control[offset::INT_SERV], 0xFFF);
-    assert_eq!(bench.image().len(), 708);
+    assert_eq!(bench.image().len(), 720);
     let sources: Vec<u32> = bench
         .machine
         .stack

@@ -2,6 +2,7 @@
 //! the sentences quoted at each test, 02's wishes, and 002's sections.
 
 mod bench;
+mod carried;
 mod control_block;
 mod encode;
 mod exceptions;
@@ -11,6 +12,7 @@ mod interrupts;
 mod listing;
 mod operations;
 mod random;
+mod timers;
 mod transfers;
 mod words;
 mod worked;

@@ -80,6 +80,7 @@ fn random_bench(random: &mut Random) -> Bench {
     if random.below(4) == 0 {
         machine.position.product = Some(u64::from(random.next()) << 32);
     }
+    machine.dividers = [random.below(256), random.below(4)];
     // Half of the machines have an empty stack.
     let rarity = if random.below(2) == 0 { 4 } else { 0 };
     for source in 0..12 {

@@ -96,7 +96,7 @@ fn user_load_at_the_bounds() {
 fn limits() {
     let mut bench = Bench::new(&[lli(1, 5)]);
     let image = bench.image();
-    let mut buffer = [7; 708];
+    let mut buffer = [7; 720];
     let answer = run(
         &bench.program,
         &mut bench.cells,
@@ -111,10 +111,10 @@ fn limits() {
         ending: 0,
     };
     assert_eq!(answer, none);
-    assert_eq!(buffer[..516], image[..]);
-    assert!(buffer[516..].iter().all(|&byte| byte == 7));
+    assert_eq!(buffer[..528], image[..]);
+    assert!(buffer[528..].iter().all(|&byte| byte == 7));
 
-    let mut buffer = [7; 708];
+    let mut buffer = [7; 720];
     let answer = run(
         &bench.program,
         &mut bench.cells,
@@ -129,7 +129,7 @@ fn limits() {
         ending: 0,
     };
     assert_eq!(answer, refused);
-    assert_eq!(buffer, [7; 708]);
+    assert_eq!(buffer, [7; 720]);
 }
 
 /// A step limit of 1,000,000 is allowed and reached by an endless loop.
@@ -146,11 +146,11 @@ fn the_run_program_example() {
         .iter()
         .flat_map(|word| word.to_be_bytes())
         .collect();
-    let mut image = [0; 708];
+    let mut image = [0; 720];
     assert_eq!(reset(&mut image), 0);
     let mut cells = vec![0; 4096];
-    let mut buffer = [0; 708];
-    let answer = run(&program, &mut cells, &image[..516], &[], 3, &mut buffer);
+    let mut buffer = [0; 720];
+    let answer = run(&program, &mut cells, &image[..528], &[], 3, &mut buffer);
     let expected = Answer {
         refusal: 0,
         steps: 3,

@@ -1,14 +1,14 @@
 -- `print_values` meets its contract: the loop goes through the line. Assumes nothing.
 use mathlib.Core.Path.{_≡_}
 use Prim.Native.Nat.{_≤_, _-_}
-use native.Mathlib.Omega.{arith}
 use lib.ListN.{length}
 use borrow.Author.Needs.{needs}
+use Rattle.image.specs.Image.{LONGEST}
 use Rattle.examples.proofs.show.print_values.Statement.{statement}
 use Rattle.examples.proofs.show.print_values.Tie as tie
 
 abbrev Inv-loop : tie.InvT-loop
-Inv-loop line from names buffer at₀ at = (at ≤ length line) × (length buffer ≡ 708)
+Inv-loop line from names buffer at₀ at = (at ≤ length line) × (length buffer ≡ LONGEST)
 
 abbrev μ-loop : tie.MeasureT-loop
 μ-loop line from names buffer at₀ at = length line - at

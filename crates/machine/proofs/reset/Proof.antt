@@ -1,8 +1,8 @@
--- `reset` meets its contract: both sides compute. Assumes nothing.
+-- `machine::reset` meets its contract: both sides compute. Assumes nothing.
 use borrow.Author.Needs.{needs}
 use Rattle.machine.specs.Computed.{machines}
-use Rattle.image.proofs.reset.Statement.{statement}
-use Rattle.image.proofs.reset.Tie as tie
+use Rattle.machine.proofs.reset.Statement.{statement}
+use Rattle.machine.proofs.reset.Tie as tie
 
 returns : tie.Need-returns
 unfolding machines

@@ -1,0 +1,14 @@
+-- `write_last` meets its contract: three numbers, one behind the other. Assumes nothing.
+use native.Mathlib.Omega.{arith}
+use Rattle.image.proofs.Writing.{section-put}
+use borrow.Author.Needs.{needs}
+use Rattle.image.proofs.write_last.Statement.{statement}
+use Rattle.image.proofs.write_last.Tie as tie
+
+returns : tie.Need-returns
+returns c = let start = c .before .before .before .before .before .before .before .before .before .before .before .before .before .before .before .before in
+    section-put (start .args .w .now) (start .args .buffer .now) (start .args .at) _ _ (start .pre .0) (omega (arith, start .pre .1)) (c .before .before .before .before .before .before .before .before .before .before .before .before .before .divider .ensures) (c .before .before .before .before .before .before .before .before .before .before .before .before .divider2 .ensures)
+    (c .before .before .before .before .before .before .before .before .before .before .put-number .ensures) (c .before .before .before .before .before .before .put-number2 .ensures) (c .before .before .put-number3 .ensures)
+
+pub write-last-spec : {M : Type 1} → statement M
+write-last-spec = tie.close (tie.spec (λ c κs. search needs) (λ c κs. search needs) (λ c κs. search needs) (λ c. search needs) (λ c κs. search needs) (λ c. search needs) (λ c κs. search needs) (λ c. search needs) returns)

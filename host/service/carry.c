@@ -1,0 +1,34 @@
+/* The command carry-over: writes a machine or a plain image of the earlier layout in the present
+   one. */
+#include "commands.h"
+#include "machine.h"
+#include "save.h"
+
+#include <stdio.h>
+
+/* Says what was carried over. */
+static bool say_carried(const struct machine *machine)
+{
+    if (machine->has_cells)
+        printf("a machine of %zu cell%s is carried over\n", machine->cell_count,
+               machine->cell_count == 1 ? "" : "s");
+    else
+        puts("a plain image is carried over");
+    return end_output();
+}
+
+enum status carry_over_command(const struct arguments *arguments)
+{
+    const char *old = arguments->words[0], *path = arguments->words[1];
+    struct machine machine;
+    enum status status;
+    struct save save;
+
+    if (!apart(old, path) || !begin_save(&save, path, arguments->target))
+        return FAILED;
+    status = finish_save(&save, read_earlier(old, &machine) &&
+                                    fill_machine(&save, machine.file.at, &machine) &&
+                                    say_carried(&machine));
+    free_machine(&machine);
+    return status;
+}
