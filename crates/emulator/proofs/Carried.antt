@@ -1,6 +1,6 @@
 -- Images of the earlier layout carried over. Assumes nothing.
 use mathlib.Core.Path.{_≡_, refl, sym, ap, _∙_}
-use mathlib.Core.Bool.{Bool, true, false, not}
+use mathlib.Core.Bool.{false}
 use mathlib.Core.List.{List}
 use Prim.Native.Nat.{ℕ, zero, suc, _≤_, _<_}
 use native.Mathlib.Omega.{arith}
@@ -11,13 +11,15 @@ use Rattle.word.specs.Choice.{if_then_else_}
 use Rattle.word.proofs.Tests.{either}
 use Rattle.codec.specs.Number.{numbersOf, over}
 use Rattle.machine.specs.Machine.{Machine}
-use Rattle.formed.specs.Questions.{question3, question4, question5, Read, Refused, Accepted, askMachine, readBy}
+use Rattle.formed.specs.Questions.{Accepted, readBy}
 use Rattle.image.specs.Image.{LONGEST, readWhere}
 use Rattle.image.specs.Earlier.{earlierIn, earlier2, readEarlier}
 use Rattle.image.proofs.Image.{earlier-extended}
 use Rattle.emulator.specs.Outcome.{ImageOutcome, imageOutcome, imageCall}
+use Rattle.emulator.specs.Run.{firstNo}
+use Rattle.emulator.specs.CarryOver.{carriedBy, carryOverCall, earlierAnswers, CarriedAs, notRead, noRoom, written, CarryAnswers, Carried}
 use Rattle.emulator.proofs.Outcomes.{room-none, room-there}
-use Rattle.emulator.specs.CarryOver.{carriedBy, carryOverCall, CarriedAs, notRead, noRoom, written, CarryAnswers, Carried}
+use Rattle.emulator.proofs.Questions.{ofRead, read-first, first-after, number-first}
 
 -- ---- the call as its code asks it
 
@@ -39,35 +41,25 @@ module _ (image buffer : List ℕ) where
 
 -- ---- what it answers
 
--- what 2 to 5 refuse with
-data Numbered : Read → Type 0 where
-  refused : (n : ℕ) → 2 ≤ n → n ≤ 5 → Numbered (Refused n)
-  passed : (m : Machine) → Numbered (Accepted m)
+-- where nothing of 2 to 5 is answered no, 8 decides
+room-asked : (image buffer : List ℕ) (m : Machine) → readEarlier image ≡ Accepted m → CarriedAs image buffer (imageCall m buffer)
+room-asked image buffer m e =
+    either (leb LONGEST (length buffer))
+    (λ h. let l : LONGEST ≤ length buffer = leb-true LONGEST (length buffer) h in rw (← room-there m buffer l) (written m e l))
+    (λ h. let l : length buffer < LONGEST = leb-false LONGEST (length buffer) h in rw (← room-none m buffer l) (noRoom m e l))
 
-numbered : (image : List ℕ) → Numbered (readEarlier image)
-unfolding readWhere askMachine if_then_else_
-numbered image = go (earlier2 image) (question3 m) (question4 m) (question5 m)
+pub carry-answers : CarryAnswers
+unfolding carryOverCall carriedBy readBy firstNo if_then_else_
+carry-answers image buffer = rw (read-first (earlier2 image) m) (go (firstNo 2 (ofRead (earlier2 image) m)) refl)
   where
     m : Machine
     m = earlierIn (numbersOf image)
 
-    go : (a b c d : Bool) → Numbered (if a then (if not b then Refused 3 else if not c then Refused 4 else if not d then Refused 5 else Accepted (earlierIn (numbersOf image))) else Refused 2)
-    go false b c d = refused 2 (lit≤ tt) (lit≤ tt)
-    go true false c d = refused 3 (lit≤ tt) (lit≤ tt)
-    go true true false d = refused 4 (lit≤ tt) (lit≤ tt)
-    go true true true false = refused 5 (lit≤ tt) (lit≤ tt)
-    go true true true true = passed _
-
-pub carry-answers : CarryAnswers
-unfolding carryOverCall carriedBy
-carry-answers image buffer = go (readEarlier image) refl (numbered image)
-  where
-    go : (r : Read) → readEarlier image ≡ r → Numbered r → CarriedAs image buffer (carriedBy r buffer)
-    go _ e (refused n a b) = notRead n e a b
-    go _ e (passed m) =
-        either (leb LONGEST (length buffer))
-        (λ h. let l : LONGEST ≤ length buffer = leb-true LONGEST (length buffer) h in rw (← room-there m buffer l) (written m e l))
-        (λ h. let l : length buffer < LONGEST = leb-false LONGEST (length buffer) h in rw (← room-none m buffer l) (noRoom m e l))
+    go : (k : ℕ) → firstNo 2 (ofRead (earlier2 image) m) ≡ k → CarriedAs image buffer (carriedBy (readBy k m) buffer)
+    go zero e = room-asked image buffer m (read-first (earlier2 image) m ∙ ap (λ (k : ℕ). readBy k m) e)
+    go (suc x) e =
+        let r = first-after 1 (ofRead (earlier2 image) m) x e in
+        notRead (suc x) (omega (arith, r .1)) (omega (arith, r .1, r .2)) (number-first (earlierAnswers image) (lit≤ tt) (suc x) e (omega arith))
 
 pub carried : Carried
 unfolding readBy

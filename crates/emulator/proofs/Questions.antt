@@ -5,7 +5,7 @@ use mathlib.Core.List.{List, [], _∷_, _++_}
 use Prim.Native.Nat.{ℕ, zero, suc, _+_, _-_, _≤_, _<_, suc-le-suc}
 use native.Mathlib.Omega.{arith}
 use native.Mathlib.Nat.{le-of-suc-le-suc}
-use lib.Dec.{leb, lit<}
+use lib.Dec.{leb, lit<, lit≤}
 use lib.ListN.{length, getD}
 use borrow.Author.Tests.{leb-true, le-leb}
 use Rattle.word.specs.Choice.{if_then_else_}
@@ -40,7 +40,7 @@ first-among n (true ∷ bs) cs z = first-among (suc n) bs cs z
 first-among n (false ∷ bs) cs z = refl
 
 -- k answers are yes, and the next is no
-record NoAfter (bs : List Bool) (k : ℕ) : Type 0 where
+pub record NoAfter (bs : List Bool) (k : ℕ) : Type 0 where
   before : (i : ℕ) → i < k → getD bs i true ≡ true
   no : getD bs k true ≡ false
 
@@ -48,7 +48,7 @@ yes-before : (bs : List Bool) (k : ℕ) → ((i : ℕ) → i < k → getD bs i t
 yes-before bs k f zero h = refl
 yes-before bs k f (suc i) h = f i (le-of-suc-le-suc h)
 
-first-after : (n : ℕ) (bs : List Bool) (x : ℕ) → firstNo (suc n) bs ≡ suc x → (k : ℕ) × (x ≡ n + k) × (k < length bs) × NoAfter bs k
+pub first-after : (n : ℕ) (bs : List Bool) (x : ℕ) → firstNo (suc n) bs ≡ suc x → (k : ℕ) × (x ≡ n + k) × (k < length bs) × NoAfter bs k
 unfolding firstNo if_then_else_
 first-after n [] x e = absurd (omega arith)
 first-after n (true ∷ bs) x e =
@@ -67,7 +67,7 @@ after-first n (false ∷ bs) zero f = omega arith
 after-first n (false ∷ bs) (suc k) f = absurd (true≢false (sym (f .before 0 (omega arith))))
 
 -- the same by number, from 1 on
-number-first : (bs : List Bool) → length bs ≡ 8 → (n : ℕ) → firstNo 1 bs ≡ n → 1 ≤ n → FirstNoAt bs n
+pub number-first : (bs : List Bool) → length bs ≤ 8 → (n : ℕ) → firstNo 1 bs ≡ n → 1 ≤ n → FirstNoAt bs n
 number-first bs l zero e h = absurd (omega arith)
 number-first bs l (suc x) e h =
     let r = first-after 0 bs x e in
@@ -103,12 +103,16 @@ start-asked (suc k) x m e = absurd (let z : _≡_ {A = ℕ} 0 1 = cc in omega ar
 
 -- ---- 2 to 5, of an image
 
--- the machine that an image says, and the answers to 2 to 5
+-- the answers to 2 to 5, by that to 2 and the machine that the image says
+abbrev pub ofRead : (fits : Bool) → Machine → List Bool
+ofRead fits m = fits ∷ question3 m ∷ question4 m ∷ question5 m ∷ []
+
+-- those of an image, and its machine
 abbrev pub said : (image : List ℕ) → Machine
 said image = machineIn (numbersOf image)
 
 abbrev pub ofImage : (image : List ℕ) → List Bool
-ofImage image = question2 image ∷ question3 (said image) ∷ question4 (said image) ∷ question5 (said image) ∷ []
+ofImage image = ofRead (question2 image) (said image)
 
 first-of-four : (a b c d : Bool) (m : Machine)
     → if_then_else_ a (if_then_else_ (not b) (Refused 3) (if_then_else_ (not c) (Refused 4) (if_then_else_ (not d) (Refused 5) (Accepted m)))) (Refused 2)
@@ -121,9 +125,9 @@ first-of-four true false c d m = refl
 first-of-four false b c d m = refl
 
 -- reading asks them in order
-read-first : (image : List ℕ) → readImage image ≡ readBy (firstNo 2 (ofImage image)) (said image)
+pub read-first : (fits : Bool) (m : Machine) → readWhere fits m ≡ readBy (firstNo 2 (ofRead fits m)) m
 unfolding readWhere askMachine
-read-first image = first-of-four (question2 image) (question3 (said image)) (question4 (said image)) (question5 (said image)) (said image)
+read-first fits m = first-of-four fits (question3 m) (question4 m) (question5 m) m
 
 said-by : (n k : ℕ) (x m : Machine) → readBy n x ≡ readBy k m → (n ≡ k) × (n ≡ 0 → x ≡ m)
 unfolding readBy
@@ -134,7 +138,7 @@ said-by (suc n) (suc k) x m e = (cc, λ z. absurd (omega arith))
 
 -- what reading said of the image: the number of its first no, and the machine where there is none
 pub read-says : (image : List ℕ) (n : ℕ) (m : Machine) → readBy n m ≡ readImage image → (n ≡ firstNo 2 (ofImage image)) × (n ≡ 0 → m ≡ said image)
-read-says image n m e = said-by n (firstNo 2 (ofImage image)) m (said image) (e ∙ read-first image)
+read-says image n m e = said-by n (firstNo 2 (ofImage image)) m (said image) (e ∙ read-first (question2 image) (said image))
 
 -- ---- a call that is not refused
 
@@ -154,7 +158,7 @@ module _ (p image : List ℕ) (memory : Memory) (c : Call) where
           record {
             programSize = leb-true (length p) MOST-MEMORY (sizes .0);
             dataSize = leb-true (length (memory .cells)) MOST-MEMORY (sizes .1);
-            read = read-first image ∙ rw (passed-none 2 (two also three also four also five also no-more), same);
+            read = read-first (question2 image) (said image) ∙ rw (passed-none 2 (two also three also four also five also no-more), same);
             requests = λ i. le-of-suc-le-suc (true-below 0x1000 (c .requests) (lit< tt) six i);
             limit = leb-true (c .limit) MOST-STEPS seven;
             room = leb-true LONGEST (length (c .buffer)) eight;
@@ -175,9 +179,9 @@ module _ (p image : List ℕ) (memory : Memory) (c : Call) where
           le-leb (c .limit) MOST-STEPS (y .limit) also
           le-leb LONGEST (length (c .buffer)) (y .room) also no-more
 
-  eight : length given ≡ 8
+  eight : length given ≤ 8
   unfolding answers
-  eight = refl
+  eight = lit≤ tt
 
 pub questions : Questions
 unfolding Questions

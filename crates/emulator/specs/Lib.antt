@@ -1,4 +1,5 @@
--- The run call and lists of run calls (Run), the image at reset (Reset) and one of the earlier layout carried over (CarryOver), each with the outcome of a call that writes an image (Outcome), which calls are refused (Questions), what a call leaves (Closure).
+-- The run call and lists of run calls (Run), which run calls are refused (Questions), what they leave (Closure); calls that only write an image
+-- (Outcome): the image at reset (Reset), and one of the earlier layout carried over (CarryOver).
 pub mod Run
 pub mod Outcome
 pub mod Reset

@@ -52,7 +52,7 @@ positionTests q =
     implies (eqb (q .held) 0) (eqb (q .low) 0) ∷
     []
 
--- all but the dividers
+-- of all numbers but the dividers
 unfoldable pub numberTests : Machine → List Bool
 numberTests m =
     allBelow (2 ^ 32) (m .set1) ∷

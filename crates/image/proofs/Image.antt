@@ -15,12 +15,12 @@ use Rattle.word.specs.Choice.{if_then_else_}
 use Rattle.codec.specs.Number.{numbersOf, bytesOf}
 use Rattle.codec.proofs.Laws.{Below, numbersOf-bytesOf, bytesOf-numbersOf, bytesOf-append, length-bytesOf, length-numbersOf}
 use Rattle.word.proofs.Tests.{and-parts, and-both}
-use Rattle.machine.specs.Machine.{Machine, withDividers}
+use Rattle.machine.specs.Machine.{Machine}
 use Rattle.machine.specs.Control.{reset}
 use Rattle.machine.specs.Words.{SOURCES, TIMERS, ZEROS, section}
 use Rattle.machine.specs.declared.Position.{Position}
 use Rattle.machine.specs.declared.Entry.{Entry}
-use Rattle.machine.proofs.Flat.{section-length}
+use Rattle.machine.proofs.Flat.{section-length, same-dividers}
 use Rattle.formed.specs.Questions.{all, allBelow, question3, Accepted}
 use Rattle.image.specs.Image.{positionNumbers, entryNumbers, sectionNumbers, imageNumbers, writeImage, STACK-AT, countOf, dividersAt, machineWith, machineIn, bytesToStack, LAST, imageBytes, LONGEST, sectionTests, fitsToStack, question2, readWhere, readImage}
 use Rattle.image.specs.Earlier.{earlierIn, earlier2, readEarlier, extended, EarlierAsked, EarlierReadBack, EarlierExtended, LayoutsApart}
@@ -148,7 +148,6 @@ pub record Sectioned (behind : ℕ) (image : List ℕ) : Type 0 where
   pub deep : countOf STACK-AT (numbersOf image) ≤ SOURCES
   pub counted : Counted (numbersOf image)
   pub exact : length image ≡ bytesToStack (countOf STACK-AT (numbersOf image)) + behind
-  pub words : length (numbersOf image) ≡ length image / 4
 
 pub sectioned : (behind : ℕ) (image : List ℕ) → fitsToStack behind image ≡ true → Sectioned behind image
 unfolding sectionTests
@@ -160,7 +159,6 @@ sectioned behind image q = go (all-passed (sectionTests behind (length image) (n
           deep = leb-true _ SOURCES deep;
           counted = record { set1 = eqb-true _ 32 set1; set2 = eqb-true _ 32 set2; conditions = eqb-true _ 8 conditions; control = eqb-true _ 45 control; position = eqb-true _ 6 position };
           exact = eqb-true _ _ exact;
-          words = length-numbersOf image;
         }
 
 -- with other bytes behind them it does not fit
@@ -197,8 +195,8 @@ unfolding machineIn
 accepted image m = read-as (question2 image) (machineIn (numbersOf image)) m (λ q.
     let ns = numbersOf image in
     let s = all-sections image q .0 in
-    let n = section-length ns (dividersAt ns) TIMERS (omega (arith, s .words, s .exact)) in
-    counts-machineWith (section (dividersAt ns) TIMERS ns) ns n (omega (arith, s .words, s .exact)))
+    let n = section-length ns (dividersAt ns) TIMERS (omega (arith, length-numbersOf image, s .exact)) in
+    counts-machineWith (section (dividersAt ns) TIMERS ns) ns n (omega (arith, length-numbersOf image, s .exact)))
 
 pub accepted-formed : (image : List ℕ) (m : Machine) → readImage image ≡ Accepted m → WellFormed m
 accepted-formed image m e = accepted image m e .formed
@@ -210,7 +208,7 @@ writeImage-readImage image m b e =
     let r = accepted image m e in
     let ws = numbersOf image in
     let s = all-sections image (r .sections) in
-    let back : imageNumbers m ≡ ws = ap imageNumbers (sym (r .machine)) ∙ imageNumbers-machineIn ws (s .0 .counted) (omega (arith, s .0 .words, s .0 .exact)) (s .1) in
+    let back : imageNumbers m ≡ ws = ap imageNumbers (sym (r .machine)) ∙ imageNumbers-machineIn ws (s .0 .counted) (omega (arith, length-numbersOf image, s .0 .exact)) (s .1) in
     ap bytesOf back ∙ bytesOf-numbersOf image (omega (arith, s .0 .exact)) b
 
 -- ---- the earlier layout
@@ -219,7 +217,7 @@ accepted-earlier : (image : List ℕ) (m : Machine) → readEarlier image ≡ Ac
 unfolding earlierIn
 accepted-earlier image m = read-as (earlier2 image) (earlierIn (numbersOf image)) m (λ q.
     let s = earlier-sections image q in
-    counts-machineWith ZEROS (numbersOf image) refl (omega (arith, s .words, s .exact)))
+    counts-machineWith ZEROS (numbersOf image) refl (omega (arith, length-numbersOf image, s .exact)))
 
 pub earlier-asked : EarlierAsked
 unfolding question3 earlierIn machineWith allBelow
@@ -236,12 +234,12 @@ module _ (image : List ℕ) (m : Machine) (r : ReadAs (earlier2 image) (earlierI
   same-numbers =
       let ns = numbersOf image in
       let s = earlier-sections image (r .sections) in
-      let size : STACK-AT + 4 * countOf STACK-AT ns ≡ length ns = omega (arith, s .words, s .exact) in
+      let size : STACK-AT + 4 * countOf STACK-AT ns ≡ length ns = omega (arith, length-numbersOf image, s .exact) in
       let end : drop (STACK-AT + 4 * countOf STACK-AT ns) ns ≡ [] = ap (λ (k : ℕ). drop k ns) size ∙ drop-length ns in
       ap sectionNumbers (sym (r .machine))
       ∙ sym (append-nil (sectionNumbers (earlierIn ns)))
       ∙ ap (λ (l : List ℕ). sectionNumbers (earlierIn ns) ++ l) (sym end)
-      ∙ all-words ZEROS ns (s .counted) (omega (arith, s .words, s .exact))
+      ∙ all-words ZEROS ns (s .counted) (omega (arith, length-numbersOf image, s .exact))
 
   written-extended : ((i : ℕ) → getD image i 0 < 256) → writeImage m ≡ extended image
   unfolding writeImage imageNumbers
@@ -273,10 +271,9 @@ module _ {m : Machine} (w : WellFormed m) where
       rw saved-numbers (sections-pass ns (length (bytesOf (sectionNumbers m))) 0 (counted-numbers m c []) (rw d (stacked-depth (w .stack))) (rw d (omega (arith, n))))
 
   saved-read : m .dividers ≡ ZEROS → readEarlier (bytesOf (sectionNumbers m)) ≡ Accepted m
-  unfolding readWhere if_then_else_ earlierIn withDividers
+  unfolding readWhere if_then_else_ earlierIn
   saved-read z =
-      let same : withDividers ZEROS m ≡ m = λ i. record { set1 = m .set1; set2 = m .set2; conditions = m .conditions; control = m .control; position = m .position; stack = m .stack; dividers = sym z i } in
-      rw (saved-2, saved-numbers, machineWith-numbers m (formed-counts w) [] ZEROS, same) (askMachine-formed w)
+      rw (saved-2, saved-numbers, machineWith-numbers m (formed-counts w) [] ZEROS, same-dividers m ZEROS z) (askMachine-formed w)
 
 pub earlier-read-back : EarlierReadBack
 earlier-read-back m e z = saved-read (true-formed m e) z

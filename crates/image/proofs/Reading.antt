@@ -7,16 +7,16 @@ use native.Mathlib.Omega.{arith}
 use native.Mathlib.Nat.{add-zero}
 use native.Mathlib.Numerals.{add-one}
 use lib.Dec.{eqb, lit<}
-use lib.ListN.{length, getD, set, drop}
+use lib.ListN.{length, getD, drop}
 use borrow.Author.Tests.{le-leb, lt-leb, ne-eqb}
 use Rattle.word.specs.Choice.{if_then_else_}
 use Rattle.word.proofs.Tests.{and-parts}
 use Rattle.codec.specs.Number.{numberAt, numbersOf, over}
-use Rattle.codec.proofs.Laws.{getD-numbersOf, length-over}
+use Rattle.codec.proofs.Laws.{getD-numbersOf, length-numbersOf}
 use Rattle.machine.specs.Machine.{Machine, withDividers}
 use Rattle.machine.specs.Words.{SOURCES, TIMERS, ZEROS, WORDS, section, machineOf}
-use Rattle.machine.proofs.Lists.{pair, pair-set}
-use Rattle.machine.proofs.Flat.{section-at, section-length, dividers-length}
+use Rattle.machine.proofs.Lists.{pair}
+use Rattle.machine.proofs.Flat.{section-at, section-length}
 use Rattle.formed.specs.Questions.{all, askMachine}
 use Rattle.image.specs.Image.{sectionNumbers, STACK-AT, countOf, dividersAt, machineWith, machineIn, bytesToStack, LAST, sectionTests, fitsToStack, ToStack, question2, readWhere}
 use Rattle.image.specs.Earlier.{earlier2}
@@ -90,7 +90,7 @@ module _ (s w : List ℕ) (t : ToStack s) (h : length w ≡ WORDS) where
   unfolding withDividers machineWith
   read-front ds e =
       let z = fits in
-      let long : STACK-AT + 4 * countOf STACK-AT ns ≤ length ns = omega (arith, z .words, z .exact) in
+      let long : STACK-AT + 4 * countOf STACK-AT ns ≤ length ns = omega (arith, length-numbersOf s, z .exact) in
       let m = machineWith ds ns in
       let rest = drop (STACK-AT + 4 * countOf STACK-AT ns) ns in
       let whole : over ns w ≡ sectionNumbers m ++ (rest ++ drop (length ns) w) =
@@ -98,18 +98,10 @@ module _ (s w : List ℕ) (t : ToStack s) (h : length w ≡ WORDS) where
       in
       ap (machineWith ds) whole ∙ machineWith-numbers m (counts-machineWith ds ns e (omega arith)) (rest ++ drop (length ns) w) ds
 
-  read-words : (a b : ℕ) → withDividers (a ∷ b ∷ []) (machineOf (over ns w)) ≡ machineWith (a ∷ b ∷ []) ns
+  -- and so are the words with any two stored
+  pub read-words : (a b : ℕ) → withDividers (a ∷ b ∷ []) (machineOf (over ns w)) ≡ machineWith (a ∷ b ∷ []) ns
   unfolding withDividers machineOf machineWith
   read-words a b = read-front (a ∷ b ∷ []) refl
-
-  -- and both dividers stored
-  pub read-stored : (a b : ℕ) (n last : Machine) → n ≡ withDividers (set (machineOf (over ns w) .dividers) 0 a) (machineOf (over ns w))
-      → last ≡ withDividers (set (n .dividers) 1 b) n → last ≡ machineWith (a ∷ b ∷ []) ns
-  unfolding withDividers
-  read-stored a b n last e f =
-      let ws = over ns w in
-      let size : length ws ≡ WORDS = length-over ns w (omega (arith, read-fits, fits .words)) ∙ h in
-      rw (f, e) (ap (λ (l : List ℕ). withDividers l (machineOf ws)) (pair-set (machineOf ws .dividers) a b (dividers-length ws size)) ∙ read-words a b)
 
   pub read-deep : length (machineOf (over ns w) .stack) ≤ SOURCES
   unfolding withDividers
@@ -128,7 +120,7 @@ read-dividers s e =
     let second : length s - 4 ≡ 4 * suc at = omega (arith, z .exact) in
     let ds = section at TIMERS ns in
     let two : ds ≡ getD ns at 0 ∷ getD ns (suc at) 0 ∷ [] =
-    pair ds (section-length ns at TIMERS (omega (arith, z .words, z .exact))) ∙ rw (section-at ns at TIMERS 0 (lit< tt), section-at ns at TIMERS 1 (lit< tt), add-zero at, add-one at)
+    pair ds (section-length ns at TIMERS (omega (arith, length-numbersOf s, z .exact))) ∙ rw (section-at ns at TIMERS 0 (lit< tt), section-at ns at TIMERS 1 (lit< tt), add-zero at, add-one at)
     in
     rw (first, second, ← getD-numbersOf s at (omega (arith, z .exact)), ← getD-numbersOf s (suc at) (omega (arith, z .exact)), ← two)
 

@@ -65,7 +65,7 @@ abbrev pub countOf : (start : ℕ) (numbers : List ℕ) → ℕ
 countOf (suc n) ns = getD ns n 0
 countOf zero ns = 0
 
--- the dividers' begin behind the stack's entries, whose number varies
+-- where the dividers begin: behind the stack's entries, whose number varies
 abbrev pub dividersAt : (numbers : List ℕ) → ℕ
 dividersAt ns = suc (STACK-AT + 4 * countOf STACK-AT ns)
 

@@ -92,8 +92,7 @@ fn read_with(image: &[u8], w: &mut [u32], first: u32, second: u32)
     ensures { λ _. ⌜ Says (now (w .exit)) (machineWith (first ∷ second ∷ []) (numbersOf (now (image .entry)))) ⌝ }
 {
     codec::read_numbers(image, w);
-    machine::set_divider(w, 0, first);
-    machine::set_divider(w, 1, second);
+    machine::set_dividers(w, first, second);
 }
 
 // Reads an image with its sections into the machine's words. Nothing is refused here: question 2 comes before anything lent is written.

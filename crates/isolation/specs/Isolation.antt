@@ -9,7 +9,7 @@ use lib.ListN.{length, getElem?}
 use Rattle.word.specs.Choice.{if_then_else_}
 use Rattle.word.specs.Flags.{isAmong}
 use Rattle.machine.specs.Machine.{Machine, Memory, State, PSR, psr, userMode}
-use Rattle.machine.specs.Control.{controlAt, protectedCell, protectedByte, CCB-BASE, ASYNCHRONOUS, DMEM-BOUND-LO, DMEM-BOUND-HI, IMEM-BOUND-LO, IMEM-BOUND-HI}
+use Rattle.machine.specs.Control.{controlAt, protectedCell, protectedByte, CCB-BASE, INT-PEND, TMR0-CNT, TMR1-CNT, DMEM-BOUND-LO, DMEM-BOUND-HI, IMEM-BOUND-LO, IMEM-BOUND-HI}
 use Rattle.formed.specs.Questions.{Accepted}
 use Rattle.image.specs.Image.{readImage}
 use Rattle.view.specs.View.{nestedBy}
@@ -87,7 +87,7 @@ pub record UserStart (a : Session) : Type 0 where
 
 -- the control registers that the claim excepts: "both counts besides the pending flags" (02, wish 5)
 abbrev pub EXCEPTED : List ℕ
-EXCEPTED = ASYNCHRONOUS
+EXCEPTED = INT-PEND ∷ TMR0-CNT ∷ TMR1-CNT ∷ []
 
 -- set 2 but the status, control registers but those excepted, the hardware stack, protected cells; and user mode stays
 pub record Kept (before after : State) : Type 0 where

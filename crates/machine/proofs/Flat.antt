@@ -19,6 +19,7 @@ use Rattle.machine.specs.Stack.{popped, serviceFlags, shownTop, showTop,
 use Rattle.machine.specs.Words.{SET1, SET2, CONDITIONS, CONTROL, POSITION, SOURCES, TIMERS, DEPTH, ENTRIES, DIVIDERS, WORDS, startBy, section, positionOf, entryOf, entriesOf, machineOf}
 use Rattle.machine.specs.declared.Position.{Position}
 use Rattle.machine.specs.declared.Entry.{Entry}
+use Rattle.machine.proofs.Lists.{pair-set}
 
 -- ---- one section
 
@@ -306,6 +307,17 @@ pub divider-stored : (w : List ℕ) → length (machineOf w .stack) ≤ SOURCES 
 unfolding machineOf withDividers
 divider-stored w h v j l =
     simp (store-in w v DIVIDERS TIMERS j l, store-apart w v DIVIDERS TIMERS j l, stack-past w (DIVIDERS + j) (v ∷ []) h (omega arith))
+
+-- both, one after the other
+pub dividers-stored : (m n last : Machine) (a b : ℕ) → length (m .dividers) ≡ TIMERS → n ≡ withDividers (set (m .dividers) 0 a) m → last ≡ withDividers (set (n .dividers) 1 b) n
+    → last ≡ withDividers (a ∷ b ∷ []) m
+unfolding withDividers
+dividers-stored m n last a b h e f = rw (f, e) (ap (λ (l : List ℕ). withDividers l m) (pair-set (m .dividers) a b h))
+
+-- those that a machine has
+pub same-dividers : (m : Machine) (l : List ℕ) → m .dividers ≡ l → withDividers l m ≡ m
+unfolding withDividers
+same-dividers m l e = λ i. record { set1 = m .set1; set2 = m .set2; conditions = m .conditions; control = m .control; position = m .position; stack = m .stack; dividers = sym e i }
 
 -- ---- INT_SERV and the RETI_ registers
 

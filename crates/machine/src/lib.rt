@@ -2,7 +2,7 @@
 // Their contracts speak of the machine that the words say (specs/Words: Says, which leaves the free places open), so that no other crate says where a number lies.
 ghost use mathlib.Core.Path.{_≡_};
 ghost use mathlib.Core.Bool.{true, false};
-ghost use mathlib.Core.List.{_∷_};
+ghost use mathlib.Core.List.{[], _∷_};
 ghost use Prim.Native.Nat.{_+_, _*_, _<_, _≤_};
 ghost use lib.ListN.{length, getD, set};
 ghost use Rattle.word.specs.Word.{bitAt};
@@ -575,6 +575,15 @@ pub fn set_divider(w: &mut [u32], k: u32, x: u32)
     ensures { λ _. ⌜ Says (now (w .exit)) (withDividers (set (machineOf (now (w .entry)) .dividers) k x) (machineOf (now (w .entry)))) ⌝ }
 {
     w[DIVIDERS + k as usize] = x;
+}
+
+// The dividers of timer 0 and timer 1 take these.
+pub fn set_dividers(w: &mut [u32], first: u32, second: u32)
+    requires { ⌜ MachineWords (now w) × (length (machineOf (now w) .stack) ≤ SOURCES) ⌝ }
+    ensures { λ _. ⌜ Says (now (w .exit)) (withDividers (first ∷ second ∷ []) (machineOf (now (w .entry)))) ⌝ }
+{
+    set_divider(w, 0, first);
+    set_divider(w, 1, second);
 }
 
 // ---- reset

@@ -1,4 +1,4 @@
-// The run program on the files of other folders: limits, lengths, missing files. A line has the path of code.bin and what the run program prints.
+// The run program on the files of other folders: limits, lengths, a watchdog, missing files. A line has the path of code.bin and what the run program prints.
 use libc::STDOUT_FILENO;
 
 // Prints the first path, and what the run program prints for the files at the two.

@@ -7,7 +7,7 @@ use Rattle.machine.specs.Machine.{State}
 use Rattle.machine.specs.Control.{reset}
 use Rattle.timer.specs.Clock.{Clocked, clock}
 use Rattle.timer.proofs.Theorems.{reset-clock}
-use Rattle.effect.specs.Kind.{Kind, Reset}
+use Rattle.effect.specs.Kind.{Reset}
 use Rattle.effect.specs.Apply.{Transition, stopNumber, Report, reported}
 use Rattle.step.specs.Step.{isStop, withClock}
 
@@ -16,15 +16,15 @@ module _ (t : Transition) where
   c = clock (t .after .machine)
 
   -- a step with its clock, which reset the core or not
-  abbrev pub wasReset : Transition
-  wasReset = record { kind = Reset; after = record { machine = reset; memory = t .after .memory } }
+  abbrev pub resetBy : Transition
+  resetBy = record { kind = Reset; after = record { machine = reset; memory = t .after .memory } }
 
-  abbrev pub wentOn : Transition
-  wentOn = record { kind = t .kind; after = record { machine = c .machine; memory = t .after .memory } }
+  abbrev pub clockedBy : Transition
+  clockedBy = record { kind = t .kind; after = record { machine = c .machine; memory = t .after .memory } }
 
   -- what holds of a stop, of a reset and of a step that goes on holds of a transition with its clock
-  pub clock-holds : (P : Transition → Type 0) → (isStop (t .kind) ≡ true → P t) → (isStop (t .kind) ≡ false → c .resets ≡ true → P wasReset)
-      → (isStop (t .kind) ≡ false → c .resets ≡ false → P wentOn) → P (withClock t)
+  pub clock-holds : (P : Transition → Type 0) → (isStop (t .kind) ≡ true → P t) → (isStop (t .kind) ≡ false → c .resets ≡ true → P resetBy)
+      → (isStop (t .kind) ≡ false → c .resets ≡ false → P clockedBy) → P (withClock t)
   unfolding withClock if_then_else_
   clock-holds P f g h =
       either (isStop (t .kind)) (λ e. rw e (f e))
@@ -41,10 +41,6 @@ module _ (t : Transition) where
   stop-kind =
       clock-holds (λ (x : Transition). isStop (x .kind) ≡ true → isStop (t .kind) ≡ true)
       (λ e _. e) (λ _ _ e. absurd (true≢false (sym e))) (λ _ _ e. e)
-
-  -- what holds of a step's kind and of a reset holds of the kind with its clock
-  pub kind-holds : (P : Kind → Type 0) → P (t .kind) → P Reset → P (withClock t .kind)
-  kind-holds P a b = clock-holds (λ (x : Transition). P (x .kind)) (λ _. a) (λ _ _. b) (λ _ _. a)
 
   -- what the code reports: the number of a stop, or 0 and the machine after the clock
   module _ (r : Report) (e : r ≡ reported t) where

@@ -2,7 +2,6 @@
 use mathlib.Core.Path.{_≡_, refl, sym}
 use mathlib.Core.Bool.{true, true≢false}
 use mathlib.Core.List.{List}
-use mathlib.Core.Option.{Option, none, some}
 use Prim.Native.Nat.{ℕ}
 use native.Mathlib.Omega.{arith}
 use Rattle.isa.proofs.Table.{values, agree}
@@ -15,10 +14,9 @@ use Rattle.effect.specs.Effect.{Effect, Stopped, Raised, SystemCall, InterruptR
 use Rattle.effect.specs.Apply.{Transition, machineOnly, storeCell, apply}
 use Rattle.effect.specs.Kind.{Kind}
 use Rattle.effect.specs.Kind as kind
-use Rattle.step.specs.Interrupt.{withRequests, acceptedSource}
-use Rattle.step.specs.Step.{interruptOr, unclocked, step}
+use Rattle.step.specs.Step.{step}
 use Rattle.step.specs.Codes.{isCode, ExceptionCodes, Never01h}
-use Rattle.step.proofs.Clocks.{kind-holds}
+use Rattle.step.proofs.StepKinds.{step-kind}
 
 -- an exception has a code of those
 abbrev Coded : Kind → Type 0
@@ -44,18 +42,8 @@ effect-coded v s InterruptReturn h = tt
 effect-coded v s (StoreCell a x) h = tt
 effect-coded v s (Updates u) h = tt
 
-taken-coded : (p : List ℕ) (o : Option ℕ) (s : State) → Coded (interruptOr (view p s) o s .kind)
-unfolding interruptOr machineOnly
-taken-coded p none s = effect-coded (view p s) s (decide (view p s)) (decide-safe p s)
-taken-coded p (some n) s = tt
-
-unclocked-coded : (p : List ℕ) (s : State) (q : ℕ) → Coded (unclocked p s q .kind)
-unfolding unclocked
-unclocked-coded p s q = let r = withRequests q s in taken-coded p (acceptedSource (view p r) (r .machine)) r
-
 step-coded : (p : List ℕ) (s : State) (q : ℕ) → Coded (step p s q .kind)
-unfolding step
-step-coded p s q = kind-holds (unclocked p s q) Coded (unclocked-coded p s q) tt
+step-coded p s q = step-kind Coded tt p (λ r. effect-coded (view p r) r (decide (view p r)) (decide-safe p r)) s q tt
 
 pub exception-codes : ExceptionCodes
 exception-codes p s q c e = rw e at (step-coded p s q)

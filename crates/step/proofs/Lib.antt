@@ -8,6 +8,7 @@ pub mod Requests
 pub mod Entered
 pub mod Stops
 pub mod Clocks
+pub mod StepKinds
 pub mod Transitions
 pub mod Codes
 pub mod AddressOrder

@@ -2,7 +2,6 @@
 use mathlib.Core.Path.{_≡_, refl, sym}
 use mathlib.Core.Bool.{true, false, true≢false}
 use mathlib.Core.List.{List}
-use mathlib.Core.Option.{Option, none, some}
 use Prim.Native.Nat.{ℕ, _≤_}
 use native.Mathlib.Omega.{arith}
 use Rattle.word.proofs.Tests.{false-unless}
@@ -13,10 +12,9 @@ use Rattle.effect.specs.Effect.{Effect, Stopped, Raised, SystemCall, InterruptR
 use Rattle.effect.specs.Apply.{Transition, machineOnly, storeCell, apply, stopNumber}
 use Rattle.effect.specs.Kind.{Kind}
 use Rattle.effect.specs.Kind as kind
-use Rattle.step.specs.Interrupt.{withRequests, acceptedSource}
-use Rattle.step.specs.Step.{isStop, interruptOr, unclocked, step}
+use Rattle.step.specs.Step.{isStop, unclocked, step}
 use Rattle.execute.proofs.Safe.{Safe, decide-safe}
-use Rattle.step.proofs.Clocks.{kind-holds}
+use Rattle.step.proofs.StepKinds.{unclocked-kind, step-kind}
 
 -- a stop's number is one of the five
 abbrev Numbered : Kind → Type 0
@@ -53,16 +51,12 @@ effect-numbered v s (Updates u) h e = none-stops e
 pub instruction-numbered : (p : List ℕ) (s : State) → Numbered (apply (decide (view p s)) s .kind)
 instruction-numbered p s = effect-numbered (view p s) s (decide (view p s)) (decide-safe p s)
 
-taken-numbered : (p : List ℕ) (o : Option ℕ) (s : State) → Numbered (interruptOr (view p s) o s .kind)
-unfolding interruptOr machineOnly isStop stopNumber
-taken-numbered p none s = instruction-numbered p s
-taken-numbered p (some n) s = none-stops
-
 -- what a step reports, before its clock and after it
-pub unclocked-number : (p : List ℕ) (s : State) (q : ℕ) → Numbered (unclocked p s q .kind)
-unfolding unclocked
-unclocked-number p s q = let r = withRequests q s in taken-numbered p (acceptedSource (view p r) (r .machine)) r
+module _ (p : List ℕ) (s : State) (q : ℕ) where
+  pub unclocked-number : Numbered (unclocked p s q .kind)
+  unfolding isStop
+  unclocked-number = unclocked-kind Numbered none-stops p (instruction-numbered p) s q
 
-pub stop-number : (p : List ℕ) (s : State) (q : ℕ) → Numbered (step p s q .kind)
-unfolding step isStop
-stop-number p s q = kind-holds (unclocked p s q) Numbered (unclocked-number p s q) none-stops
+  pub stop-number : Numbered (step p s q .kind)
+  unfolding isStop
+  stop-number = step-kind Numbered none-stops p (instruction-numbered p) s q none-stops

@@ -194,7 +194,7 @@ fn accept(w: &mut [u32], n: u32)
 
 // ---- the step
 
-// A step with its requests, before its clock, which gives 0; or a stop, which gives its number and leaves everything as before it.
+// A step with its requests, but without its clock, gives 0; a stop gives its number and leaves everything as before it.
 fn transition(program: &[u8], w: &mut [u32], cells: &mut [u32], requests: u32) -> u32
     requires { ⌜ MachineWords (now w) × (length (now program) ≤ MOST-MEMORY) × (wellFormed (machineOf (now w)) ≡ true) ⌝ }
     ensures { λ r. ⌜ reportBy r (now (w .exit)) (memoryOf (now (cells .exit))) ≡ reported (unclocked (now (program .entry)) (stateOf (now (w .entry)) (memoryOf (now (cells .entry)))) requests) ⌝ }

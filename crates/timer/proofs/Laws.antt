@@ -1,4 +1,4 @@
--- One clock of a timer, by its cases. Assumes nothing.
+-- One clock of a timer and of a machine, by its cases. Assumes nothing.
 use mathlib.Core.Path.{_≡_, refl}
 use mathlib.Core.Bool.{Bool, true, false}
 use Prim.Native.Nat.{ℕ, _+_, _*_, _/_, _%_, _^_, _<_, _≤_}

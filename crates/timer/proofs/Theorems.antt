@@ -17,12 +17,12 @@ use Rattle.word.specs.Flags.{withFlag, isAmong}
 use Rattle.word.proofs.Tests.{or-parts, if-holds}
 use Rattle.word.proofs.Flags.{apart-among}
 use Rattle.machine.specs.Machine.{Machine, withControl, withDividers}
-use Rattle.machine.specs.Control.{controlAt, withPending, reset, INT-PEND, TMR0-CNT, TMR-CONF, ASYNCHRONOUS}
+use Rattle.machine.specs.Control.{controlAt, withPending, reset, INT-PEND, TMR0-CNT, TMR-CONF}
 use Rattle.machine.specs.Words.{SOURCES, TIMERS}
 use Rattle.machine.proofs.Lists.{at-set-other, pair-set}
 use Rattle.timer.specs.Timer.{enabled, continuous, interrupts, watchdog, sourceOf, divisor, nextCount, timerOf, tickedTo, clockTimer}
 use Rattle.timer.specs.Clock.{configurationOf, timerIn, withTimer, counted, notified, Clocked, goesOn, wasReset, clockOne, clock}
-use Rattle.timer.specs.Theorems.{Disabled, MaximumKept, clocksOf, Divided, FirstTick, Tick, Ticks, IdleClock, ResetClock, ClockKept, ClockKeeps}
+use Rattle.timer.specs.Theorems.{Disabled, MaximumKept, clocksOf, Divided, FirstTick, Tick, Ticks, IdleClock, ResetClock, CLOCKED, ClockKept, ClockKeeps}
 use Rattle.timer.specs.declared.Timer.{Timer}
 use Rattle.timer.specs.declared.Ticked.{Ticked}
 use Rattle.timer.proofs.Laws.{divisor-is, TicksTo, restarts, stays, counts, clock-disabled, clock-divided, clock-ticks}
@@ -96,20 +96,20 @@ kept-then x y =
     }
 
 -- the count is one of the registers that a clock changes
-count-changes : (k : ℕ) → k < TIMERS → isAmong (TMR0-CNT + 2 * k) ASYNCHRONOUS ≡ true
+count-changes : (k : ℕ) → k < TIMERS → isAmong (TMR0-CNT + 2 * k) CLOCKED ≡ true
 unfolding isAmong
 count-changes zero h = refl
 count-changes (suc zero) h = refl
 count-changes (suc (suc k)) h = absurd (omega arith)
 
-control-kept : (m : Machine) (i x : ℕ) → isAmong i ASYNCHRONOUS ≡ true → ClockKept m (withControl (set (m .control) i x) m)
+control-kept : (m : Machine) (i x : ℕ) → isAmong i CLOCKED ≡ true → ClockKept m (withControl (set (m .control) i x) m)
 unfolding withControl
 control-kept m i x a =
     record {
       set1 = refl;
       set2 = refl;
       conditions = refl;
-      control = λ n h. at-set-other (m .control) i n x (apart-among ASYNCHRONOUS n i a h);
+      control = λ n h. at-set-other (m .control) i n x (apart-among CLOCKED n i a h);
       position = refl;
       stack = refl;
     }
@@ -172,18 +172,12 @@ unfolding clock
 reset-clock m =
     if-holds (λ (x : Clocked). x .resets ≡ true → x .machine ≡ reset) (clockOne 0 m .resets) (λ _. one-resets 0 m) (λ _. one-resets 1 (clockOne 0 m .machine))
 
--- both dividers go to 0, one after the other
-module _ (m : Machine) (e : enabled (configurationOf 0 m) ≡ false) (f : enabled (configurationOf 1 m) ≡ false) where
-  idle-both : let n = withDividers (set (m .dividers) 0 0) m in clock m ≡ goesOn (withDividers (set (n .dividers) 1 0) n)
-  unfolding clock withDividers if_then_else_
-  idle-both = rw (one-idle 0 m e, one-idle 1 (withDividers (set (m .dividers) 0 0) m) f)
-
-  pub idle-stored : (n last : Machine) → n ≡ withDividers (set (m .dividers) 0 0) m → last ≡ withDividers (set (n .dividers) 1 0) n → last ≡ clock m .machine
-  idle-stored n last a b = rw (b, a, idle-both)
-
+-- both dividers go to 0
 pub idle-clock : IdleClock
-unfolding withDividers
-idle-clock m n e f = idle-both m e f ∙ ap (λ (l : List ℕ). goesOn (withDividers l m)) (pair-set (m .dividers) 0 0 n)
+unfolding clock withDividers if_then_else_
+idle-clock m n e f =
+    rw (one-idle 0 m e, one-idle 1 (withDividers (set (m .dividers) 0 0) m) f)
+    (ap (λ (l : List ℕ). goesOn (withDividers l m)) (pair-set (m .dividers) 0 0 n))
 
 -- bit 15 of each half of TMR_CONF
 pub halves-disabled : (m : Machine) → bitAt 15 (controlAt m TMR-CONF) || bitAt 31 (controlAt m TMR-CONF) ≡ false

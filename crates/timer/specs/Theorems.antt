@@ -2,12 +2,13 @@
 use mathlib.Core.Path.{_≡_}
 use mathlib.Core.Logic.{_≢_}
 use mathlib.Core.Bool.{true, false}
+use mathlib.Core.List.{List, [], _∷_}
 use Prim.Native.Nat.{ℕ, zero, suc, _+_, _%_, _^_, _≤_}
 use lib.Dec.{eqb}
 use lib.ListN.{length, getElem?}
 use Rattle.word.specs.Flags.{isAmong}
 use Rattle.machine.specs.Machine.{Machine, withDividers}
-use Rattle.machine.specs.Control.{reset, ASYNCHRONOUS}
+use Rattle.machine.specs.Control.{reset, INT-PEND, TMR0-CNT, TMR1-CNT}
 use Rattle.machine.specs.Words.{TIMERS, ZEROS}
 use Rattle.timer.specs.Timer.{enabled, continuous, divisor, nextCount, timerOf, tickedTo, clockTimer}
 use Rattle.timer.specs.Clock.{configurationOf, Clocked, goesOn, clock}
@@ -66,12 +67,16 @@ IdleClock =
 abbrev pub ResetClock : Type 0
 ResetClock = (m : Machine) → clock m .resets ≡ true → clock m .machine ≡ reset
 
--- all but the pending flags, both counts and the dividers is as before
+-- the control registers that a clock may change: the pending flags and both counts
+abbrev pub CLOCKED : List ℕ
+CLOCKED = INT-PEND ∷ TMR0-CNT ∷ TMR1-CNT ∷ []
+
+-- all but these and the dividers is as before
 pub record ClockKept (before after : Machine) : Type 0 where
   pub set1 : after .set1 ≡ before .set1
   pub set2 : after .set2 ≡ before .set2
   pub conditions : after .conditions ≡ before .conditions
-  pub control : (n : ℕ) → isAmong n ASYNCHRONOUS ≡ false → getElem? (after .control) n ≡ getElem? (before .control) n
+  pub control : (n : ℕ) → isAmong n CLOCKED ≡ false → getElem? (after .control) n ≡ getElem? (before .control) n
   pub position : after .position ≡ before .position
   pub stack : after .stack ≡ before .stack
 

@@ -167,7 +167,6 @@ pub fn clock(w: &mut [u32])
         }
         clock_one(w, 1);
     } else {
-        machine::set_divider(w, 0, 0);
-        machine::set_divider(w, 1, 0);
+        machine::set_dividers(w, 0, 0);
     }
 }

@@ -18,4 +18,12 @@ returns-3 c = let args = c .before .before .before .before .before .before .befo
     cc (sections-counted (args .behind) (args .image .now) (omega arith) (omega arith))
 
 pub sections-to-stack-spec : {M : Type 1} → statement M
-sections-to-stack-spec = tie.close (tie.spec returns (λ c. search needs) (λ c κs. search needs) returns-2 (λ c. search needs) (λ c. search needs) (λ c. search needs) (λ c. search needs) (λ c. search needs) (λ c κs. search needs) (λ c. search needs) (λ c κs. search needs) (λ c. search needs) (λ c κs. search needs) (λ c. search needs) (λ c κs. search needs) (λ c. search needs) (λ c κs. search needs) returns-3)
+sections-to-stack-spec =
+    tie.close
+    (tie.spec
+    returns
+    (λ c. search needs) (λ c κs. search needs)
+    returns-2
+    (λ c. search needs) (λ c. search needs) (λ c. search needs) (λ c. search needs) (λ c. search needs) (λ c κs. search needs) (λ c. search needs)
+    (λ c κs. search needs) (λ c. search needs) (λ c κs. search needs) (λ c. search needs) (λ c κs. search needs) (λ c. search needs) (λ c κs. search needs)
+    returns-3)

@@ -14,14 +14,20 @@ half c = c .field .ensures ∙ rw (c .before .control .ensures)
 
 returns : tie.Need-returns
 returns c =
-    c .before .before .notify .ensures
-    ∙ one-reached _ _ _ _ (half (c .before .before .before .before .before .before .before .before .before)) (rw (← (c .before .before .before .before .if1 .taken)) (c .before .before .before .before .before .before .before .advance .ensures))
+    let taken = c .before .before .before .before in
+    let advanced = taken .before .before .before in
+    c .before .before .notify .ensures ∙ one-reached _ _ _ _ (half (advanced .before .before)) (rw (← (taken .if1 .taken)) (advanced .advance .ensures))
 
 returns-2 : tie.Need-returns-2
-returns-2 c = one-goes-on _ _ _ _ (half (c .before .before .before .before .before)) (rw (← (c .if1 .left)) (c .before .before .before .advance .ensures))
+returns-2 c =
+    let advanced = c .before .before .before in
+    one-goes-on _ _ _ _ (half (advanced .before .before)) (rw (← (c .if1 .left)) (advanced .advance .ensures))
 
 pub clock-one-spec : {M : Type 1} → statement M
 clock-one-spec =
     tie.close
     (tie.spec
-    (λ c κs. search needs) (λ c. search needs) (λ c κs. search needs) (λ c κs. search needs) (λ c κs. search needs) (λ c. search needs) returns (λ c. search needs) returns-2)
+    (λ c κs. search needs) (λ c. search needs) (λ c κs. search needs) (λ c κs. search needs) (λ c κs. search needs) (λ c. search needs)
+    returns
+    (λ c. search needs)
+    returns-2)
