@@ -42,8 +42,8 @@ extern "C" {
 /* The number of stack entries, high byte first, is at this offset of an image: its length is COFFEE_IMAGE_MIN + COFFEE_IMAGE_ENTRY * entries. */
 #define COFFEE_IMAGE_ENTRIES 512
 
-/* The earlier layout, that of the versions before 2.0.0, has all sections but the last: bytes of such an image with an empty stack. No image
- * of one layout is as long as one of the other. */
+/* The earlier layout, that of the versions before 2.0.0, has all sections but the last: bytes of such an image with an empty stack. Its length is
+ * COFFEE_EARLIER_IMAGE_MIN + COFFEE_IMAGE_ENTRY * entries, which is no length of an image of the present layout. */
 #define COFFEE_EARLIER_IMAGE_MIN 516
 
 /* Bytes of a line of a listing: 47 characters and a newline. */
@@ -61,12 +61,14 @@ struct coffee_answer {
 
 /* Runs the machine that `image` says for at most `limit` steps.
  *
- * Each completed step is one clock of both timers, timer 0 first, after what the step stores; a stop is none. With WDOG 1 a tick that leaves a
- * count at its maximum resets the core: the machine is then as coffee_reset writes it, the cells stay as they are, and the steps go on.
+ * Each completed step is one clock of both timers, timer 0 first, after what the step stores; a stop is none. A tick that leaves a count equal
+ * to its maximum requests INTN (source 4 + INTN) where GINT is 1, for the next step at the earliest, or with WDOG 1 resets the core instead; a
+ * CONT 0 count that was there already does nothing. After a reset the machine is as coffee_reset writes it, the cells stay as they are, and the
+ * steps go on.
  *
  * program   bytes, high byte of a word first
  * cells     data memory, one 32-bit cell for each address; changed by the steps
- * image     the machine, exactly as coffee_reset or an earlier coffee_run wrote it, or as made by hand
+ * image     the machine, exactly as coffee_reset, coffee_carry_over or a coffee_run before this one wrote it, or as made by hand
  * requests  the interrupt requests of each step, bit n for source n; steps past the list have none
  * buffer    the new image is written to its front; its further bytes stay as they are
  *
@@ -79,7 +81,7 @@ struct coffee_answer {
  *
  * Refusals, asked in this order:
  *   1  program longer than 65,536 bytes, or more than 65,536 cells
- *   2  image not exactly the sections and counts of an image
+ *   2  image not exactly the sections and counts of an image; one of the earlier layout too, which coffee_carry_over takes
  *   3  a number in the image that its register cannot hold, PSR above 31, a flag other than 0 or 1, numbers other than 0 of a 0 flag, or a
  *      divider above 255
  *   4  a current or stacked PSR with UM 1 whose set bits are not both 0

@@ -108,6 +108,21 @@ static void check_watchdog(const struct scene *counting)
     }
 }
 
+// Both timers' interrupts are accepted and served, each as often as its timer requests it before the last
+// step (programs.c).
+static void check_timer_interrupts(const struct scene *s)
+{
+    enum { EVERY = 200, SECOND_EVERY = 1010 };
+    static struct lent l;
+    lend(s, &l);
+    run(LIBRARY, s, STEPS, &l);
+    const uint8_t *n = l.buffer + 4 * COUNT_NUMBER;
+    uint32_t second = (uint32_t)n[0] << 24 | (uint32_t)n[1] << 16 | (uint32_t)n[2] << 8 | n[3];
+    if (l.cells[COUNT_CELL] - s->cells[COUNT_CELL] != (STEPS - 1) / EVERY ||
+        second != 6 * ((STEPS - 1) / SECOND_EVERY))
+        fail(s, STEPS, "not all of the timers' interrupts are accepted");
+}
+
 // Calls that are refused: the number, and a byte of the image that is changed. The first byte is 0 as it
 // is; then something else is changed.
 struct refused {
@@ -306,6 +321,8 @@ int main(int argc, char **argv)
     }
     check_watchdog(scenes[2 * TIMERS]);
     check_watchdog(scenes[2 * TIMERS + 1]);
+    check_timer_interrupts(scenes[2 * TIMER_INTERRUPTS]);
+    check_timer_interrupts(scenes[2 * TIMER_INTERRUPTS + 1]);
     for (size_t i = 0; i < sizeof refused / sizeof *refused; i++)
         check_refusal(scenes[0], &refused[i]);
 

@@ -389,7 +389,7 @@ static void write_count(struct code *c, uint32_t address)
 static void write_services(struct code *c)
 {
     c->at = SERVICE;
-    write_count(c, SYSTEM_DATA + 1);
+    write_count(c, COUNT_CELL);
     emit(c, half(LLI, 19, INT_PEND));
     emit(c, rri(LD, 20, 19, 0));
     emit(c, plain(RETI, 0));

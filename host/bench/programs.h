@@ -20,6 +20,10 @@ struct scene {
     size_t requests_len;
 };
 
+// Where the service routines of the timers' interrupts count: that of timer 0 in a cell, that of timer 1, by
+// 6 each time, in a number of the image, PR23.
+enum { COUNT_CELL = 0x101, COUNT_NUMBER = 34 + 23 };
+
 // Kinds of programs. Scene 2 * kind runs in super user mode, the next one in user mode.
 enum {
     ARITHMETIC, MEMORY, MEMORY_ONLY, INTERRUPTS, TIMERS, TIMER_INTERRUPTS, KINDS, SCENES = 2 * KINDS,

@@ -129,14 +129,18 @@ static void mark(uint8_t *image)
 
 /* Does the last step, which had this list of requests, again from an image with a mark. If it
    stores, it stores the same number in the same cell. */
-static void step_again(struct call *call, size_t len, uint8_t left[COFFEE_IMAGE_MAX])
+static bool step_again(const struct call_words *words, struct call *call, size_t len,
+                       uint8_t left[COFFEE_IMAGE_MAX])
 {
     const uint8_t *before = other_image(call);
     uint8_t marked[COFFEE_IMAGE_MAX];
+    uint32_t refusal;
 
     memcpy(marked, before, image_length(before));
     mark(marked);
-    library_call(call, marked, image_length(marked), call->requests.list, len, 1, left);
+    refusal = library_call(call, marked, image_length(marked), call->requests.list, len, 1, left)
+                  .refusal;
+    return refusal == 0 || complain_of_call(words, call, refusal);
 }
 
 /* Whether the step between two images may have entered an exception, as far as they tell: it leaves
@@ -164,8 +168,8 @@ bool call_counted_step(const struct call_words *words, struct call *call,
     if (done && call->ending == 0 && may_have_entered(other_image(call), call->image)) {
         uint8_t left[COFFEE_IMAGE_MAX];
 
-        step_again(call, len, left);
-        if (image_number(left, EXCEPTION_PSR) != NO_PSR)
+        done = step_again(words, call, len, left);
+        if (done && image_number(left, EXCEPTION_PSR) != NO_PSR)
             add_exception(exceptions, left);
     }
     clear_list(&call->requests, len);

@@ -19,14 +19,17 @@ static bool say_carried(const struct machine *machine)
 
 enum status carry_over_command(const struct arguments *arguments)
 {
-    const char *old = arguments->words[0], *path = arguments->words[1];
+    const char *path = arguments->words[0], *new = arguments->words[1];
     struct machine machine;
     enum status status;
+    struct locked old;
     struct save save;
 
-    if (!apart(old, path) || !begin_save(&save, path, arguments->target))
+    /* No run of the old machine comes in between: its lock is held until the program ends. */
+    if (!apart(path, new) || !lock_source(path, &old) ||
+        !begin_save_from(&save, &old, new, arguments->target))
         return FAILED;
-    status = finish_save(&save, read_earlier(old, &machine) &&
+    status = finish_save(&save, read_earlier(old.file, path, arguments->machine, &machine) &&
                                     fill_machine(&save, machine.file.at, &machine) &&
                                     say_carried(&machine));
     free_machine(&machine);

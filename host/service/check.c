@@ -8,6 +8,7 @@
 #include <inttypes.h>
 #include <stdarg.h>
 #include <stdio.h>
+#include <string.h>
 
 /* A section whose count is always the same. */
 struct fixed_section {
@@ -103,6 +104,19 @@ static bool read_stack(const struct bytes *file, size_t *at, struct fault *fault
     return true;
 }
 
+/* Reads the dividers. A file that has none may be a damaged one of the earlier layout. */
+static bool read_dividers(const struct bytes *file, size_t *at, struct fault *fault)
+{
+    size_t len;
+
+    if (read_fixed(file, &dividers, at, fault))
+        return true;
+    len = strlen(fault->text);
+    snprintf(fault->text + len, sizeof fault->text - len,
+             "; a file of the earlier layout takes 'service carry-over'");
+    return false;
+}
+
 /* Reads the data memory, which is the last section. */
 static bool read_cells(const struct bytes *file, struct sections *sections, struct fault *fault)
 {
@@ -131,7 +145,7 @@ bool find_sections(const struct bytes *file, enum layout layout, struct sections
 
     *sections = (struct sections){0, false, 0};
     if (!read_before_stack(file, &at, fault) || !read_stack(file, &at, fault) ||
-        (layout == PRESENT && !read_fixed(file, &dividers, &at, fault)))
+        (layout == PRESENT && !read_dividers(file, &at, fault)))
         return false;
     sections->image_len = at;
     sections->has_cells = file->len > at;

@@ -16,7 +16,8 @@ struct arguments {
     size_t count;
     enum target target; /* which files it may write */
     bool strict, words_too;
-    bool plain; /* MACHINE is a plain image */
+    bool plain;   /* MACHINE is a plain image */
+    bool machine; /* OLD is a machine */
 };
 
 enum status run_command(const struct arguments *arguments);

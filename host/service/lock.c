@@ -1,4 +1,4 @@
-/* The file that a save replaces: found, locked, and still the same. */
+/* The file that a save replaces, or that it is made from: found, locked, and still the same. */
 #include "lock.h"
 
 #include "report.h"
@@ -38,10 +38,12 @@ static bool in_place(const struct place *place, const struct locked *locked)
     return state_at(place, &now) == 1 && same_file(&now, &locked->state);
 }
 
-/* Opens the file at a place and locks it. */
-static bool open_locked(const char *path, const struct place *place, struct locked *locked)
+/* Opens the file at a place, to be written or only read, and locks it. */
+static bool open_locked(const char *path, const struct place *place, int access,
+                        struct locked *locked)
 {
-    locked->file = openat(place->folder, place->name, O_RDWR | O_NOFOLLOW | O_NONBLOCK | O_CLOEXEC);
+    locked->file =
+        openat(place->folder, place->name, access | O_NOFOLLOW | O_NONBLOCK | O_CLOEXEC);
     if (locked->file < 0)
         return complain_of_errno(path);
     if (lock(locked->file))
@@ -66,18 +68,19 @@ static int find_target(const char *path, const struct place *place, enum target 
     return fits ? there : -1;
 }
 
-bool lock_target(const char *path, const struct place *place, enum target target,
-                 struct locked *locked)
+/* Locks the file at a place, if there is one. */
+static bool lock_at(const char *path, const struct place *place, enum target target, int access,
+                    struct locked *locked)
 {
     int there;
 
-    locked->file = -1;
+    *locked = (struct locked){.path = path, .file = -1};
     if (on_network(place->folder))
         return complain(path, "on a network file system, where a lock cannot be trusted; "
                               "use a copy on a disk of this computer");
     /* A file that was replaced between its opening and its locking is not the one to lock. */
     while ((there = find_target(path, place, target)) == 1) {
-        if (!open_locked(path, place, locked))
+        if (!open_locked(path, place, access, locked))
             return false;
         if (in_place(place, locked))
             return true;
@@ -85,6 +88,21 @@ bool lock_target(const char *path, const struct place *place, enum target target
         locked->file = -1;
     }
     return there == 0;
+}
+
+bool lock_target(const char *path, const struct place *place, enum target target,
+                 struct locked *locked)
+{
+    return lock_at(path, place, target, O_RDWR, locked);
+}
+
+bool lock_source(const char *path, struct locked *locked)
+{
+    struct place place;
+    bool done = find_place(path, &place) && lock_at(path, &place, EXISTING, O_RDONLY, locked);
+
+    close_failed(place.folder);
+    return done;
 }
 
 bool unchanged(const struct place *place, const struct locked *locked)

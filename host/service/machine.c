@@ -45,7 +45,7 @@ static bool wanted(const char *path, bool plain, const struct bytes *file)
                complain(path, "has a data memory of its own; a plain image has none");
     if (present && earlier)
         return complain(path, "a plain image, which takes --plain, or a machine of 2 cells of the "
-                              "earlier layout, which takes 'service carry-over'");
+                              "earlier layout, which takes 'service carry-over --machine'");
     return !earlier || complain(path, "of the earlier layout; 'service carry-over' writes it in "
                                       "the present one");
 }
@@ -64,8 +64,7 @@ static bool split(const char *path, struct machine *machine)
                                                sections.cell_count)
                                   : make_cells(path, machine, 0);
     }
-    /* The library then refuses too many cells with 1, and the whole file, which is no image,
-       with 2. */
+    /* Too many cells are then refused with 1, and the whole file, which is no image, with 2. */
     machine->image_len = machine->file.len;
     return make_cells(path, machine, fault.question == 1 ? COFFEE_MEMORY_MAX + 1 : 0);
 }
@@ -137,7 +136,7 @@ bool accept_machine(const char *path, const struct machine *machine)
 static bool carry_over(const char *path, struct machine *machine)
 {
     uint8_t *image = malloc(COFFEE_IMAGE_MAX);
-    uint32_t refusal = 1;
+    uint32_t refusal = 1; /* too many cells; the call asks none */
 
     if (image == NULL)
         return complain_of_errno(path);
@@ -161,17 +160,29 @@ static bool split_earlier(const char *path, struct machine *machine)
     return split(path, machine) && carry_over(path, machine);
 }
 
-bool read_earlier(const char *path, struct machine *machine)
+/* Sees that a file is not of the present layout, unless it is said to be a machine and may be one
+   of 2 cells; and that what is said to be a machine has cells. */
+static bool wanted_earlier(const char *path, bool is_machine, const struct bytes *file)
 {
     struct sections sections;
     struct fault fault;
 
+    if (find_sections(file, PRESENT, &sections, &fault)) {
+        if (sections.has_cells)
+            return complain(path, "of the present layout already");
+        return is_machine ||
+               complain(path, "a plain image of the present layout, or a machine of 2 cells of the "
+                              "earlier one, which takes --machine");
+    }
+    return !is_machine || !find_sections(file, EARLIER, &sections, &fault) || sections.has_cells ||
+           complain(path, "has no data memory; a machine has one");
+}
+
+bool read_earlier(int file, const char *path, bool is_machine, struct machine *machine)
+{
     *machine = (struct machine){0};
-    if (!read_file(path, READ_MACHINE, &machine->file))
-        return false;
-    if (find_sections(&machine->file, PRESENT, &sections, &fault) && sections.has_cells)
-        return complain(path, "of the present layout already");
-    return split_earlier(path, machine);
+    return read_open(file, path, READ_MACHINE, &machine->file) &&
+           wanted_earlier(path, is_machine, &machine->file) && split_earlier(path, machine);
 }
 
 bool read_image(const char *path, struct machine *machine, bool *carried)

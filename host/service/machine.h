@@ -14,7 +14,8 @@
 enum { READ_MACHINE = COFFEE_IMAGE_MAX + 4 + 4 * COFFEE_MEMORY_MAX + 1 };
 
 struct machine {
-    struct bytes file;  /* as it was read; the image is its front */
+    struct bytes file;  /* as it was read, or the image that it was carried over to; the image is
+                           its front */
     enum layout layout; /* of that image */
     size_t image_len;   /* all of the file, where it has not the sections of a machine */
     bool has_cells;     /* false for a plain image */
@@ -30,8 +31,10 @@ bool read_machine(const char *path, bool plain, struct machine *machine);
 /* Reads the machine of an open file. */
 bool read_open_machine(int file, const char *path, bool plain, struct machine *machine);
 
-/* Reads a machine or a plain image of the earlier layout and carries it over. */
-bool read_earlier(const char *path, struct machine *machine);
+/* Reads a machine or a plain image of the earlier layout from an open file and carries it over.
+   One that may as well be a plain image of the present layout is taken just where `is_machine` says
+   that it is a machine. */
+bool read_earlier(int file, const char *path, bool is_machine, struct machine *machine);
 
 /* Reads a plain image of either layout, asks the library about it, and tells whether it was carried
    over. */

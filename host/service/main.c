@@ -32,7 +32,7 @@ static const struct command {
      3, 3, import_command},
     {"export", "[--replace] [--plain] ", "MACHINE IMAGE DATA",
      "writes a machine as a plain image and cells", 3, 3, 3, export_command},
-    {"carry-over", "[--replace] ", "OLD NEW",
+    {"carry-over", "[--replace] [--machine] ", "OLD NEW",
      "writes a machine or a plain image of the earlier layout in the present one", 2, 2, 2,
      carry_over_command},
 };
@@ -50,6 +50,7 @@ static enum status help(void)
          "-v         adds what happened, in words\n"
          "--strict   gives status 4 when a stop ended the run\n"
          "--plain    MACHINE is a plain image, without a data memory\n"
+         "--machine  OLD is a machine, with a data memory\n"
          "\n"
          "MACHINE    a machine file: an image, then the data memory\n"
          "OLD        a machine file or a plain image from before version 2.0.0\n"
@@ -80,6 +81,8 @@ static bool take_option(const struct command *command, const char *option,
         arguments->strict = true;
     else if (strcmp(option, "--plain") == 0)
         arguments->plain = true;
+    else if (strcmp(option, "--machine") == 0)
+        arguments->machine = true;
     else if (strcmp(option, "-v") == 0)
         arguments->words_too = true;
     else

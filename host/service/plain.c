@@ -31,7 +31,7 @@ static bool import_cells(const char *path, struct machine *machine)
 }
 
 /* Says that the image was of the earlier layout, if it was. */
-static bool say_carried(bool carried)
+static bool say_earlier(bool carried)
 {
     if (!carried)
         return true;
@@ -53,7 +53,7 @@ enum status import_command(const struct arguments *arguments)
     status = finish_save(&save, read_image(image, &machine, &carried) &&
                                     import_cells(data, &machine) &&
                                     fill_machine(&save, machine.file.at, &machine) &&
-                                    say_carried(carried));
+                                    say_earlier(carried));
     free_machine(&machine);
     return status;
 }

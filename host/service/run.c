@@ -129,7 +129,7 @@ static void print_exceptions(const struct run *run)
     }
     printf("%s%" PRIu64 " exception%s entered, %scode %02" PRIX32 "h at %08" PRIX32 "\n",
            all ? "" : "at least ", entered.count, entered.count == 1 ? "" : "s",
-           !all ? "the last that shows: " : entered.count > 1 ? "the last: " : "", entered.code,
+           !all ? "the last known: " : entered.count > 1 ? "the last: " : "", entered.code,
            entered.address);
 }
 

@@ -22,30 +22,39 @@ static bool cannot_save(const struct save *save)
                     len > 0 ? folder : "its folder", strerror(reason));
 }
 
-/* Makes the new file. */
-static bool make_new(struct save *save)
+/* Makes the new file, with owner, group and rights of the old one, or of the source, if there is
+   one. */
+static bool make_new(struct save *save, const struct locked *source)
 {
+    const struct locked *model = save->old.file >= 0 ? &save->old : source;
+
     remove_left_overs(save->place.folder);
-    save->new =
-        make_temporary(save->place.folder, save->old.file < 0 ? 0666 : 0600, save->temporary);
+    save->new = make_temporary(save->place.folder, model == NULL ? 0666 : 0600, save->temporary);
     if (save->new < 0) {
         save->temporary[0] = '\0';
         return cannot_save(save);
     }
-    if (save->old.file < 0 || copy_rights(save->old.file, &save->old.state, save->new))
+    if (model == NULL || copy_rights(model->file, &model->state, save->new))
         return true;
-    return complain(save->path, "its owner, group and rights cannot be kept: %s; nothing is changed",
+    return complain(model->path,
+                    "its owner, group and rights cannot be kept: %s; nothing is changed",
                     strerror(errno));
+}
+
+bool begin_save_from(struct save *save, const struct locked *source, const char *path,
+                     enum target target)
+{
+    *save = (struct save){.path = path, .old.file = -1, .new = -1};
+    if (find_place(path, &save->place) &&
+        lock_target(path, &save->place, target, &save->old) && make_new(save, source))
+        return true;
+    drop_save(save);
+    return false;
 }
 
 bool begin_save(struct save *save, const char *path, enum target target)
 {
-    *save = (struct save){.path = path, .old.file = -1, .new = -1};
-    if (find_place(path, &save->place) &&
-        lock_target(path, &save->place, target, &save->old) && make_new(save))
-        return true;
-    drop_save(save);
-    return false;
+    return begin_save_from(save, NULL, path, target);
 }
 
 /* Writes all bytes to an open file. */

@@ -20,6 +20,10 @@ struct save {
    group and rights. Complains when that cannot be, and then leaves nothing to do. */
 bool begin_save(struct save *save, const char *path, enum target target);
 
+/* The same; where no file is replaced, the new one gets owner, group and rights of the source. */
+bool begin_save_from(struct save *save, const struct locked *source, const char *path,
+                     enum target target);
+
 /* Writes the new file's bytes to the disk. */
 bool fill_save(struct save *save, const struct bytes *bytes);
 

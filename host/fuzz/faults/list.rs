@@ -533,6 +533,14 @@ pub const FAULTS: &[Fault] = &[
     fault("no clock at an exception", &[change("step",
         "Err(Fault::Exception(code)) => next.enter_exception(code),",
         "Err(Fault::Exception(code)) => { next.enter_exception(code); *self = next; return Ok(()) }")]),
+    fault("no clock where the condition is false", &[
+        change("step",
+            "                return Ok(());\n            }\n        }\n\n        self.execute",
+            "                return Err(Fault::Exception(u32::MAX));\n            }\n        }\n\n        self.execute"),
+        change("step",
+            "Err(Fault::Exception(code)) => next.enter_exception(code),",
+            "Err(Fault::Exception(u32::MAX)) => { *self = done; return Ok(()) }\n                Err(Fault::Exception(code)) => next.enter_exception(code),"),
+    ]),
     fault("clock before the instruction", &[
         change("step",
             "        next.control[offset::INT_PEND] |= requests;\n",

@@ -240,11 +240,8 @@ impl Coverage {
     ) {
         let wide = before.wide();
         let width = usize::from(wide);
-        if wide && word >> 25 & 1 == 1 && !never_conditional(operation) {
-            let number = word >> 19 & 7;
-            let register = before.conditions[(word >> 22 & 7) as usize];
-            let passed = words::condition(number, register);
-            self.conditional[number as usize][usize::from(passed)] += 1;
+        if let Some((number, passed)) = condition_of(word, before) {
+            self.conditional[number][usize::from(passed)] += 1;
             if !passed {
                 return;
             }
@@ -590,6 +587,17 @@ impl Default for Coverage {
     }
 }
 
+/// The condition of a word, if it has one, and whether it is true before its step.
+fn condition_of(word: u32, before: &Image) -> Option<(usize, bool)> {
+    let wide = before.wide();
+    if !wide || word >> 25 & 1 == 0 || never_conditional(words::operation(word, wide)) {
+        return None;
+    }
+    let number = word >> 19 & 7;
+    let register = before.conditions[(word >> 22 & 7) as usize];
+    Some((number as usize, words::condition(number, register)))
+}
+
 /// The sources that are pending, masked in and above all in service, while IE is 1.
 fn getting_through(image: &Image, requests: u32) -> u32 {
     if image.psr() & IE == 0 {
@@ -731,7 +739,12 @@ impl Tracer {
         } else if exception {
             Done::Exception
         } else {
-            Done::Instruction
+            match word_at(&self.step.program, before.pc(), before.wide()) {
+                Some(word) if matches!(condition_of(word, before), Some((_, false))) => {
+                    Done::Nothing
+                }
+                _ => Done::Instruction,
+            }
         };
         for ((offset, _), written) in MARKS.into_iter().zip(written) {
             // A timer that the step enables may have counted already.
@@ -758,7 +771,8 @@ mod tests {
     use super::*;
 
     /// A step, without its clock: each timer register stored to, an instruction that stores to
-    /// none of them, an exception and an interrupt. Both timers would tick.
+    /// none of them, one whose condition is false, an exception and an interrupt. Both timers
+    /// would tick.
     #[test]
     fn steps_without_their_clock() {
         let mut before = Image::new();
@@ -773,6 +787,9 @@ mod tests {
         let others = [
             (NOP, 0, Done::Instruction),
             (store(INT_MASK), 0, Done::Instruction),
+            // On condition c of C0, and on nc.
+            (store(TMR0_CNT) | 1 << 25, 0, Done::Nothing),
+            (store(INT_MASK) | 1 << 25 | 7 << 19, 0, Done::Instruction),
             (wide_registers(TRAP, 0, 0, 3), 0, Done::Exception),
             (NOP, 1 << 5, Done::Interrupt),
         ];

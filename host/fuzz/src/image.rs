@@ -71,12 +71,11 @@ pub const OLD_SHORTEST: usize = 516;
 pub const OLD_LONGEST: usize = 708;
 
 /// The sections of an image.
-#[derive(Clone, Copy, Debug, Default, PartialEq, Eq)]
+#[derive(Clone, Copy, Debug, PartialEq, Eq)]
 pub enum Layout {
     /// Those of 01.
     Old,
     /// Those, and "a last section of 2 dividers".
-    #[default]
     New,
 }
 
@@ -207,7 +206,7 @@ impl Image {
     pub fn timer(&self, number: usize) -> Timer {
         Timer {
             count: self.control[TMR0_CNT + 2 * number],
-            maximum: self.control[TMR0_CNT + 2 * number + 1],
+            maximum: self.control[TMR0_MAX_CNT + 2 * number],
             half: self.control[TMR_CONF] >> (16 * number) & 0xFFFF,
             divider: self.dividers[number],
         }
@@ -215,7 +214,7 @@ impl Image {
 
     pub fn set_timer(&mut self, number: usize, timer: Timer) {
         self.control[TMR0_CNT + 2 * number] = timer.count;
-        self.control[TMR0_CNT + 2 * number + 1] = timer.maximum;
+        self.control[TMR0_MAX_CNT + 2 * number] = timer.maximum;
         self.control[TMR_CONF] &= !(0xFFFF << (16 * number));
         self.control[TMR_CONF] |= timer.half << (16 * number);
         self.dividers[number] = timer.divider;

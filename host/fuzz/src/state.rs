@@ -139,7 +139,8 @@ impl Builder<'_> {
         }
     }
 
-    /// Both timers, of which one or none runs more often than both.
+    /// Both timers: in half of the images both are disabled, in a quarter one, besides those
+    /// that timer_half disables.
     fn timers(&mut self) {
         let running = self.random.pick(&[0, 0, 0, 0, 0b01, 0b10, 0b11, 0b11]);
         // Both at their maxima with the same clock.
@@ -317,7 +318,7 @@ impl Builder<'_> {
             }
             for register in TIMER_CONFIGURATIONS {
                 let mut both = timer_half(self.random) << 16 | timer_half(self.random);
-                // Watchdogs that bite at once.
+                // Watchdogs with DIV 0.
                 if self.random.one_in(4) {
                     both = (EN | WDOG) << 16 | EN | WDOG | both & (CONT << 16 | CONT);
                 }

@@ -8,6 +8,8 @@ use crate::met::{line, Unmet};
 #[derive(Clone, Copy, PartialEq, Eq)]
 pub enum Done {
     Instruction,
+    /// An instruction whose condition is false.
+    Nothing,
     /// A store to the timer register at this offset.
     TimerStore(usize),
     Interrupt,
@@ -15,7 +17,7 @@ pub enum Done {
 }
 
 /// What a timer meets at a clock, with its registers as the step's stores leave them.
-const CLOCKS: [&str; 25] = [
+const CLOCKS: [&str; 26] = [
     "EN 0 that zeroes the divider",
     "EN 0 with a divider at DIV or above",
     "divider counted",
@@ -24,6 +26,7 @@ const CLOCKS: [&str; 25] = [
     "tick with DIV 255",
     "tick at an accepted interrupt",
     "tick at an exception",
+    "tick where the condition is false",
     "tick at a store to its count",
     "tick at a store to its maximum",
     "tick at a store to TMR_CONF",
@@ -97,7 +100,8 @@ impl Timer {
         self.ticks() && self.has(CONT) && self.count == 0 && self.maximum == 0
     }
 
-    /// Whether its tick leaves the count equal to the maximum, which does not do nothing.
+    /// Whether its tick makes the count the maximum; a CONT 0 count that is there already does
+    /// nothing.
     fn reaches(self) -> bool {
         self.stays_at_0() || self.ticks() && self.count.wrapping_add(1) == self.maximum
     }
@@ -191,6 +195,7 @@ fn clock(number: usize, timer: Timer, done: Done, stored: &Image) -> [bool; CLOC
         ticks && timer.div() == 255,
         ticks && done == Done::Interrupt,
         ticks && done == Done::Exception,
+        ticks && done == Done::Nothing,
         stores(TMR0_CNT + 2 * number),
         stores(TMR0_MAX_CNT + 2 * number),
         stores(TMR_CONF),

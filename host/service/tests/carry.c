@@ -20,7 +20,7 @@
 #define EARLIER_LINE ": of the earlier layout; 'service carry-over' writes it in the present one"
 #define EITHER_LINE \
     ": a plain image, which takes --plain, or a machine of 2 cells of the earlier layout, which " \
-    "takes 'service carry-over'"
+    "takes 'service carry-over --machine'"
 
 /* The length of an image of the earlier layout with so many stack entries. */
 static size_t earlier_length(size_t entries)
@@ -42,16 +42,45 @@ static void with_dividers(const char *from, const char *to)
     write_bytes(to, all, len + sizeof dividers);
 }
 
-/* The file 'old' is carried over to 'new', and stays as it was. */
-static void carried(const char *name, const char *line)
+/* The file 'old' is carried over to 'new' by these words, and stays as it was. */
+static void carried_by(const char *name, const char *line, char *const *words)
 {
     with_dividers("old", "expected");
     copy("old", "same");
     unlink("new");
-    ACCEPTED(name, text("%s is carried over\n", line), "carry-over", "old", "new");
+    accepted_words(name, text("%s is carried over\n", line), words);
     same_bytes(text("%s: the new file", name), "expected", "new");
     same_bytes(text("%s: the old one", name), "same", "old");
     same_text(text("%s: no other file", name), "expected new old same", names_in("."));
+}
+
+static char *const carry[] = {"service", "carry-over", "old", "new", NULL};
+static char *const carry_machine[] = {"service", "carry-over", "--machine", "old", "new", NULL};
+
+/* A machine is carried over; --machine changes nothing. */
+static void carried(const char *name, const char *line)
+{
+    carried_by(name, line, carry);
+    carried_by(text("%s, --machine", name), line, carry_machine);
+}
+
+/* A plain image is carried over; it is no machine. */
+static void carried_plain(const char *name)
+{
+    carried_by(name, "a plain image", carry);
+    REFUSED(text("%s, --machine", name), "old: has no data memory; a machine has one", "carry-over",
+            "old", "x", "--machine");
+}
+
+/* What has the sections of a plain image of the present layout is a machine where --machine says
+   so. */
+static void carried_two(const char *name)
+{
+    REFUSED(name,
+            "old: a plain image of the present layout, or a machine of 2 cells of the earlier one, "
+            "which takes --machine",
+            "carry-over", "old", "x");
+    carried_by(text("%s, --machine", name), "a machine of 2 cells", carry_machine);
 }
 
 static void test_carried(void)
@@ -61,10 +90,10 @@ static void test_carried(void)
     stored("old", "earlier/stack.words");
     carried("a machine with two stack entries", "a machine of 5 cells");
     stored("old", "earlier/two.words");
-    carried("a machine of two cells", "a machine of 2 cells");
+    carried_two("a machine of two cells");
     ACCEPTED("its cells", "00000000  00000007 000000FF\n", "cells", "new");
     stored("old", "earlier/plain.words");
-    carried("a plain image", "a plain image");
+    carried_plain("a plain image");
     RUN("show", "--plain", "new");
     check("a plain image stays one", outcome.status == 0 && outcome.err[0] == '\0');
     /* Both go on alike: the older machine carried over and then run, and the later one. */
@@ -80,7 +109,7 @@ static void test_carried(void)
     section("carry-over: machines of every size");
     fresh();
     earlier_image("old");
-    carried("an image at reset", "a plain image");
+    carried_plain("an image at reset");
     earlier_machine("old", 0);
     carried("no cells", "a machine of 0 cells");
     earlier_machine("old", 1);
@@ -99,9 +128,9 @@ static void test_carried(void)
     set_word("old", INT_SERV, 0xFFF);
     for (unsigned i = 0; i < 12; i++)
         set_words("old", ENTRY + 4 * i, text("%X 1 9 0", i));
-    carried("twelve stack entries", "a plain image");
+    carried_plain("twelve stack entries");
     set_words("old", ENTRY + 4 * 12, "2 FFFFFFFF 1");
-    carried("twelve stack entries and two cells", "a machine of 2 cells");
+    carried_two("twelve stack entries and two cells");
     /* Registers of the timers are kept, and run on. */
     earlier_machine("old", 4);
     set_words("old", TMR0_CNT, "1 9 2 8 80048002");
@@ -112,15 +141,25 @@ static void test_carried(void)
               words_of("new", DIVIDER_COUNT, 3));
     same_text("timers: the counts", "00000002 00000009 00000002 00000008",
               words_of("new", TMR0_CNT, 4));
-
-    /* What the README says of a plain image that is not of the earlier layout. */
     fresh();
     plain_image("old");
     set_words("old", DIVIDER, "3 4");
-    carried("a plain image of the present layout", "a machine of 2 cells");
+    carried_two("a plain image of the present layout");
 }
 
-/* The new file comes as that of the command new does. */
+/* The file 'old' is carried over to a file that is not there, which has the same rights then,
+   whatever the umask. */
+static void rights_kept(mode_t rights, mode_t mask)
+{
+    chmod("old", rights);
+    unlink("new");
+    umask(mask);
+    ACCEPTED(text("rights %o under umask %o", rights, mask),
+             "a machine of 5 cells is carried over\n", "carry-over", "--replace", "old", "new");
+    umask(022);
+    same_number(text("rights %o under umask %o stay", rights, mask), rights, rights_of("new"));
+}
+
 static void test_new_file(void)
 {
     section("carry-over: the new file");
@@ -145,11 +184,11 @@ static void test_new_file(void)
     ACCEPTED("through a link, to a link to nothing", "a machine of 5 cells is carried over\n",
              "carry-over", "other", "link");
     same_bytes("the file that the link names is written", "expected", "folder/m");
-    umask(027);
-    ACCEPTED("under umask 027", "a machine of 5 cells is carried over\n", "carry-over", "--", "old",
-             "--m");
-    umask(022);
-    same_number("rights by the umask", 0640, rights_of("--m"));
+    ACCEPTED("a name like an option", "a machine of 5 cells is carried over\n", "carry-over", "--",
+             "old", "--machine");
+    same_number("rights of the old file", 0444, rights_of("--machine"));
+    rights_kept(0600, 0);
+    rights_kept(0664, 077);
     REFUSED("onto itself", "old: given twice in this command", "carry-over", "--replace", "old",
             "old");
     REFUSED("onto itself by a link", "other: given twice in this command", "carry-over",
@@ -209,6 +248,11 @@ static void test_others(void)
     /* A damaged one is refused so too; carry-over tells what is wrong. */
     set_word("many", PSR, 0x20);
     refused_by_all("many", EARLIER_LINE);
+    check("shorter", truncate("many", 9000) == 0);
+    REFUSED("run: one cut short",
+            "many: refused with 2: the count of the dividers is 00001000: it must be 00000002; a "
+            "file of the earlier layout takes 'service carry-over'",
+            "run", "program", "many", "3");
 
     section("a plain image, or two cells of the earlier layout");
     plain_image("image");
@@ -238,7 +282,8 @@ static void test_plain(void)
     plain_image("m");
     check("shorter", truncate("m", 527) == 0);
     REFUSED("a plain image cut short", "m: refused with 2: the file ends after 527 bytes, in the "
-                                       "dividers",
+                                       "dividers; a file of the earlier layout takes 'service "
+                                       "carry-over'",
             "run", "program", "--plain", "m", "3");
     plain_image("m");
     check("longer", truncate("m", 529) == 0);
@@ -297,6 +342,8 @@ static void carry_refused(const char *line)
 {
     REFUSED(text("carry-over: %s", line), text("old: refused with %s", line), "carry-over", "old",
             "new");
+    REFUSED(text("carry-over --machine: %s", line), text("old: refused with %s", line),
+            "carry-over", "--machine", "old", "new");
 }
 
 /* A machine of the earlier layout with one word changed is refused with this line. */
@@ -376,6 +423,8 @@ static void test_damaged(void)
         machine("old", cells);
         REFUSED(text("carry-over: the present layout, %u cells", cells),
                 "old: of the present layout already", "carry-over", "old", "new");
+        REFUSED(text("carry-over --machine: the present layout, %u cells", cells),
+                "old: of the present layout already", "carry-over", "old", "new", "--machine");
     }
 
     section("carry-over: other refusals (from a stand-in for the library)");

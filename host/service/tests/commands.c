@@ -394,7 +394,7 @@ static void test_in_words(void)
     set_word("m", EXCEP_ADDR, 4);
     ACCEPTED("a long run",
              "1000001 0 00000004\nall steps done, next at 00000004; at least 1 exception entered, "
-             "the last that shows: code E1h at 00000000\n",
+             "the last known: code E1h at 00000000\n",
              "run", "-v", "program", "m", "1000001");
     /* The last two steps are not watched: an interrupt is accepted, and its vector is misaligned. */
     write_words("program", "91FFFFFE 00000000");
@@ -403,7 +403,7 @@ static void test_in_words(void)
     write_text("requests", "1000001: 10\n");
     ACCEPTED("a long run with an exception that shows",
              "1000002 0 00000000\nall steps done, next at 00000000; at least 1 exception entered, "
-             "the last that shows: code 05h at 00000001\n",
+             "the last known: code 05h at 00000001\n",
              "run", "-v", "program", "m", "1000002", "requests");
 }
 
@@ -660,7 +660,7 @@ static void test_watched(void)
     set_word("m", EXCEP_ADDR, 4);
     in_words("a long run, an exception, then a reset", "DC000001 91FFFFFE 00000000", "1000001",
              "1000001 0 00000000",
-             "at least 1 exception entered, the last that shows: code E1h at 00000000");
+             "at least 1 exception entered, the last known: code E1h at 00000000");
     timed("m", EN | WDOG, 1000001);
     set_words("m", EXCEPTION_CS, "E3 8 E");
     in_words("a long run, then a reset", "91FFFFFE 00000000", "1000001", "1000001 0 00000000",
@@ -720,7 +720,7 @@ static void test_help(void)
     RUN("carry-over", "--help");
     check("carry-over --help",
           outcome.status == 0 &&
-              strstr(outcome.out, "service carry-over [--replace] OLD NEW\n") != NULL);
+              strstr(outcome.out, "service carry-over [--replace] [--machine] OLD NEW\n") != NULL);
     ACCEPTED("--version", "service 2.0.0\n", "--version");
 }
 

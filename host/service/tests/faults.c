@@ -237,10 +237,10 @@ struct coffee_answer __wrap_coffee_run(const uint8_t *program, size_t program_by
                                        size_t buffer_bytes)
 {
     struct coffee_answer refused = {fault_setting.refusal, 0, 0};
+    bool wrong = goes_wrong("coffee_run");
 
-    if (in_child && refused.refusal != 0)
+    if (in_child && refused.refusal != 0 && (wrong || fault_setting.kind == NONE))
         return refused;
-    goes_wrong("coffee_run");
     return __real_coffee_run(program, program_bytes, cells, cell_count, image, image_bytes,
                              requests, request_count, limit, buffer, buffer_bytes);
 }

@@ -67,6 +67,10 @@ static const char *found(void)
 #define RUN_M "run", "kept/program", "files/m", "3"
 #define LIST "list", "kept/program", "32"
 
+static char *const run_m[] = {"service", RUN_M, NULL};
+static char *const carry[] = {"service", CARRY, NULL};
+static char *const carry_m[] = {"service", CARRY_M, NULL};
+
 /* A save fails with this reason, and nothing is changed. */
 static void cannot_save(const char *name, const char *reason)
 {
@@ -217,12 +221,12 @@ static void test_full(void)
     check("unmount", umount("files") == 0);
 }
 
-/* Owner, group and rights of the machine. */
-static const char *owner(void)
+/* Owner, group and rights of a file. */
+static const char *owner(const char *path)
 {
     struct stat state;
 
-    if (stat("files/m", &state) != 0)
+    if (stat(path, &state) != 0)
         return "none";
     return text("%u %u %o", state.st_uid, state.st_gid, state.st_mode & 07777);
 }
@@ -235,9 +239,19 @@ static void own(uid_t user, gid_t group, mode_t rights)
           chown("files/m", user, group) == 0 && chmod("files/m", rights) == 0);
 }
 
-#define NOT_KEPT \
-    "files/m: its owner, group and rights cannot be kept: Operation not permitted; " \
-    "nothing is changed"
+/* The same of the machine of the earlier layout. */
+static void own_earlier(uid_t user, gid_t group, mode_t rights)
+{
+    before_and_after();
+    check("owner and rights of the earlier one", chown("kept/earlier", user, group) == 0 &&
+                                                     chmod("kept/earlier", rights) == 0);
+}
+
+#define NOT_KEPT_LINE \
+    ": its owner, group and rights cannot be kept: Operation not permitted; nothing is changed"
+#define NOT_KEPT "files/m" NOT_KEPT_LINE
+
+#define ACCESS_LIST "system.posix_acl_access"
 
 static void test_rights(void)
 {
@@ -252,20 +266,20 @@ static void test_rights(void)
     before_and_after();
     chmod("files/m", 0624);
     ACCEPTED("rights", "3 0 00000000\n", RUN_M);
-    check("rights stay", strstr(owner(), " 624") != NULL);
+    check("rights stay", strstr(owner("files/m"), " 624") != NULL);
     if (getuid() != 0) {
         skip("other owners: not run as root");
         return;
     }
     own(OWNER, SHARED, 02660);
     ACCEPTED("root runs a user's machine", "3 0 00000000\n", RUN_M);
-    same_text("it stays the user's", "60001 60010 2660", owner());
+    same_text("it stays the user's", "60001 60010 2660", owner("files/m"));
 
     own(OWNER, SHARED, 0660);
     setting.user = OWNER;
     setting.more = SHARED;
     ACCEPTED("the owner, of the group", "3 0 00000000\n", RUN_M);
-    same_text("it stays shared by the group", "60001 60010 660", owner());
+    same_text("it stays shared by the group", "60001 60010 660", owner("files/m"));
     setting.user = OTHER;
     setting.more = SHARED;
     REFUSED("another of the group", NOT_KEPT, RUN_M);
@@ -294,7 +308,7 @@ static void test_rights(void)
     chmod("files", 0777);
     setting.user = OWNER;
     ACCEPTED("a folder of another that may be written", "3 0 00000000\n", RUN_M);
-    same_text("owner and rights there", "60001 60001 644", owner());
+    same_text("owner and rights there", "60001 60001 644", owner("files/m"));
     own(OWNER, OWNER, 0444);
     setting.user = OWNER;
     REFUSED("a machine that may not be written", "files/m: Permission denied", RUN_M);
@@ -310,13 +324,31 @@ static void test_rights(void)
     chmod("kept/earlier", 0600);
     setting.user = OWNER;
     REFUSED("carry-over of what may not be read", "kept/earlier: Permission denied", CARRY);
-    chmod("kept/earlier", 0444);
+    own_earlier(OWNER, OWNER, 0444);
     chmod("kept", 0555);
     setting.user = OWNER;
     ACCEPTED("carry-over of what may not be written", CARRIED, CARRY);
     same_bytes("carry-over of what may not be written: the file", "kept/carried", "files/n");
     same_bytes("carry-over of what may not be written: the old one", "kept/same", "kept/earlier");
+    same_text("carry-over of what may not be written: its rights", "60001 60001 444",
+              owner("files/n"));
     unlink("files/n");
+    setting.user = OTHER;
+    REFUSED("carry-over of a machine of another", "kept/earlier" NOT_KEPT_LINE, CARRY);
+    own_earlier(OWNER, SHARED, 02660);
+    setting.user = OTHER;
+    setting.group = SHARED;
+    REFUSED("carry-over of a machine that a group shares", "kept/earlier" NOT_KEPT_LINE, CARRY);
+    setting.user = OWNER;
+    REFUSED("carry-over by the owner, no longer of the group", "kept/earlier" NOT_KEPT_LINE, CARRY);
+    setting.user = OWNER;
+    setting.more = SHARED;
+    ACCEPTED("carry-over by the owner, of the group", CARRIED, CARRY);
+    same_text("what is carried over stays shared", "60001 60010 2660", owner("files/n"));
+    unlink("files/n");
+    ACCEPTED("root carries a user's machine over", CARRIED, CARRY);
+    same_text("what root carries over stays the user's", "60001 60010 2660", owner("files/n"));
+    before_and_after();
     setting.user = OWNER;
     REFUSED("carry-over to a machine of another", "files/m: Permission denied", CARRY_M);
     chmod("files/m", 0666);
@@ -327,45 +359,65 @@ static void test_rights(void)
     cannot_carry("carry-over to a folder that may not be written", "Permission denied");
     own(OWNER, SHARED, 0640);
     ACCEPTED("root carries over to a user's machine", CARRIED, CARRY_M);
-    same_text("that stays the user's", "60001 60010 640", owner());
+    same_text("that stays the user's", "60001 60010 640", owner("files/m"));
+    chmod("files/m", 0666);
+    chown("files/m", OTHER, OTHER);
+    setting.user = OTHER;
+    ACCEPTED("carry-over of a machine of another to one's own", CARRIED, CARRY_M);
+    same_text("that stays one's own", "60002 60002 666", owner("files/m"));
 
     before_and_after();
-    if (setxattr("files/m", "system.posix_acl_access", list, sizeof list, 0) != 0) {
+    if (setxattr("files/m", ACCESS_LIST, list, sizeof list, 0) != 0) {
         skip("access lists: none on this file system");
         return;
     }
     ACCEPTED("an access list", "3 0 00000000\n", RUN_M);
-    check("the access list stays", getxattr("files/m", "system.posix_acl_access", left,
-                                            sizeof left) == (ssize_t)sizeof list &&
-                                       memcmp(left, list, sizeof list) == 0);
+    check("the access list stays",
+          getxattr("files/m", ACCESS_LIST, left, sizeof left) == (ssize_t)sizeof list &&
+              memcmp(left, list, sizeof list) == 0);
+    check("an access list of the earlier one",
+          setxattr("kept/earlier", ACCESS_LIST, list, sizeof list, 0) == 0);
+    memset(left, 0, sizeof left);
+    ACCEPTED("carry-over with an access list", CARRIED, CARRY);
+    check("the access list is carried over",
+          getxattr("files/n", ACCESS_LIST, left, sizeof left) == (ssize_t)sizeof list &&
+              memcmp(left, list, sizeof list) == 0);
     before_and_after();
     check("a list that the folder gives",
           setxattr("files", "system.posix_acl_default", list, sizeof list, 0) == 0);
     ACCEPTED("a folder with an access list", "3 0 00000000\n", RUN_M);
     check("the machine gets none",
-          getxattr("files/m", "system.posix_acl_access", left, sizeof left) < 0 &&
-              errno == ENODATA);
+          getxattr("files/m", ACCESS_LIST, left, sizeof left) < 0 && errno == ENODATA);
 }
 
-static void test_order_of_calls(void)
+/* The calls of a command. */
+static const char *calls_of(char *const *words)
 {
+    static char calls[4096];
     int log[2];
-    char calls[4096];
     ssize_t len;
 
-    section("the order of a save");
     before_and_after();
     check("a pipe", pipe(log) == 0);
     fault_setting.log = log[1];
-    RUN(RUN_M);
+    run_words(words);
     close(log[1]);
     len = read(log[0], calls, sizeof calls - 1);
     calls[len < 0 ? 0 : len] = '\0';
     close(log[0]);
-    same_text("the calls of a save",
-              "flock m\nflock TEMPORARY\nwrite TEMPORARY\nwrite TEMPORARY\nfsync TEMPORARY\n"
-              "rename TEMPORARY\nfsync files\n",
-              calls);
+    return calls;
+}
+
+static void test_order_of_calls(void)
+{
+#define NEW_CALLS \
+    "flock TEMPORARY\nwrite TEMPORARY\nwrite TEMPORARY\nfsync TEMPORARY\nrename TEMPORARY\n" \
+    "fsync files\n"
+    section("the order of a save");
+    same_text("the calls of a save", "flock m\n" NEW_CALLS, calls_of(run_m));
+    same_text("the calls of carry-over", "flock earlier\n" NEW_CALLS, calls_of(carry));
+    same_text("the calls of carry-over --replace", "flock earlier\nflock m\n" NEW_CALLS,
+              calls_of(carry_m));
 }
 
 /* A command with a fault at each of its calls in turn, the files made anew each time. The machine
@@ -463,22 +515,19 @@ static void not_flushed(const char *name, const char *path, char *const *words)
 
 static void test_faults(void)
 {
-    char *const run[] = {"service", RUN_M, NULL};
-    char *const carry[] = {"service", CARRY_M, NULL};
-
     section("each call of the system fails, or the program is killed there");
-    every("run, a call fails", FAIL, before_and_after, run);
-    every("run, all calls fail from one on", DEAD, before_and_after, run);
-    every("run, killed", CUT, before_and_after, run);
-    every("carry-over --replace, a call fails", FAIL, before_carry, carry);
-    every("carry-over --replace, all calls fail from one on", DEAD, before_carry, carry);
-    every("carry-over --replace, killed", CUT, before_carry, carry);
+    every("run, a call fails", FAIL, before_and_after, run_m);
+    every("run, all calls fail from one on", DEAD, before_and_after, run_m);
+    every("run, killed", CUT, before_and_after, run_m);
+    every("carry-over --replace, a call fails", FAIL, before_carry, carry_m);
+    every("carry-over --replace, all calls fail from one on", DEAD, before_carry, carry_m);
+    every("carry-over --replace, killed", CUT, before_carry, carry_m);
     every_new("carry-over, a call fails", FAIL);
     every_new("carry-over, all calls fail from one on", DEAD);
     every_new("carry-over, killed", CUT);
-    not_flushed("carry-over", "files/n", (char *[]){"service", CARRY, NULL});
+    not_flushed("carry-over", "files/n", carry);
     same_bytes("carry-over: status 3: the file", "kept/carried", "files/n");
-    not_flushed("run", "files/m", run);
+    not_flushed("run", "files/m", run_m);
     same_text("run: status 3: the machine", "new", found());
     before_and_after();
     fault_setting.kind = FAIL;
@@ -508,16 +557,16 @@ static int hold(const char *path)
     return file;
 }
 
-/* A run that waits at a call; it has to be killed. */
-static pid_t waiting_at(const char *call, unsigned at)
+/* A command that waits at a call; it has to be killed. */
+static pid_t waiting_at(const char *call, unsigned at, char *const *words)
 {
     pid_t child;
 
     fault_setting = (struct fault_setting){.kind = WAIT, .call = call, .at = at};
-    child = start((char *[]){"service", RUN_M, NULL});
+    child = start(words);
     await_fault();
     no_fault();
-    check("the run waits", fault_came());
+    check("the command waits", fault_came());
     return child;
 }
 
@@ -528,7 +577,7 @@ static void beside(const char *name, const char *call, unsigned at, const char *
     pid_t child;
 
     before_and_after();
-    child = waiting_at(call, at);
+    child = waiting_at(call, at, run_m);
     REFUSED(text("%s: a second run", name), "files/m: another run is using it", RUN_M);
     REFUSED(text("%s: new --replace", name), "files/m: another run is using it", "new",
             "--replace", "files/m");
@@ -543,10 +592,38 @@ static void beside(const char *name, const char *call, unsigned at, const char *
     same_text(text("%s: the machine", name), then, found());
 }
 
-/* Of two carry-overs to one new file at once, one writes it and the other is refused. */
+/* While a machine is carried over, nothing else can use it; when that is killed, it can. */
+static void beside_carry(void)
+{
+    pid_t child;
+    int file;
+
+    before_and_after();
+    child = waiting_at("write", 1, carry);
+    REFUSED("carry-over: a second one", "kept/earlier: another run is using it", "carry-over",
+            "kept/earlier", "files/other");
+    REFUSED("carry-over: new --replace", "kept/earlier: another run is using it", "new",
+            "--replace", "kept/earlier");
+    kill(child, SIGKILL);
+    check("killed", wait_for(child) == KILLED);
+    file = hold("kept/earlier");
+    REFUSED("carry-over of a machine in use", "kept/earlier: another run is using it", CARRY);
+    REFUSED("carry-over --replace of a machine in use", "kept/earlier: another run is using it",
+            CARRY_M);
+    close(file);
+    ACCEPTED("carry-over of a machine no longer in use", CARRIED, CARRY);
+    same_bytes("carry-over of a machine no longer in use: the file", "kept/carried", "files/n");
+    same_text("carry-over: no other file", "m n", names_in("files"));
+    unlink("files/n");
+    fault_setting = (struct fault_setting){.kind = FAIL, .call = "flock", .at = 1, .error = ENOLCK};
+    REFUSED("carry-over: no locks", "kept/earlier: cannot be locked: No locks available", CARRY);
+}
+
+/* Of two carry-overs to one new file at once, of one old file or of two, one writes it and the
+   other is refused. */
 static void carry_pairs(void)
 {
-    char *const words[] = {"service", CARRY, NULL};
+    char *const other_old[] = {"service", "carry-over", "kept/same", "files/n", NULL};
 
     before_and_after();
     for (int i = 0; i < 100; i++) {
@@ -555,8 +632,8 @@ static void carry_pairs(void)
 
         unlink("files/n");
         setting.quick = true;
-        first = start(words);
-        second = start(words);
+        first = start(carry);
+        second = start(i % 2 == 0 ? carry : other_old);
         one = wait_for(first);
         other = wait_for(second);
         if (one + other != 1 || !same_files("files/n", "kept/carried") ||
@@ -583,10 +660,7 @@ static void test_locks(void)
     file = hold("files/m");
     REFUSED("carry-over to a machine in use", "files/m: another run is using it", CARRY_M);
     close(file);
-    file = hold("kept/earlier");
-    ACCEPTED("carry-over of a machine in use", CARRIED, CARRY);
-    close(file);
-    same_bytes("carry-over of a machine in use: the file", "kept/carried", "files/n");
+    beside_carry();
     beside("before the steps", "coffee_run", 1, "old");
     beside("before the save", "write", 1, "old");
     beside("in the save", "write", 2, "old");
@@ -606,11 +680,10 @@ static void test_locks(void)
             "disk of this computer",
             "new", "files/n");
     fault_setting.file_system = 0xFE534D42;
-    unlink("files/n");
     REFUSED("SMB: carry-over",
-            "files/n: on a network file system, where a lock cannot be trusted; use a copy on a "
-            "disk of this computer",
-            "carry-over", "kept/old", "files/n");
+            "kept/earlier: on a network file system, where a lock cannot be trusted; use a copy on "
+            "a disk of this computer",
+            CARRY);
     carry_pairs();
 }
 
@@ -635,6 +708,11 @@ static void replace_machine(void)
 {
     copy("kept/new", "files/next");
     rename("files/next", "files/m");
+}
+
+static void replace_earlier(void)
+{
+    rename("kept/same", "kept/earlier");
 }
 
 /* Another program changes the machine while a run is under way; the run is not saved. */
@@ -682,7 +760,7 @@ static void test_others(void)
     for (int moved = 0; moved < 2; moved++) {
         before_and_after();
         machine("kept/other", 9);
-        child = waiting_at("rename", 1);
+        child = waiting_at("rename", 1, run_m);
         kill(child, SIGKILL);
         wait_for(child);
         check("a cut leaves the temporary file", strcmp(names_in("files"), "m") != 0);
@@ -703,6 +781,14 @@ static void test_others(void)
     fault_setting.hook = replace_machine;
     ACCEPTED("replaced before the lock", "0 0 00000000\n", "run", "kept/program", "files/m", "0");
     same_text("replaced before the lock: the machine", "new", found());
+    before_and_after();
+    set_word("kept/earlier", EARLIER_CELLS + 1, 8);
+    fault_setting.kind = HOOK;
+    fault_setting.call = "flock";
+    fault_setting.at = 1;
+    fault_setting.hook = replace_earlier;
+    ACCEPTED("replaced before the lock: carry-over", CARRIED, CARRY);
+    same_bytes("replaced before the lock: the one carried over", "kept/carried", "files/n");
     /* A file comes by the name of a new machine. */
     before_and_after();
     fault_setting.kind = HOOK;

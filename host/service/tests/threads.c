@@ -2,13 +2,14 @@
    of its own, get what one thread gets.  threads CALLS */
 #include <coffee.h>
 #include <pthread.h>
+#include <stdbool.h>
 #include <stdio.h>
 #include <stdlib.h>
 #include <string.h>
 
 enum { THREADS = 8, PROGRAM = 32, CELLS = 64, STEPS = 1000 };
 
-/* A machine, the answers of its calls added up, its program's lines, and an image carried over. */
+/* A machine, the answers of its calls added up, its program's lines, and its image carried over. */
 struct job {
     pthread_t thread;
     long calls;
@@ -16,6 +17,7 @@ struct job {
     uint8_t carried[COFFEE_IMAGE_MAX];
     uint32_t cells[CELLS], requests[STEPS];
     uint64_t steps;
+    long not_carried;
 };
 
 /* A loop that stores and loads, multiplies and is interrupted; the number is different in each. */
@@ -34,23 +36,36 @@ static void prepare(struct job *job, long calls, uint8_t number)
     coffee_reset(job->images[0], COFFEE_IMAGE_MAX);
 }
 
+/* The bytes of the entries of an image's stack. */
+static size_t stack_bytes(const uint8_t *image)
+{
+    return (size_t)COFFEE_IMAGE_ENTRY * image[COFFEE_IMAGE_ENTRIES + 3];
+}
+
+/* Carries over what an image has in the earlier layout; whether that gives the image, whose
+   dividers are 0. */
+static bool carries_over(struct job *job, const uint8_t *image)
+{
+    return coffee_carry_over(image, COFFEE_EARLIER_IMAGE_MIN + stack_bytes(image), job->carried,
+                             COFFEE_IMAGE_MAX) == 0 &&
+           memcmp(job->carried, image, COFFEE_IMAGE_MIN + stack_bytes(image)) == 0;
+}
+
 static void *work(void *argument)
 {
     struct job *job = argument;
 
     for (long i = 0; i < job->calls; i++) {
-        const uint8_t *image = job->images[i % 2];
-        size_t entries = image[COFFEE_IMAGE_ENTRIES + 3];
+        uint8_t *image = job->images[i % 2], *left = job->images[(i + 1) % 2];
         struct coffee_answer answer =
             coffee_run(job->program, sizeof job->program, job->cells, CELLS, image,
-                       COFFEE_IMAGE_MIN + COFFEE_IMAGE_ENTRY * entries, job->requests, STEPS,
-                       STEPS, job->images[(i + 1) % 2], COFFEE_IMAGE_MAX);
+                       COFFEE_IMAGE_MIN + stack_bytes(image), job->requests, STEPS, STEPS, left,
+                       COFFEE_IMAGE_MAX);
 
         job->steps += answer.steps;
         coffee_listing(job->program, PROGRAM, 1, job->lines, sizeof job->lines);
-        coffee_reset(job->images[i % 2], COFFEE_IMAGE_MAX);
-        coffee_carry_over(job->images[i % 2], COFFEE_EARLIER_IMAGE_MIN, job->carried,
-                          COFFEE_IMAGE_MAX);
+        coffee_reset(image, COFFEE_IMAGE_MAX);
+        job->not_carried += !carries_over(job, left);
     }
     return NULL;
 }
@@ -73,7 +88,7 @@ int main(int count, char **words)
         pthread_join(together[i].thread, NULL);
         together[i].thread = alone[i].thread;
         if (memcmp(&alone[i], &together[i], sizeof alone[i]) != 0 ||
-            alone[i].steps != (uint64_t)calls * STEPS) {
+            alone[i].steps != (uint64_t)calls * STEPS || alone[i].not_carried != 0) {
             printf("thread %d differs\n", i);
             return 1;
         }

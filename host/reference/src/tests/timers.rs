@@ -87,7 +87,7 @@ fn every_completed_step_is_a_clock() {
         let words = [
             NOP,
             lli(1, 1),
-            when(0, 0, lli(2, 1)),
+            when(0, 0, rrr(1, 2, 1, 1)),
             jump(36, 4),
             NOP,
             NOP,
@@ -99,6 +99,7 @@ fn every_completed_step_is_a_clock() {
             assert_eq!(bench.count(timer), 5 + clocks);
         }
         assert_eq!(bench.exception_code(), 227);
+        assert_eq!(bench.machine.set2[1..3], [1, 0]);
         let mut bench = ready(&[NOP; 80]).timer(timer, on);
         bench.requests = vec![1];
         bench.steps(1);
