@@ -12,10 +12,10 @@ use Rattle.word.specs.Word.{fieldOf}
 use Rattle.word.specs.Flags.{withFlag}
 use Rattle.word.proofs.Tests.{if-holds}
 use Rattle.machine.specs.Machine.{Machine, withControl, withDividers}
-use Rattle.machine.specs.Control.{controlAt, withPending, INT-PEND, TMR0-CNT, TMR0-MAX-CNT}
+use Rattle.machine.specs.Control.{controlAt, withPending, reset, INT-PEND, TMR0-CNT, TMR0-MAX-CNT}
 use Rattle.machine.specs.Words.{SOURCES}
 use Rattle.timer.specs.Timer.{enabled, continuous, interrupts, watchdog, sourceOf, divisor, nextCount, reaches, timerOf, tickedTo, clockTimer}
-use Rattle.timer.specs.Clock.{configurationOf, withTimer, Counted, counted, notified, Clocked, goesOn, wasReset, clockOne, clock}
+use Rattle.timer.specs.Clock.{configurationOf, withTimer, Counted, counted, leaving, notified, Clocked, clockOne, clock}
 use Rattle.timer.specs.declared.Timer.{Timer}
 use Rattle.timer.specs.declared.Ticked.{Ticked}
 
@@ -98,17 +98,17 @@ unfolding counted withTimer withControl
 counted-stored m n last k c e f g h i j = rw (j, i, h, e, f, g)
 
 module _ (c : ℕ) (m : Machine) where
-  pub notified-reset : watchdog c ≡ true → wasReset ≡ notified c m
-  unfolding notified if_then_else_
+  pub notified-reset : watchdog c ≡ true → leaving m true ≡ notified c m
+  unfolding notified leaving if_then_else_
   notified-reset e = rw e
 
   module _ (w : watchdog c ≡ false) where
-    pub notified-request : interrupts c ≡ true → goesOn (withPending (withFlag (sourceOf c) (controlAt m INT-PEND)) m) ≡ notified c m
-    unfolding notified if_then_else_
+    pub notified-request : interrupts c ≡ true → leaving (withPending (withFlag (sourceOf c) (controlAt m INT-PEND)) m) false ≡ notified c m
+    unfolding notified leaving if_then_else_
     notified-request e = rw (w, e)
 
-    pub notified-nothing : interrupts c ≡ false → goesOn m ≡ notified c m
-    unfolding notified if_then_else_
+    pub notified-nothing : interrupts c ≡ false → leaving m false ≡ notified c m
+    unfolding notified leaving if_then_else_
     notified-nothing e = rw (w, e)
 
 module _ (k c : ℕ) (m n : Machine) (e : c ≡ configurationOf k m) where
@@ -116,15 +116,15 @@ module _ (k c : ℕ) (m n : Machine) (e : c ≡ configurationOf k m) where
   unfolding clockOne if_then_else_
   one-reached h = rw (← e, ← h)
 
-  pub one-goes-on : record { machine = n; reached = false } ≡ counted k c m → goesOn n ≡ clockOne k m
-  unfolding clockOne if_then_else_
+  pub one-goes-on : record { machine = n; reached = false } ≡ counted k c m → leaving n false ≡ clockOne k m
+  unfolding clockOne leaving if_then_else_
   one-goes-on h = rw (← e, ← h)
 
 module _ (m n : Machine) where
-  pub clock-reset : record { machine = n; resets = true } ≡ clockOne 0 m → n ≡ clock m .machine
-  unfolding clock if_then_else_
+  pub clock-reset : leaving n true ≡ clockOne 0 m → reset ≡ clock m .machine
+  unfolding clock leaving if_then_else_
   clock-reset h = rw (← h)
 
-  pub clock-both : goesOn n ≡ clockOne 0 m → {r : Clocked} → r ≡ clockOne 1 n → r .machine ≡ clock m .machine
-  unfolding clock if_then_else_
+  pub clock-both : leaving n false ≡ clockOne 0 m → {r : Clocked} → r ≡ clockOne 1 n → r .machine ≡ clock m .machine
+  unfolding clock leaving if_then_else_
   clock-both h e = rw (← h, ← e)

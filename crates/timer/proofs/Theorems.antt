@@ -21,7 +21,7 @@ use Rattle.machine.specs.Control.{controlAt, withPending, reset, INT-PEND, TMR0
 use Rattle.machine.specs.Words.{SOURCES, TIMERS}
 use Rattle.machine.proofs.Lists.{at-set-other, pair-set}
 use Rattle.timer.specs.Timer.{enabled, continuous, interrupts, watchdog, sourceOf, divisor, nextCount, timerOf, tickedTo, clockTimer}
-use Rattle.timer.specs.Clock.{configurationOf, timerIn, withTimer, counted, notified, Clocked, goesOn, wasReset, clockOne, clock}
+use Rattle.timer.specs.Clock.{configurationOf, timerIn, withTimer, counted, leaving, notified, Clocked, goesOn, wasReset, clockOne, clock}
 use Rattle.timer.specs.Theorems.{Disabled, MaximumKept, clocksOf, Divided, FirstTick, Tick, Ticks, IdleClock, ResetClock, CLOCKED, ClockKept, ClockKeeps}
 use Rattle.timer.specs.declared.Timer.{Timer}
 use Rattle.timer.specs.declared.Ticked.{Ticked}
@@ -142,7 +142,8 @@ one-kept k m h =
     (λ _ e. timer-kept k (t .timer) m h)
 
 -- the stack stays
-pub one-deep : (m n : Machine) → goesOn n ≡ clockOne 0 m → length (m .stack) ≤ SOURCES → length (n .stack) ≤ SOURCES
+pub one-deep : (m n : Machine) → leaving n false ≡ clockOne 0 m → length (m .stack) ≤ SOURCES → length (n .stack) ≤ SOURCES
+unfolding leaving if_then_else_
 one-deep m n e h =
     let stack : n .stack ≡ m .stack =
     ap (λ (x : Clocked). x .machine .stack) e ∙ one-kept 0 m (lit< tt) (sym (ap (λ (x : Clocked). x .resets) e)) .stack

@@ -49,6 +49,10 @@ goesOn m = record { machine = m; resets = false }
 abbrev pub wasReset : Clocked
 wasReset = record { machine = reset; resets = true }
 
+-- as the code has it: the machine that it leaves, which a reset replaces
+unfoldable pub leaving : Machine → (resets : Bool) → Clocked
+leaving m r = if r then wasReset else goesOn m
+
 -- a tick that left the count equal to the maximum "requests INTN if GINT is 1, or with WDOG 1 resets the core instead"
 unfoldable pub notified : (configuration : ℕ) → Machine → Clocked
 notified c m =
@@ -72,5 +76,5 @@ clock m =
 
 -- to unfold all of these
 unfoldable pub clocking : Unit {0}
-unfolding withTimer counted notified clockOne clock
+unfolding withTimer counted leaving notified clockOne clock
 clocking = tt

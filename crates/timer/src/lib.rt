@@ -5,7 +5,7 @@ ghost use lib.ListN.{length};
 ghost use Rattle.machine.specs.Control.{reset as resetOf};
 ghost use Rattle.machine.specs.Words.{SOURCES, TIMERS, MachineWords, machineOf, Says};
 ghost use Rattle.timer.specs.Timer.{timerOf, tickedTo, clockTimer};
-ghost use Rattle.timer.specs.Clock.{counted, notified, clockOne, clock};
+ghost use Rattle.timer.specs.Clock.{counted, leaving, notified, clockOne, clock};
 use machine::INT_PEND;
 use machine::TMR_CONF;
 use machine::TMR0_CNT;
@@ -116,22 +116,12 @@ fn advance(w: &mut [u32], k: u32, conf: u32) -> bool
     x.reached
 }
 
-// The machine's words become those at reset.
-fn reset_core(w: &mut [u32])
-    requires { ⌜ MachineWords (now w) ⌝ }
-    ensures { λ _. ⌜ Says (now (w .exit)) resetOf ⌝ }
-{
-    let words = machine::reset();
-    codec::copy(&words, w);
-}
-
-// What a count that reached its maximum does: a reset, a request or nothing. Whether it was a reset.
+// What a count that reached its maximum does: a request or nothing; or whether it resets the core, which is left to do.
 fn notify(w: &mut [u32], conf: u32) -> bool
     requires { ⌜ MachineWords (now w) ⌝ }
-    ensures { λ r. ⌜ record { machine = machineOf (now (w .exit)); resets = r } ≡ notified conf (machineOf (now (w .entry))) ⌝ }
+    ensures { λ r. ⌜ leaving (machineOf (now (w .exit))) r ≡ notified conf (machineOf (now (w .entry))) ⌝ }
 {
     if has_flag(conf, WDOG) {
-        reset_core(w);
         return true;
     }
     if has_flag(conf, GINT) {
@@ -142,10 +132,10 @@ fn notify(w: &mut [u32], conf: u32) -> bool
     false
 }
 
-// The clock of timer k; whether it resets the core.
+// The clock of timer k; or whether it resets the core, which is left to do.
 fn clock_one(w: &mut [u32], k: u32) -> bool
     requires { ⌜ MachineWords (now w) × (length (machineOf (now w) .stack) ≤ SOURCES) × (k < TIMERS) ⌝ }
-    ensures { λ r. ⌜ record { machine = machineOf (now (w .exit)); resets = r } ≡ clockOne k (machineOf (now (w .entry))) ⌝ }
+    ensures { λ r. ⌜ leaving (machineOf (now (w .exit))) r ≡ clockOne k (machineOf (now (w .entry))) ⌝ }
 {
     let conf = word::field(machine::control(w, TMR_CONF), 16 * k, 16);
     if advance(w, k, conf) {
@@ -153,6 +143,15 @@ fn clock_one(w: &mut [u32], k: u32) -> bool
     } else {
         false
     }
+}
+
+// The machine's words become those at reset.
+fn reset_core(w: &mut [u32])
+    requires { ⌜ MachineWords (now w) ⌝ }
+    ensures { λ _. ⌜ Says (now (w .exit)) resetOf ⌝ }
+{
+    let words = machine::reset();
+    codec::copy(&words, w);
 }
 
 // One clock of both timers.
@@ -163,9 +162,10 @@ pub fn clock(w: &mut [u32])
     let conf = machine::control(w, TMR_CONF);
     if has_flag(conf, EN) | has_flag(conf, 16 + EN) {
         if clock_one(w, 0) {
-            return;
+            reset_core(w);
+        } else if clock_one(w, 1) {
+            reset_core(w);
         }
-        clock_one(w, 1);
     } else {
         machine::set_dividers(w, 0, 0);
     }

@@ -1,8 +1,10 @@
--- `clock` meets its contract: timer 0's clock, and timer 1's where that did not reset; with neither enabled both dividers go to 0. Assumes nothing.
-use mathlib.Core.Path.{sym, ap, _∙_}
+-- `clock` meets its contract: timer 0's clock, and timer 1's where that does not reset, or a reset; with neither enabled both dividers go to 0. Assumes nothing.
+use mathlib.Core.Path.{_≡_, sym, ap, _∙_}
+use mathlib.Core.Bool.{false}
+use Rattle.word.specs.Choice.{if_then_else_}
 use Rattle.machine.specs.Words.{machineOf}
 use Rattle.machine.proofs.Flat.{dividers-length}
-use Rattle.timer.specs.Clock.{Clocked}
+use Rattle.timer.specs.Clock.{leaving, Clocked, clockOne}
 use Rattle.timer.proofs.Laws.{clock-reset, clock-both}
 use Rattle.timer.proofs.Theorems.{one-deep, idle-clock, halves-disabled}
 use borrow.Author.Needs.{needs}
@@ -17,22 +19,34 @@ abbrev first : tie.Else2 → tie.After-clock-one
 first c = c .before .before .before
 
 returns : tie.Need-returns
-returns c = clock-reset _ _ (rw (← (c .if2 .taken)) (c .before .before .before .clock-one .ensures))
+returns c =
+    let taken = c .before .before .before .before in
+    rw (c .before .before .reset-core .ensures) (clock-reset _ _ (rw (taken .if2 .taken) at (taken .before .before .before .clock-one .ensures)))
+
+-- timer 0's clock did not reset
+goes-on : (c : tie.Else2) → leaving (machineOf (first c .clock-one .last .0)) false ≡ clockOne 0 (machineOf (entry (first c) .args .w .now))
+goes-on c = rw (← (c .if2 .left)) (first c .clock-one .ensures)
 
 clock-one-requires-2 : tie.Need-clock-one-requires-2
 clock-one-requires-2 c κs =
     let left = c .before in
-    let one = first left .clock-one in
-    let s = entry (first left) in
-    (search needs, one-deep (machineOf (s .args .w .now)) (machineOf (one .last .0)) (rw (← (left .if2 .left)) (one .ensures)) (s .pre .1), search needs)
+    (search needs, one-deep _ _ (goes-on left) (entry (first left) .pre .1), search needs)
 
 returns-2 : tie.Need-returns-2
+unfolding leaving if_then_else_
 returns-2 c =
-    let left = c .before .before .before .before in
-    clock-both _ _ (rw (← (left .if2 .left)) (first left .clock-one .ensures)) (c .before .before .clock-one2 .ensures)
+    let taken = c .before .before .before .before in
+    let second = taken .before .before .before in
+    rw (c .before .before .reset-core2 .ensures) (clock-both _ _ (goes-on (second .before .before)) (rw (taken .if3 .taken) at (second .clock-one2 .ensures)))
 
 returns-3 : tie.Need-returns-3
+unfolding leaving if_then_else_
 returns-3 c =
+    let second = c .before .before .before in
+    clock-both _ _ (goes-on (second .before .before)) (rw (c .if3 .left) at (second .clock-one2 .ensures))
+
+returns-4 : tie.Need-returns-4
+returns-4 c =
     let off = c .before .before .before .before in
     let s = off .before .before .before .before .before .before in
     let m = machineOf (s .args .w .now) in
@@ -43,10 +57,13 @@ pub clock-spec : {M : Type 1} → statement M
 clock-spec =
     tie.close
     (tie.spec
-    (λ c κs. search needs) (λ c κs. search needs) (λ c. search needs) (λ c κs. search needs) (λ c κs. search needs) (λ c. search needs)
-    returns
+    (λ c κs. search needs) (λ c κs. search needs) (λ c. search needs) (λ c κs. search needs) (λ c κs. search needs) (λ c κs. search needs)
     clock-one-requires-2
-    (λ c κs. search needs) (λ c. search needs)
+    (λ c κs. search needs) (λ c κs. search needs) (λ c. search needs)
+    returns
+    (λ c. search needs)
     returns-2
     (λ c. search needs)
-    returns-3)
+    returns-3
+    (λ c. search needs)
+    returns-4)

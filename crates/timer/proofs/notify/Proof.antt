@@ -23,9 +23,7 @@ small : (c : tie.After-field) → 4 + c .field .result < SOURCES
 small c = rw (c .field .ensures) (source-small _)
 
 returns : tie.Need-returns
-returns c =
-    let taken = c .before .before .before .before in
-    rw (c .before .before .reset-core .ensures) (notified-reset _ _ (sym (taken .before .has-flag .ensures) ∙ taken .if1 .taken))
+returns c = notified-reset _ _ (sym (c .before .has-flag .ensures) ∙ c .if1 .taken)
 
 add-source : tie.Need-add-source
 add-source c = omega (arith, small c)
@@ -49,7 +47,7 @@ pub notify-spec : {M : Type 1} → statement M
 notify-spec =
     tie.close
     (tie.spec
-    (λ c κs. search needs) (λ c κs. search needs) (λ c. search needs)
+    (λ c κs. search needs)
     returns
     (λ c κs. search needs) (λ c κs. search needs)
     add-source
