@@ -1,7 +1,7 @@
 -- What holds of timers and of the clock. Assumes nothing.
 use mathlib.Core.Path.{_≡_, refl, sym, ap, _∙_}
 use mathlib.Core.Logic.{_≢_}
-use mathlib.Core.Bool.{Bool, true, false, true≢false, _||_}
+use mathlib.Core.Bool.{Bool, true, false, true≢false}
 use mathlib.Core.List.{List}
 use Prim.Native.Nat.{ℕ, zero, suc, _+_, _*_, _/_, _%_, _^_, _≤_, _<_}
 use native.Mathlib.Omega.{arith}
@@ -14,7 +14,7 @@ use borrow.Author.Tests.{eq-eqb, ne-eqb}
 use Rattle.word.specs.Choice.{if_then_else_}
 use Rattle.word.specs.Word.{bitAt, fieldOf}
 use Rattle.word.specs.Flags.{withFlag, isAmong}
-use Rattle.word.proofs.Tests.{or-parts, if-holds}
+use Rattle.word.proofs.Tests.{if-holds}
 use Rattle.word.proofs.Flags.{apart-among}
 use Rattle.machine.specs.Machine.{Machine, withControl, withDividers}
 use Rattle.machine.specs.Control.{controlAt, withPending, reset, INT-PEND, TMR0-CNT, TMR-CONF}
@@ -181,13 +181,18 @@ idle-clock m n e f =
     (ap (λ (l : List ℕ). goesOn (withDividers l m)) (pair-set (m .dividers) 0 0 n))
 
 -- bit 15 of each half of TMR_CONF
-pub halves-disabled : (m : Machine) → bitAt 15 (controlAt m TMR-CONF) || bitAt 31 (controlAt m TMR-CONF) ≡ false
-    → (enabled (configurationOf 0 m) ≡ false) × (enabled (configurationOf 1 m) ≡ false)
-unfolding fieldOf
-halves-disabled m e =
-    let x = controlAt m TMR-CONF in
-    let t = or-parts (bitAt 15 x) (bitAt 31 x) e in
-    let low : x / 1 % 65536 / 32768 % 2 ≡ x / 32768 % 2 = omega arith in
-    let half : (y : ℕ) → y % 65536 / 32768 % 2 ≡ y / 32768 % 2 = λ y. omega arith in
-    let high : x / 65536 % 65536 / 32768 % 2 ≡ x / 2147483648 % 2 = half (x / 65536) ∙ ap (λ (y : ℕ). y % 2) (div-div-eq-div-mul x 65536 32768) in
-    (ap (λ (b : ℕ). eqb b 1) low ∙ t .0, ap (λ (b : ℕ). eqb b 1) high ∙ t .1)
+module _ (m : Machine) where
+  pub low-disabled : bitAt 15 (controlAt m TMR-CONF) ≡ false → enabled (configurationOf 0 m) ≡ false
+  unfolding fieldOf
+  low-disabled e =
+      let x = controlAt m TMR-CONF in
+      let low : x / 1 % 65536 / 32768 % 2 ≡ x / 32768 % 2 = omega arith in
+      ap (λ (b : ℕ). eqb b 1) low ∙ e
+
+  pub high-disabled : bitAt 31 (controlAt m TMR-CONF) ≡ false → enabled (configurationOf 1 m) ≡ false
+  unfolding fieldOf
+  high-disabled e =
+      let x = controlAt m TMR-CONF in
+      let half : (y : ℕ) → y % 65536 / 32768 % 2 ≡ y / 32768 % 2 = λ y. omega arith in
+      let high : x / 65536 % 65536 / 32768 % 2 ≡ x / 2147483648 % 2 = half (x / 65536) ∙ ap (λ (y : ℕ). y % 2) (div-div-eq-div-mul x 65536 32768) in
+      ap (λ (b : ℕ). eqb b 1) high ∙ e

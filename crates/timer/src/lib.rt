@@ -154,18 +154,28 @@ fn reset_core(w: &mut [u32])
     codec::copy(&words, w);
 }
 
-// One clock of both timers.
+// One clock of both timers, one after the other.
+fn clock_both(w: &mut [u32])
+    requires { ⌜ MachineWords (now w) × (length (machineOf (now w) .stack) ≤ SOURCES) ⌝ }
+    ensures { λ _. ⌜ Says (now (w .exit)) (clock (machineOf (now (w .entry))) .machine) ⌝ }
+{
+    if clock_one(w, 0) {
+        reset_core(w);
+    } else if clock_one(w, 1) {
+        reset_core(w);
+    }
+}
+
+// One clock of both timers. With neither enabled it is short; called at two places, the other is not inlined into every step.
 pub fn clock(w: &mut [u32])
     requires { ⌜ MachineWords (now w) × (length (machineOf (now w) .stack) ≤ SOURCES) ⌝ }
     ensures { λ _. ⌜ Says (now (w .exit)) (clock (machineOf (now (w .entry))) .machine) ⌝ }
 {
     let conf = machine::control(w, TMR_CONF);
-    if has_flag(conf, EN) | has_flag(conf, 16 + EN) {
-        if clock_one(w, 0) {
-            reset_core(w);
-        } else if clock_one(w, 1) {
-            reset_core(w);
-        }
+    if has_flag(conf, EN) {
+        clock_both(w);
+    } else if has_flag(conf, 16 + EN) {
+        clock_both(w);
     } else {
         machine::set_dividers(w, 0, 0);
     }
