@@ -49,7 +49,7 @@ goesOn m = record { machine = m; resets = false }
 abbrev pub wasReset : Clocked
 wasReset = record { machine = reset; resets = true }
 
--- as the code has it: the machine that it leaves, which a reset replaces
+-- the clock after which the code has this machine, or has still to reset the core
 unfoldable pub leaving : Machine → (resets : Bool) → Clocked
 leaving m r = if r then wasReset else goesOn m
 

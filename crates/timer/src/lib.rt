@@ -116,7 +116,7 @@ fn advance(w: &mut [u32], k: u32, conf: u32) -> bool
     x.reached
 }
 
-// What a count that reached its maximum does: a request or nothing; or whether it resets the core, which is left to do.
+// What a count that reached its maximum does: a request or nothing; or whether it resets the core, which the caller then does.
 fn notify(w: &mut [u32], conf: u32) -> bool
     requires { ⌜ MachineWords (now w) ⌝ }
     ensures { λ r. ⌜ leaving (machineOf (now (w .exit))) r ≡ notified conf (machineOf (now (w .entry))) ⌝ }
@@ -132,7 +132,7 @@ fn notify(w: &mut [u32], conf: u32) -> bool
     false
 }
 
-// The clock of timer k; or whether it resets the core, which is left to do.
+// The clock of timer k; or whether it resets the core, which the caller then does.
 fn clock_one(w: &mut [u32], k: u32) -> bool
     requires { ⌜ MachineWords (now w) × (length (machineOf (now w) .stack) ≤ SOURCES) × (k < TIMERS) ⌝ }
     ensures { λ r. ⌜ leaving (machineOf (now (w .exit))) r ≡ clockOne k (machineOf (now (w .entry))) ⌝ }
@@ -166,7 +166,7 @@ fn clock_both(w: &mut [u32])
     }
 }
 
-// One clock of both timers. With neither enabled it is short; called at two places, the other is not inlined into every step.
+// One clock of both timers: with neither enabled, both dividers become 0. `clock_both` is called at two places, so that it is not inlined into the loop of steps, where it would slow each step down.
 pub fn clock(w: &mut [u32])
     requires { ⌜ MachineWords (now w) × (length (machineOf (now w) .stack) ≤ SOURCES) ⌝ }
     ensures { λ _. ⌜ Says (now (w .exit)) (clock (machineOf (now (w .entry))) .machine) ⌝ }
