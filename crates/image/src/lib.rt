@@ -30,22 +30,22 @@ const PLACES: u32 = machine::PLACES as u32;
 
 const TIMERS: u32 = machine::TIMERS as u32;
 
-// Where they stand among an image's numbers, and among the running words, which have the same order up to the stack.
-const SET1_COUNT: usize = machine::SET1 - 1;
+// The bytes where they begin. An image's numbers have the order of the running words up to the stack, with each count before its section.
+const SET1_COUNT: usize = 4 * (machine::SET1 - 1);
 
-const SET2_COUNT: usize = machine::SET2 - 1;
+const SET2_COUNT: usize = 4 * (machine::SET2 - 1);
 
-const CONDITIONS_COUNT: usize = machine::CONDITIONS - 1;
+const CONDITIONS_COUNT: usize = 4 * (machine::CONDITIONS - 1);
 
-const CONTROL_COUNT: usize = machine::CONTROL - 1;
+const CONTROL_COUNT: usize = 4 * (machine::CONTROL - 1);
 
-const POSITION_COUNT: usize = machine::POSITION - 1;
+const POSITION_COUNT: usize = 4 * (machine::POSITION - 1);
 
-const STACK_COUNT: usize = machine::DEPTH;
+const STACK_COUNT: usize = 4 * machine::DEPTH;
 
 // ---- question 2
 
-// Whether an image has the sections up to the stack, with their counts, and so many bytes behind them. The count at place n of the numbers begins at byte 4 × n.
+// Whether an image has the sections up to the stack, with their counts, and so many bytes behind them.
 fn sections_to_stack(image: &[u8], behind: usize) -> bool
     requires { ⌜ behind ≤ LAST ⌝ }
     ensures { λ r. ⌜ r ≡ fitsToStack behind (now (image .entry)) ⌝ }
@@ -53,16 +53,16 @@ fn sections_to_stack(image: &[u8], behind: usize) -> bool
     if image.len() < EARLIER_SHORTEST {
         return false;
     }
-    let depth = codec::number_at(image, 4 * STACK_COUNT);
+    let depth = codec::number_at(image, STACK_COUNT);
     if machine::SOURCES < depth {
         return false;
     }
     let bytes = image.len() == EARLIER_SHORTEST + 16 * (depth as usize) + behind;
-    let set1 = codec::number_at(image, 4 * SET1_COUNT) == REGISTERS;
-    let set2 = codec::number_at(image, 4 * SET2_COUNT) == REGISTERS;
-    let conditions = codec::number_at(image, 4 * CONDITIONS_COUNT) == FLAGS;
-    let control = codec::number_at(image, 4 * CONTROL_COUNT) == OFFSETS;
-    let position = codec::number_at(image, 4 * POSITION_COUNT) == PLACES;
+    let set1 = codec::number_at(image, SET1_COUNT) == REGISTERS;
+    let set2 = codec::number_at(image, SET2_COUNT) == REGISTERS;
+    let conditions = codec::number_at(image, CONDITIONS_COUNT) == FLAGS;
+    let control = codec::number_at(image, CONTROL_COUNT) == OFFSETS;
+    let position = codec::number_at(image, POSITION_COUNT) == PLACES;
     bytes & set1 & set2 & conditions & control & position
 }
 
@@ -135,10 +135,10 @@ pub fn write(w: &[u32], buffer: &mut [u8])
 {
     let n = machine::ENTRIES + 4 * (machine::depth(w) as usize);
     codec::write_numbers(&w[..n], buffer);
-    codec::put_number(buffer, 4 * SET1_COUNT, REGISTERS);
-    codec::put_number(buffer, 4 * SET2_COUNT, REGISTERS);
-    codec::put_number(buffer, 4 * CONDITIONS_COUNT, FLAGS);
-    codec::put_number(buffer, 4 * CONTROL_COUNT, OFFSETS);
-    codec::put_number(buffer, 4 * POSITION_COUNT, PLACES);
+    codec::put_number(buffer, SET1_COUNT, REGISTERS);
+    codec::put_number(buffer, SET2_COUNT, REGISTERS);
+    codec::put_number(buffer, CONDITIONS_COUNT, FLAGS);
+    codec::put_number(buffer, CONTROL_COUNT, OFFSETS);
+    codec::put_number(buffer, POSITION_COUNT, PLACES);
     write_last(w, buffer, 4 * n);
 }

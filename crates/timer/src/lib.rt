@@ -166,7 +166,7 @@ fn clock_both(w: &mut [u32])
     }
 }
 
-// One clock of both timers: with neither enabled, both dividers become 0. `clock_both` is called at two places, so that it is not inlined into the loop of steps, where it would slow each step down.
+// One clock of both timers: with neither enabled, both dividers become 0. `clock_both` is called at two places, so that it is not inlined into the loop of steps, where it would cost every step one or two instructions.
 pub fn clock(w: &mut [u32])
     requires { ⌜ MachineWords (now w) × (length (machineOf (now w) .stack) ≤ SOURCES) ⌝ }
     ensures { λ _. ⌜ Says (now (w .exit)) (clock (machineOf (now (w .entry))) .machine) ⌝ }
