@@ -2,7 +2,7 @@
 //! that demand 3 speaks of).
 
 use crate::damage::{self, Damage, DAMAGES};
-use crate::image::{self, Image, Layout, LONGEST, OLD_LONGEST, PC, PRODUCT, SLOT};
+use crate::image::{self, Image, Layout, EARLIER_LONGEST, LONGEST, PC, PRODUCT, SLOT};
 use crate::program::{self, Region, Themes};
 use crate::random::Random;
 use crate::state;
@@ -13,7 +13,7 @@ pub const MEMORY_LIMIT: usize = 65_536;
 pub const STEP_LIMIT: u32 = 1_000_000;
 
 /// The layout that question 2 reads.
-const LAYOUT: Layout = Layout::New;
+const LAYOUT: Layout = Layout::Present;
 
 /// Everything that a call lends or gives.
 #[derive(Clone, Default)]
@@ -154,7 +154,7 @@ impl Generator {
             let length = match random.below(6) {
                 0 => 0,
                 1 => least - 1,
-                2 => random.range(OLD_LONGEST as u32, least - 1),
+                2 => random.range(EARLIER_LONGEST as u32, least - 1),
                 _ => random.below(least),
             };
             call.buffer.truncate(length as usize);

@@ -798,7 +798,7 @@ mod tests {
             let mut tracer = Tracer::new();
             tracer.step.program = word.to_be_bytes().to_vec();
             tracer.step.requests = vec![requests];
-            before.write(Layout::New, &mut tracer.step.image);
+            before.write(Layout::Present, &mut tracer.step.image);
             let unclocked = tracer.unclocked(&before, coffee_reference::run);
             assert!(unclocked.done == done);
             let mut timers = before.control;

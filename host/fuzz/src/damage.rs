@@ -150,7 +150,7 @@ impl Damage {
             self,
             DividerCount | ExtraDivider | MissingDivider | NoDividers | Divider(_)
         );
-        layout == Layout::New || !of_dividers
+        layout == Layout::Present || !of_dividers
     }
 
     /// The stack entries that a valid image needs for this damage.

@@ -66,24 +66,24 @@ pub const TIMERS: usize = 2;
 pub const SHORTEST: usize = 528;
 /// The length of an image with a full stack, and the least buffer (question 8).
 pub const LONGEST: usize = 720;
-/// The same lengths in the old layout.
-pub const OLD_SHORTEST: usize = 516;
-pub const OLD_LONGEST: usize = 708;
+/// The same lengths in the earlier layout.
+pub const EARLIER_SHORTEST: usize = 516;
+pub const EARLIER_LONGEST: usize = 708;
 
 /// The sections of an image.
 #[derive(Clone, Copy, Debug, PartialEq, Eq)]
 pub enum Layout {
     /// Those of 01.
-    Old,
+    Earlier,
     /// Those, and "a last section of 2 dividers".
-    New,
+    Present,
 }
 
 impl Layout {
     pub fn other(self) -> Layout {
         match self {
-            Layout::Old => Layout::New,
-            Layout::New => Layout::Old,
+            Layout::Earlier => Layout::Present,
+            Layout::Present => Layout::Earlier,
         }
     }
 }
@@ -262,7 +262,7 @@ impl Image {
             push(bytes, entry.psr);
             push(bytes, entry.c0);
         }
-        if layout == Layout::New {
+        if layout == Layout::Present {
             push(bytes, TIMERS as u32);
             for divider in self.dividers {
                 push(bytes, divider);
@@ -319,7 +319,7 @@ pub fn length(bytes: &[u8]) -> usize {
 
 /// The stack's depth in the image at the front of `bytes`; 0 where they are too few.
 pub fn depth(bytes: &[u8]) -> usize {
-    if bytes.len() < OLD_SHORTEST {
+    if bytes.len() < EARLIER_SHORTEST {
         return 0;
     }
     number(bytes, COUNTS[5]) as usize
@@ -416,7 +416,7 @@ mod tests {
     fn lengths_and_indices() {
         let mut image = Image::new();
         let mut bytes = Vec::new();
-        image.write(Layout::New, &mut bytes);
+        image.write(Layout::Present, &mut bytes);
         assert_eq!(bytes.len(), SHORTEST);
         let counts = [32, 32, 8, 45, 6, 0, 2];
         let indices = COUNTS.into_iter().chain([last_count(0)]);
@@ -424,17 +424,17 @@ mod tests {
             assert_eq!(number(&bytes, index), count);
         }
         let new = bytes.clone();
-        image.write(Layout::Old, &mut bytes);
-        assert_eq!(bytes[..], new[..OLD_SHORTEST]);
+        image.write(Layout::Earlier, &mut bytes);
+        assert_eq!(bytes[..], new[..EARLIER_SHORTEST]);
         image.depth = SOURCES;
         for (source, entry) in image.stack.iter_mut().enumerate() {
             entry.source = source as u32;
         }
         image.show_stack();
         image.dividers = [3, 4];
-        image.write(Layout::Old, &mut bytes);
-        assert_eq!(bytes.len(), OLD_LONGEST);
-        image.write(Layout::New, &mut bytes);
+        image.write(Layout::Earlier, &mut bytes);
+        assert_eq!(bytes.len(), EARLIER_LONGEST);
+        image.write(Layout::Present, &mut bytes);
         assert_eq!(bytes.len(), LONGEST);
         assert_eq!(length(&bytes), LONGEST);
         assert_eq!(number(&bytes, last_count(SOURCES)), 2);
@@ -447,7 +447,7 @@ mod tests {
         assert_eq!(coffee_reference::reset(&mut buffer), 0);
         let image = Image::read(&buffer);
         let mut bytes = Vec::new();
-        image.write(Layout::New, &mut bytes);
+        image.write(Layout::Present, &mut bytes);
         assert_eq!(bytes[..], buffer[..SHORTEST]);
         assert_eq!(image.psr(), 0x0E);
     }

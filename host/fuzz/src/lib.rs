@@ -1,5 +1,5 @@
 //! Compares two implementations of the COFFEE core's run call, of its listing, of its writing
-//! of words and of its carrying over of old images on seeded random calls.
+//! of words and of its carrying over of earlier images on seeded random calls.
 //!
 //! 01 says what a run call is ("Machine image") and what it does ("One step"); 02 says what
 //! a listing is (wish 2), what the timers do and what is carried over (wish 5), and how a word

@@ -2,7 +2,7 @@
 //! `[--case N]`, `[--listing N]`, `[--choice N]` or `[--carry N]` to repeat one: compares the
 //! COFFEE library with the reference emulator on every 16-bit word and on random 32-bit words,
 //! listed; on words written from every 16-bit word, from random 32-bit words and from random
-//! choices; on images of the old layout carried over; and on seeded random calls.
+//! choices; on images of the earlier layout carried over; and on seeded random calls.
 //!
 //! Prints what each of the four met, `fuzz: N 32-bit words and N 16-bit words listed, no
 //! difference`, `fuzz: N choices compared, N 32-bit words and N 16-bit words among them, no

@@ -127,7 +127,7 @@ impl Shrinker {
             let old = image.clone();
             change(&mut image);
             if image != old {
-                image.write(Layout::New, &mut bytes);
+                image.write(Layout::Present, &mut bytes);
                 this.keep(|call| call.image.clone_from(&bytes));
             }
         };
@@ -228,7 +228,7 @@ pub fn describe(call: &Call) -> String {
         let mut reset = Image::read(&buffer);
         reset.depth = image.depth;
         let mut usual = Vec::new();
-        reset.write(Layout::New, &mut usual);
+        reset.write(Layout::Present, &mut usual);
         let mut numbers = String::new();
         for index in 0..call.image.len() / 4 {
             let number = image::number(&call.image, index);

@@ -284,7 +284,7 @@ mod tests {
                 let mut image = Image::new();
                 image.set_timer(number, timer);
                 image.set_timer(1 - number, other);
-                image.write(Layout::New, &mut bytes);
+                image.write(Layout::Present, &mut bytes);
                 let mut buffer = [0; LONGEST];
                 coffee_reference::run(&[0; 4], &mut [], &bytes, &[], 1, &mut buffer);
                 let after = Image::read(&buffer);

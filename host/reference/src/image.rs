@@ -14,9 +14,9 @@ pub const LONGEST_IMAGE: usize = 720;
 #[derive(Clone, Copy, Debug, PartialEq, Eq)]
 pub enum Layout {
     /// Those of 01, as "images saved by cards already on lines" have them.
-    Old,
+    Earlier,
     /// "The image gains a last section of 2 dividers"; "question 2 reads the longer layout".
-    New,
+    Present,
 }
 
 /// The numbers of an image, section by section, before anything is asked of them.
@@ -30,7 +30,7 @@ pub struct Sections {
     pub position: [u32; 6],
     /// Entries of source, address, PSR and C0, top last.
     pub stack: Vec<[u32; 4]>,
-    /// The timers' dividers; 0 in the old layout, which has none.
+    /// The timers' dividers; 0 in the earlier layout, which has none.
     pub dividers: [u32; TIMERS],
 }
 
@@ -58,8 +58,8 @@ impl Sections {
             stack.push(read_numbers(&mut numbers)?);
         }
         let dividers = match layout {
-            Layout::Old => [0; TIMERS],
-            Layout::New => read_section(&mut numbers)?,
+            Layout::Earlier => [0; TIMERS],
+            Layout::Present => read_section(&mut numbers)?,
         };
         if numbers.next().is_some() {
             return None;
@@ -184,7 +184,7 @@ impl Sections {
         }
     }
 
-    /// The bytes of the image in the new layout, 528 + 16 per stack entry.
+    /// The bytes of the image in the present layout, 528 + 16 per stack entry.
     pub fn to_bytes(&self) -> Vec<u8> {
         let mut bytes = Vec::new();
         write_section(&mut bytes, &self.set1);

@@ -110,12 +110,12 @@ pub fn reset(buffer: &mut [u8]) -> u32 {
     0
 }
 
-/// Carries an image of the old layout over (02, wish 5): writes it with a last section of
+/// Carries an image of the earlier layout over (02, wish 5): writes it with a last section of
 /// dividers 0, "all else the same", to the front of `buffer`, whose further bytes keep their
 /// values, and answers 0; or answers the number of the first question whose answer is no,
 /// 2 to 5 "by the old layout, then 8", and changes nothing.
 pub fn carry_over(image: &[u8], buffer: &mut [u8]) -> u32 {
-    let sections = match questions_2_to_5(image, Layout::Old) {
+    let sections = match questions_2_to_5(image, Layout::Earlier) {
         Ok(sections) => sections,
         Err(refusal) => return refusal,
     };
@@ -139,7 +139,7 @@ fn admit(
     if program.len() > PROGRAM_LIMIT || cells.len() > DATA_LIMIT {
         return Err(1);
     }
-    let sections = questions_2_to_5(image, Layout::New)?;
+    let sections = questions_2_to_5(image, Layout::Present)?;
     if requests.iter().any(|&request| request > REQUEST_LIMIT) {
         return Err(6);
     }

@@ -3,7 +3,7 @@
 use super::generate::LAYOUT;
 use super::{Input, ANSWERS};
 use crate::damage::DAMAGES;
-use crate::image::{LONGEST, OLD_LONGEST, SOURCES};
+use crate::image::{EARLIER_LONGEST, LONGEST, SOURCES};
 use crate::met::{line, put, Met, Unmet};
 
 /// Buffers by their length.
@@ -62,8 +62,8 @@ impl Coverage {
         }
         let place = match input.buffer.len() {
             0 => 0,
-            length if length < OLD_LONGEST => 1,
-            OLD_LONGEST => 2,
+            length if length < EARLIER_LONGEST => 1,
+            EARLIER_LONGEST => 2,
             length if length < LONGEST - 1 => 3,
             length if length < LONGEST => 4,
             LONGEST => 5,

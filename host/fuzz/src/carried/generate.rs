@@ -3,13 +3,13 @@
 use super::Input;
 use crate::call::fill_bytes;
 use crate::damage::{self, Damage, DAMAGES};
-use crate::image::{Image, Layout, LONGEST, OLD_LONGEST};
+use crate::image::{Image, Layout, EARLIER_LONGEST, LONGEST};
 use crate::program::{Region, Role};
 use crate::random::Random;
 use crate::state;
 
 /// The layout that a carry-over reads.
-pub const LAYOUT: Layout = Layout::Old;
+pub const LAYOUT: Layout = Layout::Earlier;
 
 /// A program for the addresses of an image: nops.
 const PROGRAM: [u8; 64] = [0; 64];
@@ -77,11 +77,11 @@ pub fn carry(random: &mut Random, input: &mut Input) {
         10 => least + random.below(800),
         11 => 0,
         12 | 13 => least - 1,
-        14 => OLD_LONGEST as u32,
+        14 => EARLIER_LONGEST as u32,
         15 => input.image.len() as u32,
         // As long as the image becomes.
         16 => input.image.len() as u32 + 12,
-        17 => random.range(OLD_LONGEST as u32, least),
+        17 => random.range(EARLIER_LONGEST as u32, least),
         _ => random.below(least),
     };
     fill_bytes(random, &mut input.buffer, length as usize);
@@ -95,7 +95,7 @@ pub fn carry(random: &mut Random, input: &mut Input) {
     };
 }
 
-/// A damage that an image of the old layout can have.
+/// A damage that an image of the earlier layout can have.
 fn any_damage(random: &mut Random) -> Damage {
     loop {
         let damage = random.pick(&DAMAGES);

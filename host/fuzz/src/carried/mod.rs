@@ -1,4 +1,4 @@
-//! Images of the old layout carried over (02, wish 5) on both sides, and everything that a
+//! Images of the earlier layout carried over (02, wish 5) on both sides, and everything that a
 //! carry-over may touch; and a session of them.
 
 mod coverage;
@@ -136,7 +136,7 @@ pub fn explain(found: &Found) -> String {
 #[cfg(test)]
 mod tests {
     use super::*;
-    use crate::image::{LONGEST, OLD_LONGEST};
+    use crate::image::{EARLIER_LONGEST, LONGEST};
     use crate::met::Met;
     use crate::series::tests::{found_twice, no_difference_twice};
     use coffee_reference::carry_over;
@@ -159,7 +159,7 @@ mod tests {
     /// The reference, but an image with a full stack is carried over with a divider of 1.
     fn wrong_at_12(image: &[u8], buffer: &mut [u8]) -> u32 {
         let answer = carry_over(image, buffer);
-        if answer == 0 && image.len() == OLD_LONGEST {
+        if answer == 0 && image.len() == EARLIER_LONGEST {
             buffer[LONGEST - 1] = 1;
         }
         answer

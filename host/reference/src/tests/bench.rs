@@ -110,7 +110,7 @@ impl Bench {
         let entries = u32::from_be_bytes([buffer[512], buffer[513], buffer[514], buffer[515]]);
         let length = 528 + 16 * entries as usize;
         assert!(buffer[length..].iter().all(|&byte| byte == 0xA5));
-        let sections = Sections::read(&buffer[..length], Layout::New).expect("question 2");
+        let sections = Sections::read(&buffer[..length], Layout::Present).expect("question 2");
         assert!(sections.registers_can_hold());
         assert!(sections.user_mode_has_set_1());
         assert!(sections.stack_agrees());

@@ -1,4 +1,4 @@
-//! Images of the old layout carried over (02, wish 5): "asked 2 to 5 by the old layout, then
+//! Images of the earlier layout carried over (02, wish 5): "asked 2 to 5 by the old layout, then
 //! 8, are carried over with dividers 0, all else the same".
 
 use super::images::{bytes, reset_numbers, with_stack, CONDITIONS, CONTROL, SET_2, STACK};
@@ -6,7 +6,7 @@ use crate::image::{Layout, Sections};
 use crate::{carry_over, run};
 
 /// The numbers of an image without its last section.
-fn old(mut numbers: Vec<u32>) -> Vec<u32> {
+fn earlier(mut numbers: Vec<u32>) -> Vec<u32> {
     numbers.truncate(numbers.len() - 3);
     numbers
 }
@@ -44,7 +44,7 @@ fn carried_at_every_depth() {
             0,
             0xFFFF_9FFF,
         ]);
-        let image = bytes(&old(numbers.clone()));
+        let image = bytes(&earlier(numbers.clone()));
         assert_eq!(image.len(), 516 + 16 * depth as usize);
         for length in [720, 721, 1000] {
             let mut buffer = vec![0xC3; length];
@@ -53,8 +53,8 @@ fn carried_at_every_depth() {
             assert_eq!(carried.len(), 528 + 16 * depth as usize);
             assert_eq!(buffer[..carried.len()], carried[..]);
             assert!(buffer[carried.len()..].iter().all(|&byte| byte == 0xC3));
-            // The run call takes it, and did not take the old one.
-            let sections = Sections::read(&carried, Layout::New).expect("question 2");
+            // The run call takes it, and did not take the earlier one.
+            let sections = Sections::read(&carried, Layout::Present).expect("question 2");
             assert_eq!(sections.dividers, [0, 0]);
             let mut left = vec![0; 720];
             let mut call = |image: &[u8]| run(&[], &mut [], image, &[], 0, &mut left).refusal;
@@ -64,13 +64,13 @@ fn carried_at_every_depth() {
     }
 }
 
-/// Question 2 by the old layout: the new one is refused, and so is all else.
+/// Question 2 by the earlier layout: the present one is refused, and so is all else.
 #[test]
 fn refusal_2() {
     for depth in 0..=12 {
         let numbers = with_stack(&entries(depth));
         assert_eq!(answer(&bytes(&numbers)), 2);
-        let image = bytes(&old(numbers));
+        let image = bytes(&earlier(numbers));
         assert_eq!(answer(&image), 0);
         for extra in 1..=20 {
             let mut longer = image.clone();
@@ -78,7 +78,7 @@ fn refusal_2() {
             assert_eq!(answer(&longer), 2);
         }
     }
-    let numbers = old(reset_numbers());
+    let numbers = earlier(reset_numbers());
     let image = bytes(&numbers);
     for length in 0..516 {
         assert_eq!(answer(&image[..length]), 2);
@@ -92,13 +92,13 @@ fn refusal_2() {
     }
     let mut thirteen = entries(12);
     thirteen.push([12, 0, 8, 0]);
-    assert_eq!(answer(&bytes(&old(with_stack(&thirteen)))), 2);
+    assert_eq!(answer(&bytes(&earlier(with_stack(&thirteen)))), 2);
 }
 
 /// Questions 3, 4 and 5.
 #[test]
 fn refusals_3_to_5() {
-    let numbers = old(with_stack(&entries(2)));
+    let numbers = earlier(with_stack(&entries(2)));
     for (index, number, expected) in [
         (SET_2 + 29, 32, 3),
         (CONDITIONS + 7, 8, 3),
@@ -123,7 +123,7 @@ fn refusals_3_to_5() {
 #[test]
 fn refusal_8() {
     for depth in [0, 11, 12] {
-        let image = bytes(&old(with_stack(&entries(depth))));
+        let image = bytes(&earlier(with_stack(&entries(depth))));
         for length in [0, 1, 516, 528, 707, 708, 719] {
             let mut buffer = vec![0x5A; length];
             assert_eq!(carry_over(&image, &mut buffer), 8);
@@ -136,7 +136,7 @@ fn refusal_8() {
 #[test]
 fn order_of_refusals() {
     // Each further fault belongs to an earlier question.
-    let mut numbers = old(with_stack(&[[3, 0, 8, 0]]));
+    let mut numbers = earlier(with_stack(&[[3, 0, 8, 0]]));
     let ask = |numbers: &[u32]| carry_over(&bytes(numbers), &mut [0; 719]);
     assert_eq!(ask(&numbers), 8);
     numbers[CONTROL + 0x13] = 0;

@@ -128,7 +128,10 @@ fn round_trip() {
     let sections = Sections::of_machine(&machine);
     let image = sections.to_bytes();
     assert_eq!(image.len(), 528 + 48);
-    assert_eq!(Sections::read(&image, Layout::New), Some(sections.clone()));
+    assert_eq!(
+        Sections::read(&image, Layout::Present),
+        Some(sections.clone())
+    );
     assert_eq!(sections.to_machine(), machine);
     assert_eq!(refusal(&image), 0);
     let number =
@@ -222,7 +225,7 @@ fn refusal_2() {
         numbers.extend(vec![0; dividers as usize]);
         assert_eq!(refusal(&bytes(&numbers)), 2);
     }
-    // The old layout, at every depth.
+    // The earlier layout, at every depth.
     for depth in 0..=12 {
         let mut numbers = with_stack(&entries[..depth]);
         assert_eq!(refusal(&bytes(&numbers)), 0);
