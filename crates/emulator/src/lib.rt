@@ -168,8 +168,7 @@ pub fn carry_over(image: &[u8], buffer: &mut [u8]) -> u32
     if !image::earlier_fits(image) {
         return 2;
     }
-    let mut words = [0u32; machine::WORDS];
-    image::read_earlier(image, &mut words);
+    let words = image::read_earlier(image);
     let asked = formed::ask_machine(&words);
     if asked != 0 {
         return asked;

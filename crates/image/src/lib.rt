@@ -2,10 +2,10 @@
 ghost use mathlib.Core.Path.{_≡_};
 ghost use mathlib.Core.Bool.{true};
 ghost use mathlib.Core.List.{[], _∷_};
-ghost use Prim.Native.Nat.{_+_, _≤_};
+ghost use Prim.Native.Nat.{_≤_};
 ghost use lib.ListN.{length};
-ghost use Rattle.codec.specs.Number.{numbersOf, bytesOf, putAt, over};
-ghost use Rattle.machine.specs.Words.{SOURCES, TIMERS, MachineWords, machineOf, Says};
+ghost use Rattle.codec.specs.Number.{numbersOf, over};
+ghost use Rattle.machine.specs.Words.{SOURCES, MachineWords, machineOf, Says};
 ghost use Rattle.image.specs.Image.{machineWith, machineIn, LAST, imageBytes, fitsToStack, ToStack, question2, writeImage};
 ghost use Rattle.image.specs.Earlier.{earlierIn, earlier2};
 
@@ -30,18 +30,29 @@ const PLACES: u32 = machine::PLACES as u32;
 
 const TIMERS: u32 = machine::TIMERS as u32;
 
-// The bytes where they begin. An image's numbers have the order of the running words up to the stack, with each count before its section.
-const SET1_COUNT: usize = 4 * (machine::SET1 - 1);
+// Where they stand among an image's numbers, and among the running words, which have the same order up to the stack.
+const SET1_COUNT: usize = machine::SET1 - 1;
 
-const SET2_COUNT: usize = 4 * (machine::SET2 - 1);
+const SET2_COUNT: usize = machine::SET2 - 1;
 
-const CONDITIONS_COUNT: usize = 4 * (machine::CONDITIONS - 1);
+const CONDITIONS_COUNT: usize = machine::CONDITIONS - 1;
 
-const CONTROL_COUNT: usize = 4 * (machine::CONTROL - 1);
+const CONTROL_COUNT: usize = machine::CONTROL - 1;
 
-const POSITION_COUNT: usize = 4 * (machine::POSITION - 1);
+const POSITION_COUNT: usize = machine::POSITION - 1;
 
-const STACK_COUNT: usize = 4 * machine::DEPTH;
+// The bytes where they begin.
+const SET1_BYTE: usize = 4 * SET1_COUNT;
+
+const SET2_BYTE: usize = 4 * SET2_COUNT;
+
+const CONDITIONS_BYTE: usize = 4 * CONDITIONS_COUNT;
+
+const CONTROL_BYTE: usize = 4 * CONTROL_COUNT;
+
+const POSITION_BYTE: usize = 4 * POSITION_COUNT;
+
+const STACK_BYTE: usize = 4 * machine::DEPTH;
 
 // ---- question 2
 
@@ -53,16 +64,16 @@ fn sections_to_stack(image: &[u8], behind: usize) -> bool
     if image.len() < EARLIER_SHORTEST {
         return false;
     }
-    let depth = codec::number_at(image, STACK_COUNT);
+    let depth = codec::number_at(image, STACK_BYTE);
     if machine::SOURCES < depth {
         return false;
     }
     let bytes = image.len() == EARLIER_SHORTEST + 16 * (depth as usize) + behind;
-    let set1 = codec::number_at(image, SET1_COUNT) == REGISTERS;
-    let set2 = codec::number_at(image, SET2_COUNT) == REGISTERS;
-    let conditions = codec::number_at(image, CONDITIONS_COUNT) == FLAGS;
-    let control = codec::number_at(image, CONTROL_COUNT) == OFFSETS;
-    let position = codec::number_at(image, POSITION_COUNT) == PLACES;
+    let set1 = codec::number_at(image, SET1_BYTE) == REGISTERS;
+    let set2 = codec::number_at(image, SET2_BYTE) == REGISTERS;
+    let conditions = codec::number_at(image, CONDITIONS_BYTE) == FLAGS;
+    let control = codec::number_at(image, CONTROL_BYTE) == OFFSETS;
+    let position = codec::number_at(image, POSITION_BYTE) == PLACES;
     bytes & set1 & set2 & conditions & control & position
 }
 
@@ -105,40 +116,34 @@ pub fn read(image: &[u8], w: &mut [u32])
     read_with(image, w, first, second);
 }
 
-// The same of an image of the earlier layout; its machine has dividers 0.
-pub fn read_earlier(image: &[u8], w: &mut [u32])
-    requires { ⌜ MachineWords (now w) × (earlier2 (now image) ≡ true) ⌝ }
-    ensures { λ _. ⌜ Says (now (w .exit)) (earlierIn (numbersOf (now (image .entry)))) ⌝ }
+// The words of an image of the earlier layout; its machine has dividers 0.
+pub fn read_earlier(image: &[u8]) -> [u32; machine::WORDS]
+    requires { ⌜ earlier2 (now image) ≡ true ⌝ }
+    ensures { λ r. ⌜ Says r (earlierIn (numbersOf (now (image .entry)))) ⌝ }
 {
-    read_with(image, w, 0, 0);
+    let mut words = [0u32; machine::WORDS];
+    read_with(image, &mut words, 0, 0);
+    words
 }
 
 // ---- writing
 
-// Writes the last section, the dividers after their count, to the bytes from a place on.
-fn write_last(w: &[u32], buffer: &mut [u8], at: usize)
-    requires { ⌜ MachineWords (now w) × (at + LAST ≤ length (now buffer)) ⌝ }
-    ensures { λ _. ⌜ now (buffer .exit) ≡ putAt (now (buffer .entry)) at (bytesOf (TIMERS ∷ machineOf (now (w .entry)) .dividers)) ⌝ }
-{
-    let first = machine::divider(w, 0);
-    let second = machine::divider(w, 1);
-    codec::put_number(buffer, at, TIMERS);
-    codec::put_number(buffer, at + 4, first);
-    codec::put_number(buffer, at + 8, second);
-}
-
-// Writes the machine's image to the front of a buffer with room for it; the further bytes stay. The sections' counts, which the words need not hold, go over those of the words' bytes,
-// and the last section behind the entries.
+// Writes the machine's image to the front of a buffer with room for it; the further bytes stay. Its numbers are the words up to the last entry, with the sections' counts, which the words
+// need not hold, and the last section behind them.
 pub fn write(w: &[u32], buffer: &mut [u8])
     requires { ⌜ MachineWords (now w) × (length (machineOf (now w) .stack) ≤ SOURCES) × (imageBytes (length (machineOf (now w) .stack)) ≤ length (now buffer)) ⌝ }
     ensures { λ _. ⌜ now (buffer .exit) ≡ over (writeImage (machineOf (now (w .entry)))) (now (buffer .entry)) ⌝ }
 {
-    let n = machine::ENTRIES + 4 * (machine::depth(w) as usize);
-    codec::write_numbers(&w[..n], buffer);
-    codec::put_number(buffer, SET1_COUNT, REGISTERS);
-    codec::put_number(buffer, SET2_COUNT, REGISTERS);
-    codec::put_number(buffer, CONDITIONS_COUNT, FLAGS);
-    codec::put_number(buffer, CONTROL_COUNT, OFFSETS);
-    codec::put_number(buffer, POSITION_COUNT, PLACES);
-    write_last(w, buffer, 4 * n);
+    let end = machine::ENTRIES + 4 * (machine::depth(w) as usize);
+    let mut numbers = [0u32; machine::WORDS];
+    codec::copy(w, &mut numbers);
+    numbers[SET1_COUNT] = REGISTERS;
+    numbers[SET2_COUNT] = REGISTERS;
+    numbers[CONDITIONS_COUNT] = FLAGS;
+    numbers[CONTROL_COUNT] = OFFSETS;
+    numbers[POSITION_COUNT] = PLACES;
+    numbers[end] = TIMERS;
+    numbers[end + 1] = machine::divider(w, 0);
+    numbers[end + 2] = machine::divider(w, 1);
+    codec::write_numbers(&numbers[..end + 3], buffer);
 }

@@ -18,21 +18,21 @@ abbrev entry : tie.Else1 → tie.Start
 entry c = c .before .before .before .before
 
 abbrev asked2 : tie.After-read-earlier → tie.Else1
-asked2 c = c .before .before
+asked2 c = c .before
 
 abbrev reading : tie.After-ask-machine → tie.After-read-earlier
-reading c = c .before .before .before
+reading c = c .before .before
 
 -- past question 2
 fits : (c : tie.Else1) → earlier2 (entry c .args .image .now) ≡ true
 fits c = sym (c .before .earlier-fits .ensures) ∙ not-false _ (c .if1 .left)
 
 -- what 3 to 5 say of the words is what they say of the image
-said : (c : tie.After-ask-machine) → readBy (c .ask-machine .result) (machineOf (reading c .read-earlier .last .1 .0)) ≡ readEarlier (entry (asked2 (reading c)) .args .image .now)
+said : (c : tie.After-ask-machine) → readBy (c .ask-machine .result) (machineOf (reading c .read-earlier .result)) ≡ readEarlier (entry (asked2 (reading c)) .args .image .now)
 said c = c .ask-machine .ensures ∙ said-asked _ _ _ (fits (asked2 (reading c))) (reading c .read-earlier .ensures)
 
 -- the machine that was read has a stack that is not too deep
-deep : (c : tie.After-read-earlier) → length (machineOf (c .read-earlier .last .1 .0) .stack) ≤ SOURCES
+deep : (c : tie.After-read-earlier) → length (machineOf (c .read-earlier .result) .stack) ≤ SOURCES
 unfolding earlierIn
 deep c = rw (c .read-earlier .ensures) (said-deep ZEROS _ (earlier2-stack _ (fits (asked2 c))))
 
@@ -40,10 +40,10 @@ returns : tie.Need-returns
 returns c = carried-2 _ _ (sym (c .before .earlier-fits .ensures) ∙ not-true _ (c .if1 .taken))
 
 read-earlier-requires : tie.Need-read-earlier-requires
-read-earlier-requires c κs = (search needs, fits (c .before))
+read-earlier-requires c κs = fits c
 
 ask-machine-requires : tie.Need-ask-machine-requires
-ask-machine-requires c κs = (search needs, deep (c .before .before))
+ask-machine-requires c κs = (search needs, deep (c .before))
 
 returns-2 : tie.Need-returns-2
 returns-2 c = carried-refused _ _ _ _ (said (c .before)) (c .if2 .taken)
@@ -62,7 +62,6 @@ carry-over-spec =
     (tie.spec
     (λ c κs. search needs)
     returns
-    (λ c. search needs)
     read-earlier-requires
     (λ c. search needs)
     ask-machine-requires

@@ -1,4 +1,5 @@
 -- `run` meets its contract: a refusal touches nothing, and else the words are the machine that the steps go on with. Assumes nothing.
+use mathlib.Core.Path.{refl}
 use borrow.Author.Needs.{needs}
 use Rattle.image.proofs.Image.{room-enough}
 use Rattle.emulator.specs.Run.{Call}
@@ -37,7 +38,7 @@ pub run-spec : {M : Type 1} → statement M
 run-spec =
     tie.close
     (tie.spec
-    (λ c. search needs) (λ c κs. search needs) (λ c. search needs)
+    (λ c. refl) (λ c κs. refl) (λ c. refl)
     returns
     (λ c. search needs)
     run-steps-requires
