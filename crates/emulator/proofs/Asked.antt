@@ -1,13 +1,12 @@
 -- The questions of a call as its code asks them, one by one. Assumes nothing.
 use mathlib.Core.Path.{_≡_, sym, ap, _∙_}
-use mathlib.Core.Bool.{Bool, true, false}
+use mathlib.Core.Bool.{Bool, true, false, _&&_}
 use mathlib.Core.List.{List, [], _∷_, _++_}
 use Prim.Native.Nat.{ℕ, _≤_, _<_}
 use lib.Dec.{leb}
-use lib.ListN.{length}
 use borrow.Author.Tests.{le-leb, lt-leb}
 use Rattle.word.specs.Choice.{if_then_else_}
-use Rattle.machine.specs.Machine.{Machine, MOST-MEMORY, Memory}
+use Rattle.machine.specs.Machine.{Machine, MOST-MEMORY}
 use Rattle.formed.specs.Questions.{allBelow, readBy}
 use Rattle.formed.proofs.Tests.{Passed, no-more, _also_}
 use Rattle.image.specs.Image.{LONGEST, question2, readImage}
@@ -23,33 +22,29 @@ past-five : (image : List ℕ) (cs : List Bool) → Passed (ofImage image) → f
 unfolding firstNo if_then_else_
 past-five image cs (two also three also four also five also no-more) = rw (two, three, four, five)
 
-module _ (p image : List ℕ) (memory : Memory) (requests : List ℕ) (limit room : ℕ) (m : Machine) where
+module _ (p d : ℕ) (image requests : List ℕ) (limit room : ℕ) (m : Machine) where
   -- 1
-  pub program-no : MOST-MEMORY < length p → askedBy 1 m ≡ ask p image memory requests limit room
+  pub sizes-no : (leb p MOST-MEMORY && leb d MOST-MEMORY) ≡ false → askedBy 1 m ≡ ask p d image requests limit room
   unfolding ask answers firstNo askedBy if_then_else_
-  program-no h = rw (lt-leb (length p) MOST-MEMORY h)
-
-  pub cells-no : length p ≤ MOST-MEMORY → MOST-MEMORY < length (memory .cells) → askedBy 1 m ≡ ask p image memory requests limit room
-  unfolding ask answers firstNo askedBy if_then_else_
-  cells-no g h = rw (le-leb (length p) MOST-MEMORY g, lt-leb (length (memory .cells)) MOST-MEMORY h)
+  sizes-no e = rw e
 
   -- 2 to 5
-  module _ (g : length p ≤ MOST-MEMORY) (h : length (memory .cells) ≤ MOST-MEMORY) where
-    past-sizes : ask p image memory requests limit room ≡ askedBy (firstNo 2 (ofImage image ++ ofCall requests limit room)) (said image)
+  module _ (y : (leb p MOST-MEMORY && leb d MOST-MEMORY) ≡ true) where
+    past-sizes : ask p d image requests limit room ≡ askedBy (firstNo 2 (ofImage image ++ ofCall requests limit room)) (said image)
     unfolding ask answers firstNo ofCall if_then_else_
-    past-sizes = rw (le-leb (length p) MOST-MEMORY g, le-leb (length (memory .cells)) MOST-MEMORY h)
+    past-sizes = rw y
 
-    pub sections-no : question2 image ≡ false → askedBy 2 m ≡ ask p image memory requests limit room
+    pub sections-no : question2 image ≡ false → askedBy 2 m ≡ ask p d image requests limit room
     unfolding firstNo askedBy if_then_else_
     sections-no e = sym (past-sizes ∙ rw e)
 
-    pub image-no : (n : ℕ) → readBy n m ≡ readImage image → (n ≡ 0 → ⊥) → askedBy n m ≡ ask p image memory requests limit room
+    pub image-no : (n : ℕ) → readBy n m ≡ readImage image → (n ≡ 0 → ⊥) → askedBy n m ≡ ask p d image requests limit room
     image-no n e z =
         let k : n ≡ firstNo 2 (ofImage image) = read-says image n m e .0 in
         let f : firstNo 2 (ofImage image ++ ofCall requests limit room) ≡ n = first-among 2 (ofImage image) (ofCall requests limit room) (λ y. z (k ∙ y)) ∙ sym k in
         asked-no n m z ∙ sym (past-sizes ∙ rw f (asked-no n (said image) z))
 
-    pub past-image : (n : ℕ) → readBy n m ≡ readImage image → n ≡ 0 → ask p image memory requests limit room ≡ askedBy (firstNo 6 (ofCall requests limit room)) m
+    pub past-image : (n : ℕ) → readBy n m ≡ readImage image → n ≡ 0 → ask p d image requests limit room ≡ askedBy (firstNo 6 (ofCall requests limit room)) m
     past-image n e z =
         let r = read-says image n m e in
         let q = past-five image (ofCall requests limit room) (none-passed 1 (ofImage image) (sym (r .0) ∙ z)) in

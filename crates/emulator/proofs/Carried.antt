@@ -15,7 +15,7 @@ use Rattle.formed.specs.Questions.{Accepted, readBy}
 use Rattle.image.specs.Image.{LONGEST, readWhere}
 use Rattle.image.specs.Earlier.{earlierIn, earlier2, readEarlier}
 use Rattle.image.proofs.Image.{earlier-extended}
-use Rattle.emulator.specs.Outcome.{ImageOutcome, imageOutcome, imageCall}
+use Rattle.emulator.specs.Outcome.{imageOutcome, imageCall}
 use Rattle.emulator.specs.Run.{firstNo}
 use Rattle.emulator.specs.CarryOver.{carriedBy, carryOverCall, earlierAnswers, CarriedAs, notRead, noRoom, written, CarryAnswers, Carried}
 use Rattle.emulator.proofs.Outcomes.{room-none, room-there}

@@ -8,7 +8,7 @@ use Rattle.word.specs.Choice.{if_then_else_}
 use Rattle.codec.specs.Number.{over}
 use Rattle.machine.specs.Machine.{Machine}
 use Rattle.image.specs.Image.{LONGEST, writeImage}
-use Rattle.emulator.specs.Outcome.{ImageOutcome, imageOutcome, imageCall}
+use Rattle.emulator.specs.Outcome.{imageOutcome, imageCall}
 
 module _ (m : Machine) (buffer : List ℕ) where
   pub room-none : length buffer < LONGEST → imageOutcome 8 buffer ≡ imageCall m buffer

@@ -144,10 +144,10 @@ read-says image n m e = said-by n (firstNo 2 (ofImage image)) m (said image) (e 
 
 module _ (p image : List ℕ) (memory : Memory) (c : Call) where
   abbrev given : List Bool
-  given = answers p image memory (c .requests) (c .limit) (length (c .buffer))
+  given = answers (length p) (length (memory .cells)) image (c .requests) (c .limit) (length (c .buffer))
 
   pub asked-yes : (m : Machine) → asked p image memory c ≡ Start m → AllYes p image memory c m
-  unfolding ask answers readBy
+  unfolding asked ask answers readBy
   asked-yes m e =
       let s = start-asked (firstNo 1 given) (said image) m e in
       go (s .1) (none-passed 0 given (s .0))
@@ -165,7 +165,7 @@ module _ (p image : List ℕ) (memory : Memory) (c : Call) where
           }
 
   yes-asked : (m : Machine) → AllYes p image memory c m → asked p image memory c ≡ Start m
-  unfolding ask answers askedBy readBy
+  unfolding asked ask answers askedBy readBy
   yes-asked m y =
       let r = read-says image 0 m (sym (y .read)) in
       let all = go (none-passed 1 (ofImage image) (sym (r .0))) in
@@ -190,7 +190,7 @@ questions p image memory c m = (asked-yes p image memory c m, yes-asked p image 
 -- ---- a call that is refused
 
 pub first-no : FirstNo
-unfolding FirstNo ask
+unfolding FirstNo asked ask
 first-no p image memory c n =
     let bs = given p image memory c in (
       λ e. (

@@ -16,9 +16,9 @@ use Rattle.effect.specs.Apply.{Transition, stopNumber, Report, reported, report
 use Rattle.step.specs.Step.{step}
 use Rattle.step.proofs.Formed.{step-formed}
 use Rattle.step.proofs.Stops.{numbered-stop, numbered-step, stop-number}
-use Rattle.emulator.specs.Run.{Call, RunResult, resultFrom, resultBy, Start, askedBy, asked, RanFor, replyOf, outcome, runCall}
+use Rattle.emulator.specs.Run.{Call, resultFrom, Start, askedBy, asked, RanFor, replyOf, RunEnd, runEnd, endOf, outcome, runCall}
 use Rattle.emulator.specs.Questions.{AllYes}
-use Rattle.emulator.specs.declared.RunEnd.{RunEnd}
+use Rattle.emulator.specs.declared.Answer.{Answer}
 use Rattle.emulator.specs.declared.Answer.the-variants.{Refusal, Ran}
 use Rattle.emulator.proofs.Loop.{at-stop, at-more}
 use Rattle.emulator.proofs.Questions.{asked-no, asked-yes}
@@ -59,11 +59,11 @@ module _ (p requests : List ℕ) (limit done q n : ℕ) (w : List ℕ) (d : Memo
 
   -- a stop: it is not counted
   pub step-stop : done < limit → (n ≡ 0 → ⊥)
-      → resultBy (record { steps = done; ending = n }) w₁ d₁ ≡ resultFrom p requests (limit - done) done (stateOf w d)
-  unfolding reported
+      → runEnd (replyOf (Ran done n)) (stateOf w₁ d₁) ≡ endOf (resultFrom p requests (limit - done) done (stateOf w d))
+  unfolding reported replyOf
   step-stop h z =
-      ap (λ (t : Report). record { steps = done; ending = t .stop; after = t .after }) same
-      ∙ sym (at-stop p requests limit done (stateOf w d) h (numbered-stop (next .kind) (λ y. z (number ∙ y))))
+      ap (λ (t : Report). runEnd (RanFor done (t .stop)) (t .after)) same
+      ∙ ap endOf (sym (at-stop p requests limit done (stateOf w d) h (numbered-stop (next .kind) (λ y. z (number ∙ y)))))
 
 -- ---- the call
 
@@ -85,15 +85,15 @@ module _ (p image : List ℕ) (memory : Memory) (c : Call) (n : ℕ) (w : List �
     pub run-formed : wellFormed (machineOf w) ≡ true
     run-formed = formed-true (accepted-formed image (machineOf w) (run-yes .read))
 
-    module _ (e : RunEnd) (w₁ : List ℕ) (d₁ : Memory) (s : resultBy e w₁ d₁ ≡ resultFrom p (c .requests) (c .limit) 0 (stateOf w memory)) where
+    module _ (r : Answer) (w₁ : List ℕ) (d₁ : Memory) (s : runEnd (replyOf r) (stateOf w₁ d₁) ≡ endOf (resultFrom p (c .requests) (c .limit) 0 (stateOf w memory))) where
       -- after the steps: the stack fits an image, and that image is the one that the call leaves
       pub run-deep : length (machineOf w₁ .stack) ≤ 12
       run-deep =
           let f = result-formed p (c .requests) (c .limit) (stateOf w memory) (accepted-formed image (machineOf w) (run-yes .read)) in
-          stacked-depth ((rw (← s) at f) .stack)
+          let left : machineOf w₁ ≡ resultFrom p (c .requests) (c .limit) 0 (stateOf w memory) .after .machine = ap (λ (e : RunEnd). e .after .machine) s in
+          rw left (stacked-depth (f .stack))
 
-      pub run-ran : outcome (replyOf (Ran (e .steps) (e .ending))) (over (writeImage (machineOf w₁)) (c .buffer)) d₁ ≡ runCall p image memory c
-      unfolding replyOf
+      pub run-ran : outcome (replyOf r) (over (writeImage (machineOf w₁)) (c .buffer)) d₁ ≡ runCall p image memory c
       run-ran =
-          ap (λ (x : RunResult). outcome (RanFor (x .steps) (x .ending)) (over (writeImage (x .after .machine)) (c .buffer)) (x .after .memory)) s
+          ap (λ (e : RunEnd). outcome (e .answer) (over (writeImage (e .after .machine)) (c .buffer)) (e .after .memory)) s
           ∙ sym (call-started p image memory c (machineOf w) started)

@@ -25,7 +25,7 @@ pub record FirstNoAt (given : List Bool) (n : ℕ) : Type 0 where
 unfoldable pub FirstNo : Type 0
 FirstNo =
     (program image : List ℕ) (memory : Memory) (c : Call) (n : ℕ)
-    → (asked program image memory c ≡ No n) ↔ FirstNoAt (answers program image memory (c .requests) (c .limit) (length (c .buffer))) n
+    → (asked program image memory c ≡ No n) ↔ FirstNoAt (answers (length program) (length (memory .cells)) image (c .requests) (c .limit) (length (c .buffer))) n
 
 -- the eight questions are all answered yes
 pub record AllYes (program image : List ℕ) (memory : Memory) (c : Call) (m : Machine) : Type 0 where

@@ -7,12 +7,10 @@ use lib.Dec.{leb}
 use Rattle.word.specs.Choice.{if_then_else_}
 use Rattle.codec.specs.Number.{numbersOf, over}
 use Rattle.machine.specs.Machine.{Machine, MOST-MEMORY, Memory, State}
-use Rattle.machine.specs.Words.{stateOf}
 use Rattle.formed.specs.Questions.{allBelow, question3, question4, question5}
 use Rattle.image.specs.Image.{LONGEST, machineIn, question2, writeImage}
 use Rattle.effect.specs.Apply.{Transition, stopNumber}
 use Rattle.step.specs.Step.{isStop, step}
-use Rattle.emulator.specs.declared.RunEnd.{RunEnd}
 use Rattle.emulator.specs.declared.Answer.{Answer}
 use Rattle.emulator.specs.declared.Answer.the-variants.{Refusal, Ran}
 
@@ -49,21 +47,17 @@ resultOf done s (t ∷ ts) =
 unfoldable pub resultFrom : (program requests : List ℕ) (left done : ℕ) → State → RunResult
 resultFrom program requests left done s = resultOf done s (run program requests left done s)
 
--- what the code's count of steps and ending say, with the machine's words and the memory after them; free places of the words (machine/Words: isFree) hold any numbers
-abbrev pub resultBy : RunEnd → (words : List ℕ) → Memory → RunResult
-resultBy e words memory = record { steps = e .steps; ending = e .ending; after = stateOf words memory }
-
 -- ---- the questions: "Asked in order; a no gives the number and does no step"
 
 -- the largest step limit
 abbrev pub MOST-STEPS : ℕ
 MOST-STEPS = 1000000
 
--- the answers to the eight questions, in order; room is the bytes of the image buffer
-unfoldable pub answers : (program image : List ℕ) → Memory → (requests : List ℕ) (limit room : ℕ) → List Bool
-answers program image memory requests limit room =
+-- the answers to the eight questions, in order; cells is the number of data cells, room the bytes of the image buffer
+unfoldable pub answers : (programBytes cells : ℕ) (image requests : List ℕ) (limit room : ℕ) → List Bool
+answers programBytes cells image requests limit room =
     let m = machineIn (numbersOf image) in
-    (leb (length program) MOST-MEMORY && leb (length (memory .cells)) MOST-MEMORY) ∷  -- 1
+    (leb programBytes MOST-MEMORY && leb cells MOST-MEMORY) ∷  -- 1
     question2 image ∷
     question3 m ∷
     question4 m ∷
@@ -88,12 +82,12 @@ unfoldable pub askedBy : (no : ℕ) → Machine → Asked
 askedBy zero m = Start m
 askedBy (suc n) m = No (suc n)
 
-unfoldable pub ask : (program image : List ℕ) → Memory → (requests : List ℕ) (limit room : ℕ) → Asked
-ask program image memory requests limit room = askedBy (firstNo 1 (answers program image memory requests limit room)) (machineIn (numbersOf image))
+unfoldable pub ask : (programBytes cells : ℕ) (image requests : List ℕ) (limit room : ℕ) → Asked
+ask programBytes cells image requests limit room = askedBy (firstNo 1 (answers programBytes cells image requests limit room)) (machineIn (numbersOf image))
 
 -- the same of a call
-abbrev pub asked : (program image : List ℕ) → Memory → Call → Asked
-asked program image memory c = ask program image memory (c .requests) (c .limit) (length (c .buffer))
+unfoldable pub asked : (program image : List ℕ) → Memory → Call → Asked
+asked program image memory c = ask (length program) (length (memory .cells)) image (c .requests) (c .limit) (length (c .buffer))
 
 -- ---- the call
 
@@ -106,6 +100,17 @@ pub data Reply : Type 0 where
 unfoldable pub replyOf : Answer → Reply
 replyOf (Refusal n) = RefusedWith n
 replyOf (Ran steps ending) = RanFor steps ending
+
+-- the answer that the steps of a call give, and the state that they leave
+pub record RunEnd : Type 0 where
+  pub answer : Reply
+  pub after : State
+
+abbrev pub runEnd : Reply → State → RunEnd
+runEnd answer after = record { answer = answer; after = after }
+
+abbrev pub endOf : RunResult → RunEnd
+endOf e = runEnd (RanFor (e .steps) (e .ending)) (e .after)
 
 -- the answer, and the lent buffer and memory after the call
 pub record Outcome : Type 0 where
@@ -157,5 +162,5 @@ transitions program image memory (c ∷ cs) =
 
 -- to unfold all of these
 unfoldable pub running : Unit {0}
-unfolding run resultOf resultFrom answers firstNo askedBy ask replyOf calledBy called runCall transitions
+unfolding run resultOf resultFrom answers firstNo askedBy ask asked replyOf calledBy called runCall transitions
 running = tt

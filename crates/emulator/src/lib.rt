@@ -5,7 +5,7 @@ ghost use Prim.Native.Nat.{_≤_};
 ghost use lib.ListN.{length, getD};
 ghost use Rattle.machine.specs.Words.{SOURCES, MachineWords, machineOf, stateOf};
 ghost use Rattle.formed.specs.Questions.{wellFormed};
-ghost use Rattle.emulator.specs.Run.{resultFrom, resultBy, ask, askedBy, replyOf, outcome, runCall};
+ghost use Rattle.emulator.specs.Run.{resultFrom, runEnd, endOf, ask, askedBy, replyOf, outcome, runCall};
 ghost use Rattle.emulator.specs.Outcome.{imageOutcome, imageCall};
 ghost use Rattle.emulator.specs.Reset.{resetCall};
 ghost use Rattle.emulator.specs.CarryOver.{carryOverCall};
@@ -19,22 +19,16 @@ pub enum Answer {
     Ran(u32, u32),
 }
 
-// How the steps of a call ended.
-pub struct RunEnd {
-    pub steps: u32,
-    // 0 for the limit, or the number of a stop.
-    pub ending: u32,
-}
-
 // The largest step limit.
 pub const MOST_STEPS: u32 = 1_000_000;
 
 // ---- the questions
 
-// Questions 1 to 8 in order: the number of the first no, or 0, and then w holds the machine that the image says. room is the bytes of the image buffer.
+// Questions 1 to 8 in order: the number of the first no, or 0, and then w holds the machine that the image says. program and room are
+// the bytes of the program and of the image buffer, cells the number of data cells.
 fn refusal(
-    program: &[u8],
-    cells: &[u32],
+    program: usize,
+    cells: usize,
     image: &[u8],
     requests: &[u32],
     limit: u32,
@@ -42,12 +36,9 @@ fn refusal(
     w: &mut [u32],
 ) -> u32
     requires { ⌜ MachineWords (now w) ⌝ }
-    ensures { λ r. ⌜ askedBy r (machineOf (now (w .exit))) ≡ ask (now (program .entry)) (now (image .entry)) (memoryOf (now (cells .entry))) (now (requests .entry)) limit room ⌝ }
+    ensures { λ r. ⌜ askedBy r (machineOf (now (w .exit))) ≡ ask program cells (now (image .entry)) (now (requests .entry)) limit room ⌝ }
 {
-    if machine::MOST_MEMORY < program.len() {
-        return 1;
-    }
-    if machine::MOST_MEMORY < cells.len() {
+    if !((program <= machine::MOST_MEMORY) & (cells <= machine::MOST_MEMORY)) {
         return 1;
     }
     if !image::sections_fit(image) {
@@ -86,25 +77,19 @@ fn run_steps(
     cells: &mut [u32],
     requests: &[u32],
     limit: u32,
-) -> RunEnd
+) -> Answer
     requires { ⌜ MachineWords (now w) × (length (now program) ≤ MOST-MEMORY) × (wellFormed (machineOf (now w)) ≡ true) ⌝ }
-    ensures { λ r. ⌜ resultBy r (now (w .exit)) (memoryOf (now (cells .exit))) ≡ resultFrom (now (program .entry)) (now (requests .entry)) limit 0 (stateOf (now (w .entry)) (memoryOf (now (cells .entry)))) ⌝ }
+    ensures { λ r. ⌜ runEnd (replyOf r) (stateOf (now (w .exit)) (memoryOf (now (cells .exit)))) ≡ endOf (resultFrom (now (program .entry)) (now (requests .entry)) limit 0 (stateOf (now (w .entry)) (memoryOf (now (cells .entry))))) ⌝ }
 {
     let mut done: u32 = 0;
     while done < limit {
         let stop = step::step(program, w, cells, request_at(requests, done as usize));
         if stop != 0 {
-            return RunEnd {
-                steps: done,
-                ending: stop,
-            };
+            return Answer::Ran(done, stop);
         }
         done += 1;
     }
-    RunEnd {
-        steps: done,
-        ending: 0,
-    }
+    Answer::Ran(done, 0)
 }
 
 // ---- the call
@@ -123,8 +108,8 @@ pub fn run(
 {
     let mut words = [0u32; machine::WORDS];
     let no = refusal(
-        program,
-        cells,
+        program.len(),
+        cells.len(),
         image,
         requests,
         limit,
@@ -134,9 +119,9 @@ pub fn run(
     if no != 0 {
         return Answer::Refusal(no);
     }
-    let end = run_steps(program, &mut words, cells, requests, limit);
+    let answer = run_steps(program, &mut words, cells, requests, limit);
     image::write(&words, buffer);
-    Answer::Ran(end.steps, end.ending)
+    answer
 }
 
 // ---- calls that only write an image
@@ -169,9 +154,10 @@ pub fn carry_over(image: &[u8], buffer: &mut [u8]) -> u32
         return 2;
     }
     let words = image::read_earlier(image);
-    let asked = formed::ask_machine(&words);
+    let w: &[u32] = &words;
+    let asked = formed::ask_machine(w);
     if asked != 0 {
         return asked;
     }
-    write_image(&words, buffer)
+    write_image(w, buffer)
 }

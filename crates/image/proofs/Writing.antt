@@ -86,21 +86,22 @@ module _ (w : List ℕ) (h : length w ≡ WORDS) (l : length (machineOf w .stack
       ∙ take-at (take size c ++ last) (drop (size + 3) c) (size + 3) n
       ∙ rw (counted-sections, ← pair ds (dividers-length w h))
 
-  -- the same of a copy of the words, and of the depth as it was read
-  module _ (v : List ℕ) (depth first second : ℕ) (same : v ≡ w) (deep : depth ≡ length (machineOf w .stack)) where
-    abbrev numbers : List ℕ
-    numbers = laid v (ENTRIES + 4 * depth) first second
+  -- by the depth as it was read
+  module _ (depth : ℕ) (deep : depth ≡ length (machineOf w .stack)) where
+    -- an image has no more numbers than there are words
+    pub image-inside : ENTRIES + 4 * depth + 3 ≤ length w
+    image-inside = omega arith
 
-    pub image-inside : ENTRIES + 4 * depth + 3 ≤ length numbers
-    image-inside = simp length-set (rw same (omega arith))
+    -- those of a list as long as the words, and the room for them
+    module _ (numbers : List ℕ) (many : length numbers ≡ length w) where
+      pub image-count : ENTRIES + 4 * depth + 3 ≡ length (take (ENTRIES + 4 * depth + 3) numbers)
+      image-count = sym (length-take-le (ENTRIES + 4 * depth + 3) numbers (rw many image-inside))
 
-    pub image-count : ENTRIES + 4 * depth + 3 ≡ length (take (ENTRIES + 4 * depth + 3) numbers)
-    image-count = sym (length-take-le (ENTRIES + 4 * depth + 3) numbers image-inside)
+      pub image-room : (s : List ℕ) → imageBytes (length (machineOf w .stack)) ≤ length s → 4 * length (take (ENTRIES + 4 * depth + 3) numbers) ≤ length s
+      image-room s r = rw (← image-count) (omega arith)
 
-    pub image-room : (s : List ℕ) → imageBytes (length (machineOf w .stack)) ≤ length s → 4 * length (take (ENTRIES + 4 * depth + 3) numbers) ≤ length s
-    image-room s r = rw (← image-count) (omega arith)
-
-    pub image-written : (s b : List ℕ) → first ≡ getD (machineOf w .dividers) 0 0 → second ≡ getD (machineOf w .dividers) 1 0
-        → b ≡ over (bytesOf (take (ENTRIES + 4 * depth + 3) numbers)) s → b ≡ over (writeImage (machineOf w)) s
+    -- stored into a copy of the words they are the image's
+    pub image-written : (v : List ℕ) (first second : ℕ) → v ≡ w → first ≡ getD (machineOf w .dividers) 0 0 → second ≡ getD (machineOf w .dividers) 1 0
+        → (s b : List ℕ) → b ≡ over (bytesOf (take (ENTRIES + 4 * depth + 3) (laid v (ENTRIES + 4 * depth) first second))) s → b ≡ over (writeImage (machineOf w)) s
     unfolding writeImage
-    image-written s b e f g = g ∙ rw (same, deep, e, f) (ap (λ (l : List ℕ). over (bytesOf l) s) image-numbers)
+    image-written v first second same e f s b g = g ∙ rw (same, deep, e, f) (ap (λ (l : List ℕ). over (bytesOf l) s) image-numbers)

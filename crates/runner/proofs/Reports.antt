@@ -1,17 +1,18 @@
 -- Laws of the report. Assumes nothing.
 use mathlib.Core.Path.{_≡_, refl, sym, ap, _∙_}
+use mathlib.Core.Bool.{true, false, _&&_}
 use mathlib.Core.List.{List, [], _++_}
 use Prim.Native.Nat.{ℕ, _≤_, _<_}
 use native.Mathlib.Omega.{arith}
 use lib.ListN.{length, getD, take, drop, replicate, List·getD-append}
 use lib.Seq.{length-take-le, take-all}
 use lib.Dec.{leb, lit<, lit≤}
-use borrow.Author.Tests.{leb-true, leb-false}
+use borrow.Author.Tests.{leb-true, leb-false, le-leb, lt-leb}
 use Rattle.word.specs.Choice.{if_then_else_}
 use Rattle.word.proofs.Tests.{either}
 use Rattle.codec.specs.Number.{numbersOf, over}
 use Rattle.codec.proofs.Laws.{numbersOf-bytesOf, numbersOf-append}
-use Rattle.machine.specs.Machine.{Machine, Memory}
+use Rattle.machine.specs.Machine.{Machine, MOST-MEMORY, Memory}
 use Rattle.machine.specs.Control.{reset}
 use Rattle.machine.specs.Words.{PLACES, positionOf}
 use Rattle.machine.proofs.Flat.{section-at}
@@ -23,7 +24,7 @@ use Rattle.image.proofs.Image.{image-length, imageNumbers-below, reset-accepted
 use Rattle.emulator.specs.Run.{No, askedBy, asked, Reply, Outcome, outcome, runCall, stateWith, resultFrom}
 use Rattle.emulator.specs.Questions.{AllYes, Questions}
 use Rattle.emulator.proofs.Questions.{questions}
-use Rattle.emulator.proofs.Asked.{program-no, past-image, limit-no}
+use Rattle.emulator.proofs.Asked.{sizes-no, past-image, limit-no}
 use Rattle.emulator.proofs.Closed.{result-formed}
 use Rattle.emulator.proofs.Answers.{call-refused, call-started}
 use Rattle.console.specs.Digits.{digitOf, digitsOf, placesFrom}
@@ -56,16 +57,18 @@ unfolding reportOf outcomeOf answerText
 report-refused code text n e = rw (call-refused code (writeImage reset) zeroMemory (callOf text) n e)
 
 pub report-long : ReportLong
-unfolding ReportLong askedBy if_then_else_ refusalText digitsOf digitOf placesFrom
+unfolding ReportLong asked askedBy if_then_else_ refusalText digitsOf digitOf placesFrom
 report-long code text h =
     let c = callOf text in
-    report-refused code text 1 (sym (program-no code (writeImage reset) zeroMemory (c .requests) (c .limit) (length (c .buffer)) reset h))
+    let no : (leb (length code) MOST-MEMORY && leb (length (zeroMemory .cells)) MOST-MEMORY) ≡ false = rw (lt-leb (length code) MOST-MEMORY h) in
+    report-refused code text 1 (sym (sizes-no (length code) (length (zeroMemory .cells)) (writeImage reset) (c .requests) (c .limit) (length (c .buffer)) reset no))
 
 pub report-unlimited : ReportUnlimited
-unfolding ReportUnlimited askedBy readBy callOf allBelow if_then_else_ refusalText digitsOf digitOf placesFrom
+unfolding ReportUnlimited asked askedBy readBy callOf allBelow if_then_else_ refusalText digitsOf digitOf placesFrom
 report-unlimited code text h l =
+    let yes : (leb (length code) MOST-MEMORY && leb (length (zeroMemory .cells)) MOST-MEMORY) ≡ true = rw (le-leb (length code) MOST-MEMORY h) in
     report-refused code text 7
-    (past-image code (writeImage reset) zeroMemory [] (limitOf text) LONGEST reset h (lit≤ tt) 0 (sym reset-accepted) refl
+    (past-image (length code) (length (zeroMemory .cells)) (writeImage reset) [] (limitOf text) LONGEST reset yes 0 (sym reset-accepted) refl
     ∙ sym (limit-no [] (limitOf text) LONGEST reset refl l))
 
 -- ---- a call that runs

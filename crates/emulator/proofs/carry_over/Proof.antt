@@ -49,11 +49,11 @@ returns-2 : tie.Need-returns-2
 returns-2 c = carried-refused _ _ _ _ (said (c .before)) (c .if2 .taken)
 
 write-image-requires : tie.Need-write-image-requires
-write-image-requires c κs = (search needs, deep (reading (c .before .before .before)))
+write-image-requires c κs = (search needs, deep (reading (c .before .before)))
 
 returns-3 : tie.Need-returns-3
 returns-3 c =
-    let accepted = c .before .before .before .before .before in
+    let accepted = c .before .before .before .before in
     c .before .before .write-image .ensures ∙ carried-accepted _ _ _ _ (said (accepted .before)) (accepted .if2 .left)
 
 pub carry-over-spec : {M : Type 1} → statement M
@@ -66,7 +66,6 @@ carry-over-spec =
     (λ c. search needs)
     ask-machine-requires
     returns-2
-    (λ c. search needs)
     write-image-requires
     (λ c. search needs)
     returns-3)

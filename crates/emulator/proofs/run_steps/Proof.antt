@@ -1,5 +1,5 @@
 -- `run_steps` meets its contract: what is left of the limit goes on from the state as the whole limit does from the first. Assumes nothing.
-use mathlib.Core.Path.{_≡_, sym, _∙_}
+use mathlib.Core.Path.{_≡_, sym, ap, _∙_}
 use mathlib.Core.Bool.{true}
 use Prim.Native.Nat.{_-_, _≤_}
 use native.Mathlib.Nat.{sub-zero}
@@ -7,7 +7,7 @@ use lib.ListN.{length}
 use borrow.Author.Needs.{needs}
 use Rattle.machine.specs.Words.{machineOf, stateOf}
 use Rattle.formed.specs.Questions.{wellFormed}
-use Rattle.emulator.specs.Run.{resultFrom}
+use Rattle.emulator.specs.Run.{resultFrom, replyOf, endOf}
 use Rattle.emulator.proofs.Loop.{at-end}
 use Rattle.emulator.proofs.Running.{step-kept, step-more, step-stop}
 use Rattle.emulator.proofs.run_steps.Statement.{statement}
@@ -34,7 +34,7 @@ returns c =
     let stepped = c .before .before .before .before .before in
     let top = stepped .before .before .before .before .before in
     step-stop _ _ _ _ _ _ _ _ _ _ (stepped .before .request-at .ensures) (stepped .step .ensures) (stepped .before .before .before .before .loop-test .taken) (c .if1 .taken)
-    ∙ top .loop .inv .1 .1
+    ∙ ap endOf (top .loop .inv .1 .1)
 
 loop-again : tie.Need-loop-again Inv-loop μ-loop
 loop-again c =
@@ -49,7 +49,8 @@ loop-again c =
     )
 
 returns-2 : tie.Need-returns-2 Inv-loop μ-loop
-returns-2 c = sym (at-end _ _ _ _ _ (c .loop-test .left)) ∙ c .before .loop .inv .1 .1
+unfolding replyOf
+returns-2 c = ap endOf (sym (at-end _ _ _ _ _ (c .loop-test .left)) ∙ c .before .loop .inv .1 .1)
 
 pub run-steps-spec : {M : Type 1} → statement M
 run-steps-spec =
