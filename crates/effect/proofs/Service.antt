@@ -15,12 +15,6 @@ use Rattle.machine.specs.declared.Entry.{Entry}
 use Rattle.machine.proofs.Flat.{control-length}
 use Rattle.machine.proofs.Stack.{shown-flags}
 
--- INT_SERV has the flags of the sources in service
-pub shown-served : (w : List ℕ) → length w ≡ WORDS → StackShown (machineOf w) → controlAt (machineOf w) INT-SERV ≡ serviceFlags (machineOf w .stack)
-shown-served w h s =
-    let m = machineOf w in
-    ap (λ l. getD l INT-SERV 0) (sym (s .shown)) ∙ shown-flags (m .stack) (m .control) (control-length w h)
-
 popped-none : (es : List Entry) → length es ≤ 0 → popped es ≡ es
 unfolding popped
 popped-none [] h = refl

@@ -8,8 +8,8 @@ use lib.Dec.{eqb}
 use Rattle.word.specs.Choice.{if_then_else_}
 use Rattle.isa.specs.Decode.{wordBytes}
 use Rattle.machine.specs.Machine.{Machine, Memory, memoryOf, State, SPSR, LINK, SUPER, psr, userMode, readsSet2, writesSet2, wideWords, interruptsEnabled, widthOf, statusOf, positionAt, withSet2, written, withConditions, withControl, withPosition, withPsr}
-use Rattle.machine.specs.Control.{controlAt, storeControl, EXCEPTION-CS, EXCEPTION-PC, EXCEPTION-PSR, SYSTEM-ADDR, EXCEP-ADDR}
-use Rattle.machine.specs.Stack.{popped, shownTop, withStack}
+use Rattle.machine.specs.Control.{controlAt, EXCEPTION-CS, EXCEPTION-PC, EXCEPTION-PSR, SYSTEM-ADDR, EXCEP-ADDR}
+use Rattle.machine.specs.Stack.{popped, shownTop, withStack, storeControl}
 use Rattle.machine.specs.Words.{stateOf}
 use Rattle.machine.specs.declared.Position.{Position}
 use Rattle.machine.specs.declared.Entry.{Entry}

@@ -338,7 +338,7 @@ pub fn conditions(w: &mut [u32], x: u32) -> u32
 
 // A register of the control block is stored to.
 pub fn store_control(w: &mut [u32], n: u32, x: u32) -> u32
-    requires { ⌜ MachineWords (now w) ⌝ }
+    requires { ⌜ MachineWords (now w) × StackShown (machineOf (now w)) ⌝ }
     ensures { λ r. ⌜ Performs (StoreControl n x) r (now (w .entry)) (now (w .exit)) ⌝ }
 {
     machine::store_control(w, n, x);

@@ -66,7 +66,7 @@ fn immediate_word(w: &mut [u32], word: u32, op: u32) -> u32
 
 // Words of operations 27 and 28, ld and st: told apart first, then decoded alike.
 fn access_word(w: &mut [u32], cells: &mut [u32], word: u32, op: u32) -> u32
-    requires { ⌜ MachineWords (now w) × (op ≡ opcodeOf (widthOf (psr (machineOf (now w)))) word) × (27 ≤ op) × (op ≤ 28) ⌝ }
+    requires { ⌜ MachineWords (now w) × StackShown (machineOf (now w)) × (op ≡ opcodeOf (widthOf (psr (machineOf (now w)))) word) × (27 ≤ op) × (op ≤ 28) ⌝ }
     ensures { λ r. ⌜ PerformsStoring (λ v. fetchedThen v (Found word)) r (now (w .entry)) (now (cells .entry)) (now (w .exit)) (now (cells .exit)) ⌝ }
 {
     let is_load = op < 28;

@@ -8,14 +8,14 @@ use lib.ListN.{getD, set}
 use lib.Seq.{getD-set-same, getD-set-other}
 use lib.Dec.{lit<}
 use Rattle.machine.specs.Machine.{Machine, PSR, psr, positionAt, withSet1, withSet2, withConditions, withControl, withPosition, withDividers, withPsr}
-use Rattle.machine.specs.Control.{registerAt, isWritable, storeControl}
+use Rattle.machine.specs.Control.{registerAt, isWritable, replacesTop, storeRegister}
 use Rattle.machine.specs.Words.{REGISTERS, FLAGS, TIMERS}
-use Rattle.machine.specs.Stack.{withStack}
+use Rattle.machine.specs.Stack.{withStack, returnStored, topStored, storeControl}
 use Rattle.word.proofs.Tests.{if-holds}
 use Rattle.machine.specs.declared.Position.{Position}
 use Rattle.machine.specs.declared.Entry.{Entry}
-use Rattle.formed.proofs.Formed.{Sized, sized-set, StatusOk, Placed, Stacked, WellFormed}
-use Rattle.formed.proofs.Stored.{Control, control-of, control-kept, control-shown}
+use Rattle.formed.proofs.Formed.{Sized, sized-set, StatusOk, Placed, Stacked, empty, pushed, WellFormed}
+use Rattle.formed.proofs.Stored.{Control, control-of, control-kept, entry-stored, control-shown}
 
 -- ---- register set 2, which has PSR
 
@@ -79,10 +79,6 @@ module _ {m : Machine} where
   unfolding withControl
   control-formed {l} k f = formed (withControl l m) (f .set1) (second-of f) (f .conditions) k (f .position) (f .stack) (f .dividers)
 
-  pub stored-formed : (n x : ℕ) → WellFormed m → WellFormed (storeControl n x m)
-  unfolding storeControl
-  stored-formed n x f = if-holds WellFormed (isWritable (registerAt n .access)) (λ e. control-formed (control-kept n x e (control-of f)) f) (λ _. f)
-
   pub position-formed : {q : Position} → Placed q → WellFormed m → WellFormed (withPosition q m)
   unfolding withPosition
   position-formed {q} p f = formed (withPosition q m) (f .set1) (second-of f) (f .conditions) (control-of f) p (f .stack) (f .dividers)
@@ -90,6 +86,17 @@ module _ {m : Machine} where
   pub stack-formed : {es : List Entry} → Stacked es → WellFormed m → WellFormed (withStack es m)
   unfolding withStack
   stack-formed {es} s f = formed (withStack es m) (f .set1) (second-of f) (f .conditions) (control-shown s (f .control)) (f .position) s (f .dividers)
+
+  top-formed : (n x : ℕ) {es : List Entry} → Stacked es → WellFormed m → WellFormed (topStored n x es m)
+  unfolding topStored returnStored
+  top-formed n x empty f = f
+  top-formed n x (pushed k new s) f = stack-formed (pushed (entry-stored n x k) new s) f
+
+  pub stored-formed : (n x : ℕ) → WellFormed m → WellFormed (storeControl n x m)
+  unfolding storeControl storeRegister
+  stored-formed n x f =
+      if-holds WellFormed (replacesTop (registerAt n .access)) (λ _. top-formed n x (f .stack) f)
+      (λ _. if-holds WellFormed (isWritable (registerAt n .access)) (λ e. control-formed (control-kept n x e (control-of f)) f) (λ _. f))
 
   pub dividers-formed : {l : List ℕ} → Sized TIMERS 256 l → WellFormed m → WellFormed (withDividers l m)
   unfolding withDividers

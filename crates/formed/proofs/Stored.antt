@@ -4,17 +4,20 @@ use mathlib.Core.Bool.{Bool, true, false, true≢false, not}
 use mathlib.Core.List.{List, [], _∷_}
 use Prim.Native.Nat.{ℕ, _^_, _<_}
 use native.Mathlib.Omega.{arith}
+use native.Mathlib.Nat.{mod-lt}
 use lib.ListN.{getD, set}
 use lib.Seq.{getD-set-other}
-use lib.Dec.{lit<}
+use lib.Dec.{eqb, lit<}
 use Rattle.word.specs.Flags.{isAmong}
+use Rattle.word.proofs.Tests.{if-holds}
 use Rattle.machine.specs.Machine.{Machine, userMode}
 use Rattle.machine.specs.Control.{registers, registerAt, holdsAs, canHold, keptBy, isWritable, INT-SERV, RETI-ADDR, RETI-PSR, RETI-CR0}
-use Rattle.machine.specs.Stack.{popped, serviceFlags, shownTop, showStack}
+use Rattle.machine.specs.Stack.{popped, serviceFlags, shownTop, showStack, keptStatus, returnStored}
 use Rattle.machine.specs.declared.Entry.{Entry}
+use Rattle.machine.proofs.Bits.{kept-status-fits}
 use Rattle.machine.proofs.Registers.{plain-holds, kept-holds}
 use Rattle.machine.proofs.Stack.{shown-flags, shown-address, shown-psr, shown-c0}
-use Rattle.formed.proofs.Formed.{Registers, registers-set, StatusOk, Stacked, empty, pushed, stacked-flags, WellFormed}
+use Rattle.formed.proofs.Formed.{Registers, registers-set, StatusOk, EntryOk, Stacked, empty, pushed, stacked-flags, WellFormed}
 
 -- a control block that shows a stack
 pub record Control (es : List Entry) (l : List ℕ) : Type 0 where
@@ -67,6 +70,22 @@ pub control-kept : {es : List Entry} {l : List ℕ} (n x : ℕ) → isWritable (
 unfolding registerAt registers isWritable
 control-kept n x e c =
     control-set (λ j. not (isWritable (registerAt j .access))) n (keptBy (registerAt n) x) (refl, refl, refl, refl) (ap not e) (kept-holds (registerAt n) x e) c
+
+-- ---- a store to a RETI_ register
+
+kept-status : (x : ℕ) → StatusOk (keptStatus x)
+kept-status x = record { small = kept-status-fits x .0; sets = kept-status-fits x .1 }
+
+-- the entry is still a good one
+pub entry-stored : (n x : ℕ) {e : Entry} → EntryOk e → EntryOk (returnStored n x e)
+unfolding returnStored
+entry-stored n x {e} k =
+    record {
+      source = k .source;
+      address = if-holds (λ a. a < 2 ^ 32) (eqb n RETI-ADDR) (λ _. mod-lt x (lit< tt)) (λ _. k .address);
+      status = if-holds StatusOk (eqb n RETI-PSR) (λ _. kept-status x) (λ _. k .status);
+      c0 = if-holds (λ c. c < 8) (eqb n RETI-CR0) (λ _. mod-lt x (lit< tt)) (λ _. k .c0);
+    }
 
 -- ---- the stack shown
 

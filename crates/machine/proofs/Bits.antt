@@ -1,13 +1,16 @@
--- The status by its bits: below 32, and each bit is the one it was made of. Assumes nothing.
-use mathlib.Core.Path.{_≡_, refl, _∙_}
-use mathlib.Core.Bool.{Bool, true, false}
+-- The status by its bits: below 32, and each bit is the one it was made of; what RETI_PSR keeps. Assumes nothing.
+use mathlib.Core.Path.{_≡_, refl, sym, _∙_}
+use mathlib.Core.Bool.{Bool, true, false, true≢false}
 use Prim.Native.Nat.{ℕ, zero, suc, _+_, _*_, _/_, _%_, _^_, _<_}
 use native.Mathlib.Omega.{arith}
-use native.Mathlib.Nat.{div-div-eq-div-mul}
+use native.Mathlib.Nat.{div-div-eq-div-mul, mod-lt}
 use lib.Dec.{eqb, lit<}
+use Rattle.word.specs.Choice.{if_then_else_}
 use Rattle.word.specs.Word.{bitOf}
+use Rattle.word.proofs.Tests.{if-holds}
 use Rattle.machine.specs.Machine.{userMode, readsSet2, writesSet2, statusOf}
-use Rattle.machine.specs.Theorems.{SuperIs}
+use Rattle.machine.specs.Stack.{keptStatus}
+use Rattle.machine.specs.Theorems.{SuperIs, KeptStatusFits, WorkedStatus}
 
 bit-small : (b : Bool) → bitOf b < 2
 bit-small true = lit< tt
@@ -60,3 +63,19 @@ status-kept q wide enabled =
     let b = is-bit (q / 2 ^ 1 % 2) (omega arith) in
     let c = is-bit (q / 2 ^ 2 % 2) (omega arith) in
     rw (a, b, c) (bits-low q))
+
+-- ---- what RETI_PSR keeps
+
+low-user : (x : ℕ) → userMode (x % 32) ≡ userMode x
+low-user x = let e : x % 32 / 2 ^ 0 % 2 ≡ x / 2 ^ 0 % 2 = omega arith in rw e
+
+pub kept-status-fits : KeptStatusFits
+unfolding keptStatus
+kept-status-fits x =
+    if-holds (λ q. (q < 32) × (userMode q ≡ true → q % 8 ≡ 1)) (userMode x)
+    (λ _. (status-small _ _ _ _ _, λ _. status-low _ _ _ _ _))
+    (λ u. (mod-lt x (lit< tt), λ e. absurd (true≢false (sym e ∙ low-user x ∙ u))))
+
+pub worked-status : WorkedStatus
+unfolding keptStatus statusOf if_then_else_
+worked-status = refl

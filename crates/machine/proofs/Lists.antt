@@ -4,8 +4,9 @@ use mathlib.Core.Logic.{_≢_}
 use mathlib.Core.Bool.{Bool, true, false}
 use mathlib.Core.List.{List, [], _∷_}
 use mathlib.Core.Option.{Option, none, some}
-use Prim.Native.Nat.{ℕ, zero, suc}
+use Prim.Native.Nat.{ℕ, zero, suc, _<_}
 use native.Mathlib.Omega.{arith}
+use native.Mathlib.Nat.{not-suc-le-zero, le-of-suc-le-suc}
 use lib.ListN.{length, getD, set, getElem?}
 use lib.Seq.{getD-set-same, getD-set-other}
 use lib.Dec.{ltb, eqb, eqb·zero-suc, eqb·suc-zero, eqb·suc-suc}
@@ -17,6 +18,21 @@ get-same l i x h = getD-set-same l i x 0 (ltb-true i (length l) h)
 
 pub get-other : (l : List ℕ) (i j x : ℕ) → eqb j i ≡ false → getD (set l i x) j 0 ≡ getD l j 0
 get-other l i j x h = getD-set-other l i j x 0 (eqb-false j i h)
+
+-- a place set twice, and two places in their order
+pub set-again : (l : List ℕ) (i x y : ℕ) → set (set l i x) i y ≡ set l i y
+set-again [] i x y = refl
+set-again (z ∷ l) zero x y = refl
+set-again (z ∷ l) (suc i) x y = ap (λ k. z ∷ k) (set-again l i x y)
+
+pub set-ordered : (l : List ℕ) (i j x y : ℕ) → ltb j i ≡ true → set (set l i x) j y ≡ set (set l j y) i x
+set-ordered l i j x y h = go l i j (ltb-true j i h)
+  where
+    go : (l : List ℕ) (i j : ℕ) → j < i → set (set l i x) j y ≡ set (set l j y) i x
+    go [] i j h = refl
+    go (z ∷ l) zero j h = absurd (not-suc-le-zero h)
+    go (z ∷ l) (suc i) zero h = refl
+    go (z ∷ l) (suc i) (suc j) h = ap (λ k. z ∷ k) (go l i j (le-of-suc-le-suc h))
 
 -- what holds of each number by its place still does
 pub each-set : (P : ℕ → ℕ → Type 0) (l : List ℕ) (i x : ℕ) → ((j : ℕ) → P j (getD l j 0)) → P i x → (j : ℕ) → P j (getD (set l i x) j 0)

@@ -9,7 +9,7 @@ use lib.ListN.{List·getD-eq-default}
 use lib.Pow.{pow-pos, pow-mono}
 use lib.Dec.{leb, ltb}
 use borrow.Author.Tests.{leb-true, ltb-true, lt-ltb, eq-eqb}
-use Rattle.machine.specs.Control.{Access, writable, readOnly, constant, Register, registers, registerAt, holdsAs, canHold, keptBy, isWritable}
+use Rattle.machine.specs.Control.{Access, writable, stackTop, readOnly, constant, Register, registers, registerAt, holdsAs, canHold, keptBy, isWritable}
 use Rattle.machine.specs.Theorems.{RegistersCount, KeptHolds}
 use Rattle.word.specs.Flags.{isAmong}
 use Rattle.word.proofs.Tests.{and-parts, and-both}
@@ -31,6 +31,7 @@ plain-holds r x z a h =
 writable-holds : (a : Access) (reset x : ℕ) → isWritable a ≡ true → holdsAs a reset x ≡ true
 unfolding holdsAs isWritable
 writable-holds writable reset x w = refl
+writable-holds stackTop reset x w = refl
 writable-holds readOnly reset x w = refl
 writable-holds constant reset x w = absurd (true≢false (sym w))
 

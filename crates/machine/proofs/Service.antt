@@ -1,16 +1,20 @@
--- The top of a stack of different sources below 12, when it is popped. Assumes nothing.
-use mathlib.Core.Path.{_≡_, sym}
+-- The top of a stack of different sources below 12, when it is popped or a part of it replaced. Assumes nothing.
+use mathlib.Core.Path.{_≡_, refl, sym, ap, _∙_}
 use mathlib.Core.Bool.{true}
 use mathlib.Core.List.{List, [], _∷_}
-use Prim.Native.Nat.{_≤_, _<_}
+use Prim.Native.Nat.{ℕ, _≤_, _<_}
 use native.Mathlib.Omega.{arith}
 use native.Mathlib.Nat.{not-suc-le-zero}
-use lib.ListN.{length}
+use lib.ListN.{length, getD}
 use Rattle.word.specs.Flags.{withoutFlag, distinctBelow}
 use Rattle.word.proofs.Flags.{distinct-first}
-use Rattle.machine.specs.Stack.{popped, sourcesOf, serviceFlags, shownTop}
+use Rattle.machine.specs.Machine.{Machine}
+use Rattle.machine.specs.Control.{controlAt, INT-SERV}
+use Rattle.machine.specs.Stack.{popped, sourcesOf, serviceFlags, shownTop, withStack, StackShown, returnStored, topStored}
+use Rattle.machine.specs.Words.{WORDS, machineOf}
 use Rattle.machine.specs.declared.Entry.{Entry}
-use Rattle.machine.proofs.Stack.{flags-popped}
+use Rattle.machine.proofs.Flat.{control-length}
+use Rattle.machine.proofs.Stack.{flags-popped, shown-flags, stack-again}
 
 pub top-below : (es : List Entry) → distinctBelow 12 (sourcesOf es) ≡ true → 0 < length es → shownTop es .source < 12
 unfolding sourcesOf shownTop
@@ -28,3 +32,36 @@ pub length-popped : (es : List Entry) → length (popped es) ≤ length es
 unfolding popped
 length-popped [] = omega arith
 length-popped (e ∷ es) = omega arith
+
+-- ---- a part of the top replaced
+
+-- INT_SERV has the flags of the sources in service
+pub shown-served : (w : List ℕ) → length w ≡ WORDS → StackShown (machineOf w) → controlAt (machineOf w) INT-SERV ≡ serviceFlags (machineOf w .stack)
+shown-served w h s =
+    let m = machineOf w in
+    ap (λ l. getD l INT-SERV 0) (sym (s .shown)) ∙ shown-flags (m .stack) (m .control) (control-length w h)
+
+module _ (offset x : ℕ) (m : Machine) where
+  -- with an empty stack a store is ignored
+  pub none-stored : (es : List Entry) → length es ≡ 0 → topStored offset x es m ≡ m
+  unfolding topStored
+  none-stored [] h = refl
+  none-stored (e ∷ es) h = absurd (omega arith)
+
+  again : (es : List Entry) → 0 < length es → withStack (returnStored offset x (shownTop es) ∷ popped es) (withStack (popped es) m) ≡ topStored offset x es m
+  unfolding topStored shownTop popped
+  again [] h = absurd (not-suc-le-zero h)
+  again (e ∷ es) h = stack-again (returnStored offset x e ∷ es) es m
+
+  -- else the entry is popped, and pushed with the part replaced
+  pub some-stored : (k last : Machine) (e top : Entry) → 0 < length (m .stack) → k ≡ withStack (popped (m .stack)) m → top ≡ shownTop (m .stack)
+      → e ≡ returnStored offset x top → last ≡ withStack (e ∷ k .stack) k → last ≡ topStored offset x (m .stack) m
+  unfolding withStack
+  some-stored k last e top h a b c d = rw (d, c, b, a) (again (m .stack) h)
+
+  -- its source stays
+  pub stored-distinct : (es : List Entry) → 0 < length es → distinctBelow 12 (sourcesOf es) ≡ true
+      → distinctBelow 12 (sourcesOf (returnStored offset x (shownTop es) ∷ popped es)) ≡ true
+  unfolding sourcesOf shownTop popped returnStored
+  stored-distinct [] h d = absurd (not-suc-le-zero h)
+  stored-distinct (e ∷ es) h d = d

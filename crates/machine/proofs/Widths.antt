@@ -13,8 +13,10 @@ use borrow.Author.Tests.{ltb-true, ltb-false, eqb-true, le-leb, lt-leb, le-ltb, 
 use Rattle.word.specs.Choice.{if_then_else_}
 use Rattle.word.specs.Flags.{isAmong}
 use Rattle.word.proofs.Tests.{and-parts, either}
-use Rattle.machine.specs.Control.{Register, registers, registerAt, largest, holdsAs, keptBy, isWritable, storeControl}
+use Rattle.machine.specs.Control.{Access, writable, stackTop, readOnly, constant, Register, registers, registerAt, largest, holdsAs, keptBy, isWritable, replacesTop, storeRegister, RETURNS}
 use Rattle.machine.specs.Machine.{Machine, withControl}
+use Rattle.machine.specs.Stack.{topStored, storeControl}
+use Rattle.machine.specs.Theorems.{OtherStores}
 
 -- ---- a test of the numbers below k
 
@@ -36,7 +38,7 @@ abbrev pub Avoids : (ns : List ℕ) (n : ℕ) → Type 0
 Avoids [] n = Unit {0}
 Avoids (k ∷ ks) n = Avoids ks n × (n ≡ k → ⊥)
 
-avoids-among : (ks : List ℕ) (n : ℕ) → Avoids ks n → isAmong n ks ≡ false
+pub avoids-among : (ks : List ℕ) (n : ℕ) → Avoids ks n → isAmong n ks ≡ false
 unfolding isAmong
 avoids-among [] n h = refl
 avoids-among (k ∷ ks) n h = rw (ne-eqb k n (λ e. h .1 (sym e))) (avoids-among ks n (h .0))
@@ -71,6 +73,12 @@ wide n h =
 abbrev pub readOnlys : List ℕ
 readOnlys = 0x19 ∷ 0x18 ∷ 0x17 ∷ 0x14 ∷ 0x13 ∷ []
 
+same : (a b : Bool) → Bool·beq a b ≡ true → a ≡ b
+same true true e = refl
+same true false e = sym e
+same false true e = e
+same false false e = refl
+
 pub writable-below : (n : ℕ) → Avoids readOnlys n → ltb n 0x28 ≡ isWritable (registerAt n .access)
 unfolding holdsBelow isAmong registerAt registers isWritable
 writable-below n h = same _ _ (otherwise readOnlys (λ n. Bool·beq (ltb n 0x28) (isWritable (registerAt n .access))) refl high n h)
@@ -78,11 +86,13 @@ writable-below n h = same _ _ (otherwise readOnlys (λ n. Bool·beq (ltb n 0x28)
     high : (n : ℕ) → 45 ≤ n → Bool·beq (ltb n 0x28) (isWritable (registerAt n .access)) ≡ true
     high n l = rw (le-ltb n 0x28 (omega arith), beyond n l)
 
-    same : (a b : Bool) → Bool·beq a b ≡ true → a ≡ b
-    same true true e = refl
-    same true false e = sym e
-    same false true e = e
-    same false false e = refl
+-- the registers that show a part of the stack's top
+pub top-registers : (n : ℕ) → replacesTop (registerAt n .access) ≡ isAmong n RETURNS
+unfolding holdsBelow isAmong registerAt registers replacesTop
+top-registers n = same _ _ (otherwise [] (λ n. Bool·beq (replacesTop (registerAt n .access)) (isAmong n RETURNS)) refl high n tt)
+  where
+    high : (n : ℕ) → 45 ≤ n → Bool·beq (replacesTop (registerAt n .access)) (isAmong n RETURNS) ≡ true
+    high n l = rw (beyond n l, avoids-among RETURNS n (((tt, λ e. omega arith), λ e. omega arith), λ e. omega arith))
 
 -- no register but CCB_BASE has bits that are stored 0
 pub no-zeros : (n : ℕ) → (n ≡ 0 → ⊥) → registerAt n .zeros ≡ 0
@@ -110,14 +120,32 @@ writable-small n h =
     either (ltb n 45) (ltb-true n 45)
     (λ p. absurd (let z : _≡_ {A = ℕ} 0 1 = cc (rw (beyond n (ltb-false n 45 p)) at h) in omega arith))
 
-pub stored-writable : (n x : ℕ) (m : Machine) → isWritable (registerAt n .access) ≡ true
-    → storeControl n x m ≡ withControl (set (m .control) n (keptBy (registerAt n) x)) m
-unfolding storeControl if_then_else_
-stored-writable n x m h = rw h
+writable-apart : (a : Access) → isWritable a ≡ true → replacesTop a ≡ false
+unfolding isWritable replacesTop
+writable-apart writable h = refl
+writable-apart stackTop h = sym h
+writable-apart readOnly h = refl
+writable-apart constant h = refl
 
-pub stored-ignored : (n x : ℕ) (m : Machine) → isWritable (registerAt n .access) ≡ false → storeControl n x m ≡ m
-unfolding storeControl if_then_else_
-stored-ignored n x m h = rw h
+module _ (n x : ℕ) (m : Machine) where
+  pub stored-writable : isWritable (registerAt n .access) ≡ true → storeControl n x m ≡ withControl (set (m .control) n (keptBy (registerAt n) x)) m
+  unfolding storeControl storeRegister if_then_else_
+  stored-writable h = rw (writable-apart (registerAt n .access) h, h)
+
+  pub stored-top : replacesTop (registerAt n .access) ≡ true → storeControl n x m ≡ topStored n x (m .stack) m
+  unfolding storeControl if_then_else_
+  stored-top h = rw h
+
+  stored-other : replacesTop (registerAt n .access) ≡ false → storeControl n x m ≡ storeRegister n x m
+  unfolding storeControl if_then_else_
+  stored-other h = rw h
+
+  pub stored-ignored : isWritable (registerAt n .access) ≡ false → replacesTop (registerAt n .access) ≡ false → storeControl n x m ≡ m
+  unfolding storeRegister if_then_else_
+  stored-ignored h t = stored-other t ∙ rw h
+
+pub other-stores : OtherStores
+other-stores n x m h = stored-other n x m (top-registers n ∙ h)
 
 -- ---- question 3
 

@@ -8,8 +8,8 @@ ghost use lib.ListN.{length, getD, set};
 ghost use Rattle.word.specs.Word.{bitAt};
 ghost use Rattle.word.specs.Flags.{distinctBelow};
 ghost use Rattle.machine.specs.Machine.{psr, userMode, readsSet2, writesSet2, wideWords, interruptsEnabled, statusOf, SUPER, setBy, withRegister, written, withPsr, withConditions, withControl, withPosition, withDividers};
-ghost use Rattle.machine.specs.Control.{registerAt, controlAt, largest, keptBy, isWritable, storeControl, within, INT-SERV, reset as resetOf};
-ghost use Rattle.machine.specs.Stack.{popped, sourcesOf, serviceFlags, shownTop, showTop, withStack};
+ghost use Rattle.machine.specs.Control.{registerAt, controlAt, largest, keptBy, isWritable, replacesTop, within, INT-SERV, reset as resetOf};
+ghost use Rattle.machine.specs.Stack.{popped, sourcesOf, serviceFlags, shownTop, showTop, withStack, StackShown, keptStatus, returnStored, topStored, storeControl};
 ghost use Rattle.machine.specs.Words.{REGISTERS, FLAGS, OFFSETS, SOURCES, TIMERS, MachineWords, ENTRIES, startBy, section, entryOf, machineOf, Says};
 use word::has_flag;
 use word::with_flag;
@@ -377,16 +377,6 @@ fn kept(offset: u32, x: u32) -> u32
     if offset == 0 { bits / 256 * 256 } else { bits }
 }
 
-// A store of x to the control block at an offset.
-pub fn store_control(w: &mut [u32], offset: u32, x: u32)
-    requires { ⌜ MachineWords (now w) ⌝ }
-    ensures { λ _. ⌜ Says (now (w .exit)) (storeControl offset x (machineOf (now (w .entry)))) ⌝ }
-{
-    if writable(offset) {
-        set_control(w, offset, kept(offset, x));
-    }
-}
-
 // Whether bounds protect an address.
 pub fn protected(low: u32, high: u32, address: u32) -> bool
     ensures { λ r. ⌜ r ≡ within low high address ⌝ }
@@ -557,6 +547,77 @@ pub fn pop(w: &mut [u32])
     w[DEPTH] = n - 1;
     let rest = top(w);
     show(w, flags, rest);
+}
+
+// ---- stores to the control block
+
+// Whether the control register at an offset shows a part of the stack's top.
+fn replaces_top(offset: u32) -> bool
+    ensures { λ r. ⌜ r ≡ replacesTop (registerAt offset .access) ⌝ }
+{
+    match offset {
+        0x28 => true,
+        0x29 => true,
+        0x2A => true,
+        _ => false,
+    }
+}
+
+// What RETI_PSR keeps of x: bits 4..0, and in user mode both set bits 0.
+fn kept_status(x: u32) -> u32
+    ensures { λ r. ⌜ r ≡ keptStatus x ⌝ }
+{
+    if has_flag(x, UM) {
+        status(true, false, false, has_flag(x, IL), has_flag(x, IE))
+    } else {
+        x % 32
+    }
+}
+
+// An entry with the part replaced that the register at an offset shows.
+fn return_stored(offset: u32, x: u32, e: Entry) -> Entry
+    ensures { λ r. ⌜ r ≡ returnStored offset x e ⌝ }
+{
+    let mut stored = e;
+    match offset {
+        0x28 => {
+            stored.address = x;
+        }
+        0x29 => {
+            stored.psr = kept_status(x);
+        }
+        0x2A => {
+            stored.c0 = x % 8;
+        }
+        _ => {}
+    }
+    stored
+}
+
+// A store to a register that shows a part of the stack's top replaces that part; with an empty stack it is ignored.
+fn store_top(w: &mut [u32], offset: u32, x: u32)
+    requires { ⌜ MachineWords (now w) × StackShown (machineOf (now w)) ⌝ }
+    ensures { λ _. ⌜ Says (now (w .exit)) (topStored offset x (machineOf (now (w .entry)) .stack) (machineOf (now (w .entry)))) ⌝ }
+{
+    if depth(w) != 0 {
+        let e = top(w);
+        pop(w);
+        push(w, return_stored(offset, x, e));
+    }
+}
+
+// A store of x to the control block at an offset.
+pub fn store_control(w: &mut [u32], offset: u32, x: u32)
+    requires { ⌜ MachineWords (now w) × StackShown (machineOf (now w)) ⌝ }
+    ensures { λ _. ⌜ Says (now (w .exit)) (storeControl offset x (machineOf (now (w .entry)))) ⌝ }
+{
+    if writable(offset) {
+        set_control(w, offset, kept(offset, x));
+    } else {
+        if replaces_top(offset) {
+            store_top(w, offset, x);
+        }
+    }
 }
 
 // ---- dividers

@@ -1,7 +1,8 @@
 // Loads and stores: on the control block, a cell, or neither.
 ghost use Prim.Native.Nat.{ℕ, _<_};
 ghost use Rattle.isa.specs.Operation.{ld, st};
-ghost use Rattle.machine.specs.Words.{MachineWords};
+ghost use Rattle.machine.specs.Stack.{StackShown};
+ghost use Rattle.machine.specs.Words.{MachineWords, machineOf};
 ghost use Rattle.operation.specs.Execute.{execute};
 ghost use Rattle.operation.specs.Promises.{PerformsStoring};
 use isa::Instruction;
@@ -31,7 +32,7 @@ pub fn load(w: &mut [u32], cells: &[u32], i: Instruction, x: u32) -> u32
 
 // Operation 28, st: the control register or the cell takes the register's value.
 pub fn store(w: &mut [u32], cells: &mut [u32], i: Instruction, x: u32) -> u32
-    requires { ⌜ MachineWords (now w) × (i .dreg < 32) ⌝ }
+    requires { ⌜ MachineWords (now w) × StackShown (machineOf (now w)) × (i .dreg < 32) ⌝ }
     ensures { λ r. ⌜ ((y : ℕ) → PerformsStoring (λ v. execute st v i x y) r (now (w .entry)) (now (cells .entry)) (now (w .exit)) (now (cells .exit))) ⌝ }
 {
     let d = i.dreg;

@@ -12,3 +12,4 @@ pub mod StepKinds
 pub mod Transitions
 pub mod Codes
 pub mod AddressOrder
+pub mod Return

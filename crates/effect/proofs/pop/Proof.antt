@@ -2,7 +2,8 @@
 use mathlib.Core.Path.{sym}
 use native.Mathlib.Omega.{arith}
 use Rattle.machine.specs.Words.{machineOf}
-use Rattle.effect.proofs.Service.{shown-served, pop-none}
+use Rattle.machine.proofs.Service.{shown-served}
+use Rattle.effect.proofs.Service.{pop-none}
 use borrow.Author.Needs.{needs}
 use Rattle.effect.proofs.pop.Statement.{statement}
 use Rattle.effect.proofs.pop.Tie as tie

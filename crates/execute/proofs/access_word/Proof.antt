@@ -20,11 +20,11 @@ abbrev entry : tie.After-decode-access → tie.Start
 entry c = c .before .before .before .before .before
 
 given : (c : tie.After-decode-access) → Decoded (now (entry c .args .w)) (entry c .args .word) (entry c .args .op) (c .decode-access .result)
-given c = decoded _ _ _ _ _ (c .before .wide-words .ensures) (c .decode-access .ensures) (entry c .pre .1)
+given c = decoded _ _ _ _ _ (c .before .wide-words .ensures) (c .decode-access .ensures) (entry c .pre .2)
 
 decode-access-requires : tie.Need-decode-access-requires
 unfolding widthOf
-decode-access-requires c κs = (rw (c .wide-words .ensures) (c .before .before .before .before .pre .1), search needs, search needs)
+decode-access-requires c κs = (rw (c .wide-words .ensures) (c .before .before .before .before .pre .2), search needs, search needs)
 
 condition-false-requires : tie.Need-condition-false-requires
 condition-false-requires c κs = (search needs, given (c .before) .range .creg)
@@ -44,7 +44,7 @@ load-requires : tie.Need-load-requires
 load-requires c κs = (search needs, dreg (c .before .before .before))
 
 store-requires : tie.Need-store-requires
-store-requires c κs = (search needs, dreg (c .before .before .before))
+store-requires c κs = let s = c .before .before .before in (search needs, entry (decoding s) .pre .1, dreg s)
 
 returns : tie.Need-returns
 returns c p =

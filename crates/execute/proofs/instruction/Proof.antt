@@ -21,7 +21,7 @@ upper-half-requires : tie.Need-upper-half-requires
 upper-half-requires c κs = let o = c .before .before .before in (search needs, entry o .pre .1, entry o .pre .2, number o, search needs)
 
 access-word-requires : tie.Need-access-word-requires
-access-word-requires c κs = (search needs, number (c .before .before .before .before), search needs, search needs)
+access-word-requires c κs = let o = c .before .before .before .before in (search needs, entry o .pre .2, number o, search needs, search needs)
 
 lower-half-requires : tie.Need-lower-half-requires
 lower-half-requires c κs = (search needs, number (c .before .before), search needs)
