@@ -1,19 +1,16 @@
--- The stack that the control block shows: its flags, an empty one, and when it is shown. Assumes nothing.
-use mathlib.Core.Path.{_≡_, refl, sym, ap, _∙_}
+-- The stack that the control block shows: an empty one, and when it is shown. Assumes nothing.
+use mathlib.Core.Path.{_≡_, refl}
 use mathlib.Core.Bool.{true}
 use mathlib.Core.List.{List, [], _∷_}
-use Prim.Native.Nat.{ℕ, _≤_}
+use Prim.Native.Nat.{_≤_}
 use native.Mathlib.Omega.{arith}
-use lib.ListN.{length, getD}
+use lib.ListN.{length}
 use lib.Seq.{set-getD}
 use Rattle.word.specs.Flags.{distinctBelow}
 use Rattle.machine.specs.Machine.{Machine}
 use Rattle.machine.specs.Control.{controlAt, INT-SERV, RETI-ADDR, RETI-PSR, RETI-CR0}
 use Rattle.machine.specs.Stack.{popped, sourcesOf, serviceFlags, shownTop, showStack, withStack, StackShown}
-use Rattle.machine.specs.Words.{WORDS, machineOf}
 use Rattle.machine.specs.declared.Entry.{Entry}
-use Rattle.machine.proofs.Flat.{control-length}
-use Rattle.machine.proofs.Stack.{shown-flags}
 
 popped-none : (es : List Entry) → length es ≤ 0 → popped es ≡ es
 unfolding popped

@@ -7,8 +7,8 @@ use native.Mathlib.Nat.{div-div-eq-div-mul, mod-lt}
 use lib.Dec.{eqb, lit<}
 use Rattle.word.specs.Choice.{if_then_else_}
 use Rattle.word.specs.Word.{bitOf}
-use Rattle.word.proofs.Tests.{if-holds}
-use Rattle.machine.specs.Machine.{userMode, readsSet2, writesSet2, statusOf}
+use Rattle.word.proofs.Tests.{if-true, if-false, if-holds}
+use Rattle.machine.specs.Machine.{userMode, readsSet2, writesSet2, wideWords, interruptsEnabled, statusOf}
 use Rattle.machine.specs.Stack.{keptStatus}
 use Rattle.machine.specs.Theorems.{SuperIs, KeptStatusFits, WorkedStatus}
 
@@ -68,6 +68,16 @@ status-kept q wide enabled =
 
 low-user : (x : ℕ) → userMode (x % 32) ≡ userMode x
 low-user x = let e : x % 32 / 2 ^ 0 % 2 ≡ x / 2 ^ 0 % 2 = omega arith in rw e
+
+-- with UM 1, and with UM 0
+module _ (x : ℕ) where
+  pub kept-user : userMode x ≡ true → keptStatus x ≡ statusOf true false false (wideWords x) (interruptsEnabled x)
+  unfolding keptStatus
+  kept-user u = if-true (userMode x) _ _ u
+
+  pub kept-super : userMode x ≡ false → keptStatus x ≡ x % 32
+  unfolding keptStatus
+  kept-super u = if-false (userMode x) _ _ u
 
 pub kept-status-fits : KeptStatusFits
 unfolding keptStatus

@@ -16,7 +16,7 @@ use Rattle.word.specs.Choice.{if_then_else_}
 use Rattle.machine.specs.Machine.{Machine, PSR, withSet1, withSet2, withConditions, withControl, withPosition, withDividers, setBy, withRegister, written}
 use Rattle.machine.specs.Control.{controlAt, INT-SERV, RETI-ADDR, RETI-PSR, RETI-CR0}
 use Rattle.machine.specs.Stack.{popped, serviceFlags, shownTop, showTop, showStack, withStack}
-use Rattle.machine.specs.Words.{SET1, SET2, CONDITIONS, CONTROL, POSITION, SOURCES, TIMERS, DEPTH, ENTRIES, DIVIDERS, WORDS, startBy, section, positionOf, entryOf, entriesOf, machineOf}
+use Rattle.machine.specs.Words.{SET1, SET2, CONDITIONS, CONTROL, POSITION, SOURCES, TIMERS, DEPTH, ENTRIES, DIVIDERS, WORDS, startBy, section, positionOf, entryOf, wordsOf, entriesOf, machineOf}
 use Rattle.machine.specs.declared.Position.{Position}
 use Rattle.machine.specs.declared.Entry.{Entry}
 use Rattle.machine.proofs.Lists.{pair-set}
@@ -250,39 +250,47 @@ depth-stored w n h = simp (store-apart w n DEPTH 1 0 (lit< tt), getD-set-same w 
 fill-high : (w : List ℕ) (i : ℕ) (vs : List ℕ) → ENTRIES ≤ i → (m n : ℕ) → leb (m + n) ENTRIES ≡ true → section m n (sets w i vs) ≡ section m n w
 fill-high w i vs h m n e = let l : m + n ≤ ENTRIES = leb-true _ _ e in fill-past w m n i vs (omega arith)
 
+depth-past : (w : List ℕ) (i : ℕ) (vs : List ℕ) → ENTRIES ≤ i → getD (sets w i vs) DEPTH 0 ≡ getD w DEPTH 0
+depth-past w i vs h =
+    sym (section-at (sets w i vs) DEPTH 1 0 (lit< tt)) ∙ ap (λ (s : List ℕ). getD s 0 0) (fill-past w DEPTH 1 i vs (omega arith)) ∙ section-at w DEPTH 1 0 (lit< tt)
+
 fill-entries : (w : List ℕ) (i : ℕ) (vs : List ℕ) (es : List Entry) → ENTRIES ≤ i → i + length vs ≤ DIVIDERS
     → withEntries es (machineOf (sets w i vs)) ≡ withEntries es (machineOf w)
 unfolding machineOf
 fill-entries w i vs es h k = simp (fill-high w i vs h, fill-short w DIVIDERS TIMERS i vs k)
 
-in-row : (w : List ℕ) (i a b c d : ℕ) → set (set (set (set w i a) (i + 1) b) (i + 2) c) (i + 3) d ≡ sets w i (a ∷ b ∷ c ∷ d ∷ [])
+pub in-row : (w : List ℕ) (i a b c d : ℕ) → set (set (set (set w i a) (i + 1) b) (i + 2) c) (i + 3) d ≡ sets w i (a ∷ b ∷ c ∷ d ∷ [])
 in-row w i a b c d =
     let p : i + 1 ≡ suc i = omega arith in
     let q : i + 2 ≡ suc (suc i) = omega arith in
     let r : i + 3 ≡ suc (suc (suc i)) = omega arith in
     rw (p, q, r)
 
--- four words past the last entry, and a count one above, push an entry
-module _ (w : List ℕ) (n : ℕ) (e : Entry) (h : length w ≡ WORDS) (room : n < 12) (q : getD w DEPTH 0 ≡ n) where
-  abbrev words : List ℕ
-  words = e .source ∷ e .address ∷ e .psr ∷ e .c0 ∷ []
-
+-- the four words of an entry
+module _ (w : List ℕ) (n : ℕ) (e : Entry) (h : length w ≡ WORDS) (room : n < 12) where
   abbrev after : List ℕ
-  after = sets w (ENTRIES + 4 * n) words
+  after = sets w (ENTRIES + 4 * n) (wordsOf e)
 
-  stack-pushed : stackOf (suc n) after ≡ e ∷ machineOf w .stack
-  stack-pushed =
-      rw (stack-top n after, fill-in w (ENTRIES + 4 * n) words (omega arith))
-      (ap (λ es. e ∷ es) (stack-by n w after (fill-past w ENTRIES (4 * n) (ENTRIES + 4 * n) words (omega arith)) ∙ sym (stack-as w n q)))
+  stack-filled : stackOf (suc n) after ≡ e ∷ stackOf n w
+  stack-filled =
+      rw (stack-top n after, fill-in w (ENTRIES + 4 * n) (wordsOf e) (omega arith))
+      (ap (λ es. e ∷ es) (stack-by n w after (fill-past w ENTRIES (4 * n) (ENTRIES + 4 * n) (wordsOf e) (omega arith))))
 
-  pub pushed-to : let i = ENTRIES + 4 * n in
-      machineOf (set (set (set (set (set w i (e .source)) (i + 1) (e .address)) (i + 2) (e .psr)) (i + 3) (e .c0)) DEPTH (n + 1))
-      ≡ withEntries (e ∷ machineOf w .stack) (machineOf w)
-  pushed-to =
-      rw (in-row w (ENTRIES + 4 * n) (e .source) (e .address) (e .psr) (e .c0), add-one n)
-      (depth-stored after (suc n) (length-sets w (ENTRIES + 4 * n) words ∙ h)
-      ∙ ap (λ es. withEntries es (machineOf after)) stack-pushed
-      ∙ fill-entries w (ENTRIES + 4 * n) words (e ∷ machineOf w .stack) (omega arith) (omega arith))
+  -- past the last entry, and with a count one above, they push it
+  pub pushed-to : getD w DEPTH 0 ≡ n → machineOf (set after DEPTH (n + 1)) ≡ withEntries (e ∷ machineOf w .stack) (machineOf w)
+  pushed-to q =
+      rw (add-one n)
+      (depth-stored after (suc n) (length-sets w (ENTRIES + 4 * n) (wordsOf e) ∙ h)
+      ∙ ap (λ es. withEntries es (machineOf after)) (stack-filled ∙ ap (λ es. e ∷ es) (sym (stack-as w n q)))
+      ∙ fill-entries w (ENTRIES + 4 * n) (wordsOf e) (e ∷ machineOf w .stack) (omega arith) (omega arith))
+
+  -- in place of the last entry they replace it
+  pub replaced-to : getD w DEPTH 0 ≡ suc n → machineOf after ≡ withEntries (e ∷ popped (machineOf w .stack)) (machineOf w)
+  unfolding popped
+  replaced-to q =
+      ap (λ es. withEntries es (machineOf after)) (stack-as after (suc n) (depth-past w (ENTRIES + 4 * n) (wordsOf e) (omega arith) ∙ q) ∙ stack-filled)
+      ∙ fill-entries w (ENTRIES + 4 * n) (wordsOf e) (e ∷ stackOf n w) (omega arith) (omega arith)
+      ∙ ap (λ es. withEntries (e ∷ popped es) (machineOf w)) (sym (stack-some w n q))
 
 -- a count one below pops an entry
 pub popped-to : (w : List ℕ) (n : ℕ) → length w ≡ WORDS → getD w DEPTH 0 ≡ suc n → machineOf (set w DEPTH n) ≡ withEntries (popped (machineOf w .stack)) (machineOf w)
@@ -297,10 +305,7 @@ unfolding machineOf
 stack-past w i vs h l =
     let n = getD w DEPTH 0 in
     let k : n ≤ SOURCES = rw (depth-is w) at h in
-    let d : getD (sets w i vs) DEPTH 0 ≡ n =
-    sym (section-at (sets w i vs) DEPTH 1 0 (lit< tt)) ∙ ap (λ (s : List ℕ). getD s 0 0) (fill-past w DEPTH 1 i vs (omega arith)) ∙ section-at w DEPTH 1 0 (lit< tt)
-    in
-    stack-as (sets w i vs) n d ∙ stack-by n w (sets w i vs) (fill-past w ENTRIES (4 * n) i vs (omega arith)) ∙ sym (stack-as w n refl)
+    stack-as (sets w i vs) n (depth-past w i vs (omega arith)) ∙ stack-by n w (sets w i vs) (fill-past w ENTRIES (4 * n) i vs (omega arith)) ∙ sym (stack-as w n refl)
 
 pub divider-stored : (w : List ℕ) → length (machineOf w .stack) ≤ SOURCES → (v j : ℕ) → j < TIMERS
     → machineOf (set w (DIVIDERS + j) v) ≡ withDividers (set (machineOf w .dividers) j v) (machineOf w)

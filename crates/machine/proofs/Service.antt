@@ -14,7 +14,7 @@ use Rattle.machine.specs.Stack.{popped, sourcesOf, serviceFlags, shownTo
 use Rattle.machine.specs.Words.{WORDS, machineOf}
 use Rattle.machine.specs.declared.Entry.{Entry}
 use Rattle.machine.proofs.Flat.{control-length}
-use Rattle.machine.proofs.Stack.{flags-popped, shown-flags, stack-again}
+use Rattle.machine.proofs.Stack.{flags-popped, shown-flags}
 
 pub top-below : (es : List Entry) → distinctBelow 12 (sourcesOf es) ≡ true → 0 < length es → shownTop es .source < 12
 unfolding sourcesOf shownTop
@@ -41,27 +41,21 @@ shown-served w h s =
     let m = machineOf w in
     ap (λ l. getD l INT-SERV 0) (sym (s .shown)) ∙ shown-flags (m .stack) (m .control) (control-length w h)
 
-module _ (offset x : ℕ) (m : Machine) where
-  -- with an empty stack a store is ignored
-  pub none-stored : (es : List Entry) → length es ≡ 0 → topStored offset x es m ≡ m
-  unfolding topStored
-  none-stored [] h = refl
-  none-stored (e ∷ es) h = absurd (omega arith)
-
-  again : (es : List Entry) → 0 < length es → withStack (returnStored offset x (shownTop es) ∷ popped es) (withStack (popped es) m) ≡ topStored offset x es m
-  unfolding topStored shownTop popped
-  again [] h = absurd (not-suc-le-zero h)
-  again (e ∷ es) h = stack-again (returnStored offset x e ∷ es) es m
-
-  -- else the entry is popped, and pushed with the part replaced
-  pub some-stored : (k last : Machine) (e top : Entry) → 0 < length (m .stack) → k ≡ withStack (popped (m .stack)) m → top ≡ shownTop (m .stack)
-      → e ≡ returnStored offset x top → last ≡ withStack (e ∷ k .stack) k → last ≡ topStored offset x (m .stack) m
-  unfolding withStack
-  some-stored k last e top h a b c d = rw (d, c, b, a) (again (m .stack) h)
-
+module _ (offset x : ℕ) where
   -- its source stays
-  pub stored-distinct : (es : List Entry) → 0 < length es → distinctBelow 12 (sourcesOf es) ≡ true
-      → distinctBelow 12 (sourcesOf (returnStored offset x (shownTop es) ∷ popped es)) ≡ true
-  unfolding sourcesOf shownTop popped returnStored
-  stored-distinct [] h d = absurd (not-suc-le-zero h)
-  stored-distinct (e ∷ es) h d = d
+  pub stored-flags : (es : List Entry) → 0 < length es → serviceFlags es ≡ serviceFlags (returnStored offset x (shownTop es) ∷ popped es)
+  unfolding serviceFlags sourcesOf shownTop popped returnStored
+  stored-flags [] h = absurd (not-suc-le-zero h)
+  stored-flags (e ∷ es) h = refl
+
+  module _ (m : Machine) where
+    pub some-stored : (es : List Entry) → 0 < length es → withStack (returnStored offset x (shownTop es) ∷ popped es) m ≡ topStored offset x es m
+    unfolding topStored shownTop popped
+    some-stored [] h = absurd (not-suc-le-zero h)
+    some-stored (e ∷ es) h = refl
+
+    -- with an empty stack a store is ignored
+    pub none-stored : (es : List Entry) → length es ≡ 0 → topStored offset x es m ≡ m
+    unfolding topStored
+    none-stored [] h = refl
+    none-stored (e ∷ es) h = absurd (omega arith)

@@ -9,9 +9,8 @@ use lib.ListN.{length, getD, length-set, length-map}
 use Rattle.word.specs.Flags.{withFlag, withoutFlag, flagsAt, isAmong, distinctBelow}
 use Rattle.word.proofs.Flags.{ones-flags, flags-below-all, length-most, flags-pop}
 use Rattle.machine.proofs.Lists.{get-same, get-other, set-again, set-ordered}
-use Rattle.machine.specs.Machine.{Machine}
 use Rattle.machine.specs.Control.{INT-SERV, RETI-ADDR, RETI-PSR, RETI-CR0}
-use Rattle.machine.specs.Stack.{sourcesOf, serviceFlags, shownTop, showStack, withStack}
+use Rattle.machine.specs.Stack.{sourcesOf, serviceFlags, shownTop, showStack}
 use Rattle.machine.specs.Theorems.{OnesDepth}
 use Rattle.machine.specs.declared.Entry.{Entry}
 
@@ -67,7 +66,3 @@ module _ (es : List Entry) (l : List ℕ) where
 pub show-again : (es fs : List Entry) (l : List ℕ) → showStack es (showStack fs l) ≡ showStack es l
 unfolding showStack
 show-again es fs l = simp (set-ordered, set-again) (rw (set-ordered _ RETI-CR0 RETI-PSR _ _ refl) (simp set-again))
-
-pub stack-again : (es fs : List Entry) (m : Machine) → withStack es (withStack fs m) ≡ withStack es m
-unfolding withStack
-stack-again es fs m = rw (show-again es fs (m .control))

@@ -84,6 +84,9 @@ positionOf l = record { pc = getD l 0 0; slot = getD l 1 0; target = getD l 2 0;
 abbrev pub entryOf : (words : List ℕ) → Entry
 entryOf l = record { source = getD l 0 0; address = getD l 1 0; psr = getD l 2 0; c0 = getD l 3 0 }
 
+abbrev pub wordsOf : Entry → List ℕ
+wordsOf e = e .source ∷ e .address ∷ e .psr ∷ e .c0 ∷ []
+
 unfoldable pub entriesOf : (count : ℕ) (words : List ℕ) → List Entry
 entriesOf zero l = []
 entriesOf (suc n) l = entryOf l ∷ entriesOf n (drop 4 l)

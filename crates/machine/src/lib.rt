@@ -5,12 +5,13 @@ ghost use mathlib.Core.Bool.{true, false};
 ghost use mathlib.Core.List.{[], _∷_};
 ghost use Prim.Native.Nat.{_+_, _*_, _<_, _≤_};
 ghost use lib.ListN.{length, getD, set};
+ghost use lib.Seq.{sets};
 ghost use Rattle.word.specs.Word.{bitAt};
 ghost use Rattle.word.specs.Flags.{distinctBelow};
 ghost use Rattle.machine.specs.Machine.{psr, userMode, readsSet2, writesSet2, wideWords, interruptsEnabled, statusOf, SUPER, setBy, withRegister, written, withPsr, withConditions, withControl, withPosition, withDividers};
 ghost use Rattle.machine.specs.Control.{registerAt, controlAt, largest, keptBy, isWritable, replacesTop, within, INT-SERV, reset as resetOf};
 ghost use Rattle.machine.specs.Stack.{popped, sourcesOf, serviceFlags, shownTop, showTop, withStack, StackShown, keptStatus, returnStored, topStored, storeControl};
-ghost use Rattle.machine.specs.Words.{REGISTERS, FLAGS, OFFSETS, SOURCES, TIMERS, MachineWords, ENTRIES, startBy, section, entryOf, machineOf, Says};
+ghost use Rattle.machine.specs.Words.{REGISTERS, FLAGS, OFFSETS, SOURCES, TIMERS, MachineWords, ENTRIES, startBy, section, entryOf, wordsOf, machineOf, Says};
 use word::has_flag;
 use word::with_flag;
 use word::without_flag;
@@ -486,6 +487,18 @@ pub fn entry_at(w: &[u32], i: usize) -> Entry
     }
 }
 
+// Entry i of the stack, counted from the bottom, takes e.
+fn put_entry(w: &mut [u32], i: usize, e: Entry)
+    requires { ⌜ MachineWords (now w) × (i < SOURCES) ⌝ }
+    ensures { λ _. ⌜ now (w .exit) ≡ sets (now (w .entry)) (ENTRIES + 4 * i) (wordsOf e) ⌝ }
+{
+    let at = ENTRIES + 4 * i;
+    w[at] = e.source;
+    w[at + 1] = e.address;
+    w[at + 2] = e.psr;
+    w[at + 3] = e.c0;
+}
+
 // What the RETI_ registers show of the stack: its top, or 1, 9, 0 when it is empty.
 pub fn top(w: &[u32]) -> Entry
     requires { ⌜ MachineWords (now w) × (length (machineOf (now w) .stack) ≤ SOURCES) ⌝ }
@@ -524,11 +537,7 @@ pub fn push(w: &mut [u32], e: Entry)
 {
     let n = depth(w);
     let flags = with_flag(w[SERVED], e.source);
-    let at = ENTRIES + 4 * n as usize;
-    w[at] = e.source;
-    w[at + 1] = e.address;
-    w[at + 2] = e.psr;
-    w[at + 3] = e.c0;
+    put_entry(w, n as usize, e);
     w[DEPTH] = n + 1;
     show(w, flags, e);
 }
@@ -599,10 +608,12 @@ fn store_top(w: &mut [u32], offset: u32, x: u32)
     requires { ⌜ MachineWords (now w) × StackShown (machineOf (now w)) ⌝ }
     ensures { λ _. ⌜ Says (now (w .exit)) (topStored offset x (machineOf (now (w .entry)) .stack) (machineOf (now (w .entry)))) ⌝ }
 {
-    if depth(w) != 0 {
-        let e = top(w);
-        pop(w);
-        push(w, return_stored(offset, x, e));
+    let n = depth(w) as usize;
+    if n != 0 {
+        let flags = w[SERVED];
+        let e = return_stored(offset, x, entry_at(w, n - 1));
+        put_entry(w, n - 1, e);
+        show(w, flags, e);
     }
 }
 

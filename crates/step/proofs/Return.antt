@@ -3,10 +3,9 @@ use mathlib.Core.Path.{_≡_, refl, sym, ap, _∙_}
 use mathlib.Core.Bool.{true}
 use mathlib.Core.List.{List, [], _∷_}
 use Prim.Native.Nat.{ℕ}
-use lib.ListN.{set}
 use Rattle.word.specs.Choice.{if_then_else_}
 use Rattle.word.specs.Flags.{isAmong, withoutFlag}
-use Rattle.machine.specs.Machine.{Machine, State, positionAt, withPosition, withConditions, withPsr, withSet2}
+use Rattle.machine.specs.Machine.{Machine, positionAt, withPosition, withConditions, withPsr, withSet2}
 use Rattle.machine.specs.Control.{controlAt, INT-SERV, RETI-ADDR, RETI-PSR, RETI-CR0, RETURNS}
 use Rattle.machine.specs.Stack.{popped, shownTop, serviceFlags, withStack, returnStored, topStored, storeControl}
 use Rattle.machine.specs.declared.Position.{Position}
@@ -16,7 +15,7 @@ use Rattle.machine.proofs.Stack.{show-again, shown-flags, flags-popped}
 use Rattle.formed.proofs.Formed.{Stacked, pushed, WellFormed, true-formed}
 use Rattle.effect.specs.Kind as kind
 use Rattle.effect.specs.Apply.{nextPc, advance, interruptReturn, machineOnly, updated, apply}
-use Rattle.step.specs.Return.{IgnoredWhenEmpty, TaskSwitch}
+use Rattle.step.specs.Return.{IgnoredWhenEmpty, returnedTo, TaskSwitch}
 
 -- what a store to a RETI_ register leaves, by the stack
 return-stored : (offset x : ℕ) (m : Machine) (es : List Entry) → isAmong offset RETURNS ≡ true → m .stack ≡ es → storeControl offset x m ≡ topStored offset x es m
@@ -43,8 +42,7 @@ module _ (offset x : ℕ) (m : Machine) (e : Entry) (es : List Entry) (h : isAmo
   stored-again p =
       ap advance (return-stored offset x (withPosition p (withStack (e ∷ es) m)) (e ∷ es) h refl ∙ rw (show-again (top ∷ es) (e ∷ es) (m .control)))
 
-returned : (m : Machine) (p : Position) (e : Entry) (es : List Entry) → interruptReturn (withPosition p (withStack (e ∷ es) m))
-    ≡ withPosition (positionAt (e .address)) (withPsr (e .psr) (withConditions (set (m .conditions) 0 (e .c0)) (withStack es m)))
+returned : (m : Machine) (p : Position) (e : Entry) (es : List Entry) → interruptReturn (withPosition p (withStack (e ∷ es) m)) ≡ returnedTo (e .address) (e .psr) (e .c0) es m
 unfolding interruptReturn withPosition withPsr withSet2 withConditions withStack shownTop popped
 returned m p e es = rw (show-again es (e ∷ es) (m .control))
 
@@ -59,10 +57,11 @@ pub task-switch : TaskSwitch
 unfolding apply machineOnly updated isAmong returnStored if_then_else_
 task-switch a q c s e es w k =
     let m = s .machine in
-    let f = true-formed m w in
-    (ap (λ t. machineOnly kind.InterruptReturn interruptReturn (record { machine = t; memory = s .memory })) (
-    ap (λ t. advance (storeControl RETI-CR0 c (advance (storeControl RETI-PSR q t)))) (first-stored RETI-ADDR a m e es refl k)
-    ∙ ap (λ t. advance (storeControl RETI-CR0 c t)) (stored-again RETI-PSR q m _ es refl _)
-    ∙ stored-again RETI-CR0 c m _ es refl _)
-    ∙ ap (λ t. record { kind = kind.InterruptReturn; after = record { machine = t; memory = s .memory } }) (returned m _ _ es),
-    cleared m e es f (rw (← k) (f .stack)) k)
+    let f = true-formed m w in (
+      ap (λ t. machineOnly kind.InterruptReturn interruptReturn (record { machine = t; memory = s .memory })) (
+          ap (λ t. advance (storeControl RETI-CR0 c (advance (storeControl RETI-PSR q t)))) (first-stored RETI-ADDR a m e es refl k)
+          ∙ ap (λ t. advance (storeControl RETI-CR0 c t)) (stored-again RETI-PSR q m _ es refl _)
+          ∙ stored-again RETI-CR0 c m _ es refl _)
+          ∙ ap (λ t. record { kind = kind.InterruptReturn; after = record { machine = t; memory = s .memory } }) (returned m _ _ es),
+      cleared m e es f (rw (← k) (f .stack)) k,
+    )

@@ -24,12 +24,14 @@ afterStores a q c s =
     let stored : (offset x : ℕ) → State → State = λ n x t. apply (StoreControl n x) t .after in
     stored RETI-CR0 c (stored RETI-PSR q (stored RETI-ADDR a s))
 
--- "Our weighing program must return to another task": after these, reti goes on at that address, with what is kept of that PSR and C0, and with
--- the stack's rest; all else is as before the stores, but for the flag of the top's source in INT_SERV, which is cleared
+-- what reti makes of a machine with these in the stack's top, and with this rest of the stack
+abbrev pub returnedTo : (address status flags : ℕ) (rest : List Entry) → Machine → Machine
+returnedTo a q c es m = withPosition (positionAt a) (withPsr q (withConditions (set (m .conditions) 0 c) (withStack es m)))
+
+-- "Our weighing program must return to another task": after these, reti goes on at that address, with what is kept of that PSR and C0. All else is
+-- as without the stores; the flag of the top's source in INT_SERV is cleared
 abbrev pub TaskSwitch : Type 0
 TaskSwitch =
     (address status flags : ℕ) (s : State) (e : Entry) (es : List Entry) → wellFormed (s .machine) ≡ true → s .machine .stack ≡ e ∷ es
-    → (apply InterruptReturn (afterStores address status flags s)
-      ≡ machineOnly kind.InterruptReturn
-        (λ m. withPosition (positionAt (address % 2 ^ 32)) (withPsr (keptStatus status) (withConditions (set (m .conditions) 0 (flags % 8)) (withStack es m)))) s)
+    → (apply InterruptReturn (afterStores address status flags s) ≡ machineOnly kind.InterruptReturn (returnedTo (address % 2 ^ 32) (keptStatus status) (flags % 8) es) s)
     × (controlAt (withStack es (s .machine)) INT-SERV ≡ withoutFlag (e .source) (controlAt (s .machine) INT-SERV))

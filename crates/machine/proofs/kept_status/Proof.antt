@@ -1,22 +1,18 @@
 -- `machine::kept_status` meets its contract: by UM. Assumes nothing.
 use mathlib.Core.Path.{sym, _∙_}
-use Rattle.word.proofs.Tests.{if-true, if-false}
-use Rattle.machine.specs.Machine.{userMode}
-use Rattle.machine.specs.Stack.{keptStatus}
+use Rattle.machine.proofs.Bits.{kept-user, kept-super}
 use borrow.Author.Needs.{needs}
 use Rattle.machine.proofs.kept_status.Statement.{statement}
 use Rattle.machine.proofs.kept_status.Tie as tie
 
 returns : tie.Need-returns
-unfolding keptStatus
 returns c =
-    let user = c .before .before .before .before in
-    rw (← (c .before .before .has-flag2 .ensures), ← (c .before .has-flag3 .ensures))
-    (c .status .ensures ∙ sym (if-true (userMode (user .before .args .x)) _ _ (sym (user .has-flag .ensures) ∙ c .before .before .before .if1 .taken)))
+    let tested = c .before .before .before in
+    rw (kept-user _ (sym (tested .before .has-flag .ensures) ∙ tested .if1 .taken), ← (c .before .before .has-flag2 .ensures), ← (c .before .has-flag3 .ensures))
+    (c .status .ensures)
 
 returns-2 : tie.Need-returns-2
-unfolding keptStatus
-returns-2 c = let user = c .before in sym (if-false (userMode (user .before .args .x)) _ _ (sym (user .has-flag .ensures) ∙ c .if1 .left))
+returns-2 c = sym (kept-super _ (sym (c .before .has-flag .ensures) ∙ c .if1 .left))
 
 pub kept-status-spec : {M : Type 1} → statement M
 kept-status-spec =

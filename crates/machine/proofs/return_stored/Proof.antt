@@ -1,5 +1,4 @@
 -- `machine::return_stored` meets its contract: by the three offsets. Assumes nothing.
-use mathlib.Core.Path.{_≡_, sym}
 use native.Mathlib.Nat.{mod-eq-of-lt}
 use borrow.Author.Tests.{ne-eqb}
 use Rattle.word.specs.Choice.{if_then_else_}
