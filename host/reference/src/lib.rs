@@ -1,9 +1,9 @@
 //! A reference emulator of the COFFEE core, to compare other implementations with.
 //!
-//! It is written from three papers alone: 02 (the change requests, of which wishes 1 to 3,
-//! 5 and 7 are done), 01 (the board's rules) and 002 (the COFFEE Core user manual, July 2007).
-//! Where they differ, 02 decides, then 01. It is meant to be read beside them, and puts
-//! clarity before speed.
+//! It is written from three papers alone: 02 (the change requests, of which wishes 1 to 3
+//! and 5 to 7 are done), 01 (the board's rules) and 002 (the COFFEE Core user manual, July
+//! 2007). Where they differ, 02 decides, then 01. It is meant to be read beside them, and
+//! puts clarity before speed.
 
 mod decode;
 mod encode;

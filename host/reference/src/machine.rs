@@ -111,18 +111,31 @@ pub fn control_can_hold(offset: usize, value: u32) -> bool {
     }
 }
 
-/// Whether stores to `offset` are ignored (01, "Control block": "Read-only").
+/// Whether stores to `offset` are ignored whatever the machine (01, "Control block":
+/// "Read-only"); 02, wish 6, takes the RETI_ registers out.
 fn control_read_only(offset: usize) -> bool {
     match offset {
         offset::INT_SERV | offset::INT_PEND => true,
         offset::EXCEPTION_CS | offset::EXCEPTION_PC | offset::EXCEPTION_PSR => true,
-        offset::RETI_ADDR | offset::RETI_PSR | offset::RETI_CR0 => true,
         offset::FPU_STATUS | offset::CORE_VER_ID => true,
         _ => offset >= CONTROL_REGISTERS,
     }
 }
 
-/// What an accepted interrupt leaves on the hardware stack.
+/// What a store to RETI_PSR puts on the hardware stack. 02, wish 6: "RETI_PSR keeps bits
+/// 4..0, and with UM 1 both set bits become 0". UM is the stored value's own. Question 3
+/// still goes by the register's width of 8.
+fn stacked_psr(value: u32) -> u32 {
+    let psr = value & (IE | IL | RSWR | RSRD | UM);
+    if psr & UM != 0 {
+        psr & !(RSWR | RSRD)
+    } else {
+        psr
+    }
+}
+
+/// An entry of the hardware stack: what an accepted interrupt leaves there, and stores to
+/// the RETI_ registers replace, but for the source.
 #[derive(Clone, Copy, Debug, PartialEq, Eq)]
 pub struct StackEntry {
     pub source: u32,
@@ -250,10 +263,18 @@ impl Machine {
     }
 
     /// Stores to the control block at an offset of 0 to 255. "A short register
-    /// keeps its low bits; CCB_BASE's low byte is stored 0."
+    /// keeps its low bits; CCB_BASE's low byte is stored 0." 02, wish 6: "Stores to
+    /// RETI_ADDR, RETI_PSR and RETI_CR0 now replace the top entry's address, PSR or C0".
     pub fn store_control(&mut self, offset: usize, value: u32) {
-        if !control_read_only(offset) {
-            self.control[offset] = value & control_mask(offset);
+        if control_read_only(offset) {
+            return;
+        }
+        let kept = value & control_mask(offset);
+        match offset {
+            offset::RETI_ADDR => self.change_stack_top(|top| top.address = kept),
+            offset::RETI_PSR => self.change_stack_top(|top| top.psr = stacked_psr(kept)),
+            offset::RETI_CR0 => self.change_stack_top(|top| top.c0 = kept),
+            _ => self.control[offset] = kept,
         }
     }
 
@@ -271,6 +292,15 @@ impl Machine {
         self.control[offset::INT_SERV] &= !(1 << entry.source);
         self.show_stack_top();
         Some(entry)
+    }
+
+    /// Changes the top entry of the hardware stack, and shows it. "with an empty stack they
+    /// [the stores] are ignored"
+    fn change_stack_top(&mut self, change: impl FnOnce(&mut StackEntry)) {
+        if let Some(top) = self.stack.last_mut() {
+            change(top);
+            self.show_stack_top();
+        }
     }
 
     /// "RETI_ shows the stack's top, or 1, 9, 0 when empty."

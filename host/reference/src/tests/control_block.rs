@@ -14,7 +14,8 @@ fn store(offset: u32, value: u32) -> Bench {
 }
 
 /// "A short register keeps its low bits (width: section 2.6); CCB_BASE's low byte is
-/// stored 0. Read-only, stores ignored: ..."
+/// stored 0. Read-only, stores ignored: ..." The stack is empty, and so stores to the RETI_
+/// registers are ignored as well.
 #[test]
 fn stores_of_all_ones() {
     for offset in 0..256 {
@@ -85,7 +86,8 @@ fn loads_after_reset() {
     }
 }
 
-/// RETI_ registers show the stack's top, and stores to them do nothing.
+/// RETI_ registers show the stack's top, and stores to them replace it (02, wish 6; more in
+/// `stack_top`).
 #[test]
 fn the_stack_top_shows() {
     let mut bench = Bench::new(&[
@@ -95,15 +97,21 @@ fn the_stack_top_shows() {
         rri(28, 9, 1, 0x28),
         rri(28, 9, 1, 0x29),
         rri(28, 9, 1, 0x2A),
+        rri(27, 5, 1, 0x28),
+        rri(27, 6, 1, 0x29),
+        rri(27, 7, 1, 0x2A),
         plain(50, 0),
     ])
     .pr(1, 0x0001_0000)
+    .pr(9, 0xFFFF_FFFC)
     .in_service(3, 0x1000, 0x09, 2)
     .in_service(9, 0x2000, 0x1E, 7);
-    bench.steps(7);
+    bench.steps(10);
     assert_eq!(bench.machine.set2[2..5], [0x2000, 0x1E, 7]);
-    assert_eq!((bench.pc(), bench.psr()), (0x2000, 0x1E));
-    assert_eq!(bench.machine.conditions[0], 7);
+    assert_eq!(bench.machine.set2[5..8], [0xFFFF_FFFC, 0x1C, 4]);
+    assert_eq!((bench.pc(), bench.psr()), (0xFFFF_FFFC, 0x1C));
+    assert_eq!(bench.machine.conditions[0], 4);
+    assert_eq!(bench.machine.control[0x28..=0x2A], [0x1000, 0x09, 2]);
 }
 
 /// Stores act from the next step: bounds, base, vectors, entry addresses.

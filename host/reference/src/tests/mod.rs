@@ -12,6 +12,7 @@ mod interrupts;
 mod listing;
 mod operations;
 mod random;
+mod stack_top;
 mod timers;
 mod transfers;
 mod words;
