@@ -331,7 +331,8 @@ static inline uint32_t extracted(uint32_t value, uint32_t field)
     return value >> (field & 31) & (uint32_t)((1ull << (field >> 5 & 63)) - 1);
 }
 
-// The bits that a store to a control register leaves; none for one that is only read.
+// The bits that a store to a control register leaves in it; none for one that is only read, and for
+// RETI_.
 static uint32_t stored_bits(uint32_t offset)
 {
     switch (offset) {
@@ -352,12 +353,30 @@ static uint32_t stored_bits(uint32_t offset)
     }
 }
 
+// Stores to a RETI_ register: replaces what it shows of the stack's top, if there is one. In a PSR
+// with UM 1 both set bits become 0.
+static void store_top(struct machine *m, uint32_t offset, uint32_t value)
+{
+    if (m->depth == 0)
+        return;
+    struct entry *top = &m->stack[m->depth - 1];
+    if (offset == RETI_ADDR)
+        top->address = value;
+    else if (offset == RETI_PSR)
+        top->psr = value & UM ? value & (UM | IL | IE) : value & 31;
+    else
+        top->c0 = value & 7;
+    show_top(m);
+}
+
 // Stores to the control block.
 static void store_control(struct machine *m, uint32_t offset, uint32_t value)
 {
     uint32_t bits = stored_bits(offset);
     if (bits != 0)
         m->control[offset] = value & bits;
+    else if (offset >= RETI_ADDR && offset <= RETI_CR0)
+        store_top(m, offset, value);
 }
 
 // Runs the instruction at PC, or enters an exception; the number of a stop, or 0.

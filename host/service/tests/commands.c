@@ -554,6 +554,45 @@ static void test_long(void)
              "1000000000000");
 }
 
+/* A task of super user mode, one of user mode, and a service routine that returns to the second (02,
+   wish 6):
+    0 addiu PR3, PR3, 1           4 jmp to 0            8 nop, the slot      12 nop
+   16 (c, C0) addiu R2, R2, 1    20 jmp to 16          24 nop, the slot      28 nop
+   32 st PR1 to RETI_ADDR        36 PR2 to RETI_PSR    40 PR2 to RETI_CR0
+   44 reti, with its three nops */
+#define TASKS "4C000C61 91FFFFFC 00000000 00000000 4E000841 91FFFFFC 00000000 00000000 " \
+              "70008408 70008809 7000880A C8000000 00000000 00000000 00000000"
+
+static void test_tasks(void)
+{
+    static const char *const lines[] = {"0", "10", NULL};
+
+    section("a task switch");
+    fresh();
+    write_words("program", TASKS);
+    write_text("requests", "2: 10\n");
+    listening("start");
+    set_words("start", SET_2, "10000 10 FFFFFFFF");
+    set_word("start", IMEM_BOUND_LO, 0xFFFFFFFF);
+    copy("start", "m");
+    /* The first task is interrupted in step 2, at 4. Of FFFFFFFFh PSR keeps 19h and C0 7. */
+    ACCEPTED("a task on the stack is replaced", "5 0 0000002C\n", "run", "program", "m", "5",
+             "requests");
+    RUN("show", "m");
+    check("show of the stack",
+          outcome.status == 0 &&
+              strstr(outcome.out, "\n 4 EXT_INT0  00000010  00000019  1 1 1\n") != NULL);
+    same_text("RETI_ shows its top", "00000010 00000019 00000007", words_of("m", RETI_ADDR, 3));
+    ACCEPTED("the return to the other task", "1 0 00000010\n", "run", "program", "m", "1");
+    same_number("its PSR", 0x19, word_at("m", PSR));
+    same_number("its C0", 7, word_at("m", C0));
+    ACCEPTED("the other task goes on", "4 0 00000014\n", "run", "program", "m", "4");
+    same_number("the first task has counted", 1, word_at("m", SET_2 + 3));
+    same_number("the other has counted, by the carry, once", 1, word_at("m", SET_1 + 2));
+    copy("m", "expected");
+    divided("10 steps with a task switch in two runs, divided anywhere", 10, "start", lines);
+}
+
 /* A machine whose timer 0 is set by TMR_CONF, and counts from 0 to a maximum. */
 static void timed(const char *path, uint32_t conf, uint32_t maximum)
 {
@@ -757,6 +796,7 @@ void test_commands(void)
     test_in_words();
     test_resume();
     test_long();
+    test_tasks();
     test_timers();
     test_watched();
     test_import();
