@@ -7,6 +7,7 @@ use crate::compare::{Bench, Difference, Run, Sides};
 use crate::damage::DAMAGES;
 use crate::image::*;
 use crate::met::{line, put, Met, Unmet, WIDTH_NAMES};
+use crate::stack_top::StackTop;
 use crate::timers::{Done, Timers};
 use crate::words::{self, *};
 use coffee_reference::Answer;
@@ -94,6 +95,7 @@ pub struct Coverage {
     waited_for_slot: u64,
     waited_for_mulhi: u64,
     timers: Timers,
+    stack_top: StackTop,
 }
 
 impl Coverage {
@@ -136,6 +138,7 @@ impl Coverage {
             waited_for_slot: 0,
             waited_for_mulhi: 0,
             timers: Timers::default(),
+            stack_top: StackTop::default(),
         }
     }
 
@@ -165,6 +168,7 @@ impl Coverage {
         let after = &unclocked.image;
         self.traced_steps += 1;
         self.timers.count(unclocked.done, after);
+        self.stack_top.step(before, unclocked.done);
         self.status[before.psr() as usize] += 1;
         let waiting = getting_through(before, requests);
         if unclocked.done == Done::Interrupt {
@@ -190,6 +194,10 @@ impl Coverage {
             }
             if let (Some(word), Some(LD | ST)) = (word, operation) {
                 self.count_outside(word, code, before);
+                if operation == Some(ST) && code == 7 {
+                    let offset = data_address(word, before) - i64::from(before.control[CCB_BASE]);
+                    self.stack_top.count_violation(offset as usize);
+                }
             }
             return;
         }
@@ -200,8 +208,7 @@ impl Coverage {
 
     /// Counts 07h and 08h of a load or store whose address is outside 32 bits.
     fn count_outside(&mut self, word: u32, code: u32, before: &Image) {
-        let (base, immediate) = memory_operand(word, before.wide());
-        let sum = i64::from(before.source(base)) + immediate;
+        let sum = data_address(word, before);
         let wrapped = sum as u32;
         if sum == i64::from(wrapped) {
             return;
@@ -252,16 +259,24 @@ impl Coverage {
             self.branches[width][(operation - BRANCH) as usize][taken] += 1;
         }
         self.count_parts(word, operation, before);
+        if operation == RETI {
+            self.stack_top.count_return(before, after);
+        }
         let mut stored = false;
         if matches!(operation, LD | ST) {
-            let (base, immediate) = memory_operand(word, wide);
-            let address = (i64::from(before.source(base)) + immediate) as u32;
+            let address = data_address(word, before) as u32;
             let kind = usize::from(operation == ST);
             let offset = address.wrapping_sub(before.control[CCB_BASE]);
             if offset < 256 {
                 let place = (offset as usize).min(CONTROL_REGISTERS);
                 self.control[kind][place] += 1;
                 self.over_cells[kind] += u64::from((address as usize) < cells[0].len());
+                if operation == ST {
+                    let number = before.source(stored_register(word, wide));
+                    self.stack_top.count_store(place, number, before, after);
+                } else {
+                    self.stack_top.count_load(place, before);
+                }
             } else {
                 self.cells[kind] += 1;
                 stored = cells[0][address as usize] != cells[1][address as usize];
@@ -438,6 +453,7 @@ impl Met for Coverage {
         unmet.need(self.waited_for_slot, "interrupt held back by a slot".into());
         unmet.need(self.waited_for_mulhi, "interrupt held back by mulhi".into());
         self.timers.need(&mut unmet);
+        self.stack_top.need(&mut unmet);
         unmet.lines()
     }
 
@@ -528,6 +544,7 @@ impl Met for Coverage {
             ),
         );
         self.timers.report(out);
+        self.stack_top.report(out);
         let both = |operation: u32| {
             let operation = operation as usize;
             self.done[0][operation] + self.done[1][operation]
@@ -598,6 +615,12 @@ fn condition_of(word: u32, before: &Image) -> Option<(usize, bool)> {
     Some((number as usize, words::condition(number, register)))
 }
 
+/// The address of ld or st, which may be outside 32 bits.
+fn data_address(word: u32, before: &Image) -> i64 {
+    let (base, immediate) = memory_operand(word, before.wide());
+    i64::from(before.source(base)) + immediate
+}
+
 /// The sources that are pending, masked in and above all in service, while IE is 1.
 fn getting_through(image: &Image, requests: u32) -> u32 {
     if image.psr() & IE == 0 {
@@ -654,6 +677,7 @@ impl Tracer {
         coverage: &mut Coverage,
     ) -> Result<(), Difference> {
         coverage.traced_calls += 1;
+        coverage.stack_top.start();
         let step = &mut self.step;
         step.program.clone_from(&call.program);
         step.cells.clone_from(&call.cells);
@@ -814,5 +838,116 @@ mod tests {
             assert_eq!(after.control[EXCEPTION_PSR] != 0, done == Done::Exception);
             assert_eq!(after.depth, usize::from(done == Done::Interrupt));
         }
+    }
+
+    /// What is met by calls of these limits, one after the other from an image.
+    fn traced(image: &Image, program: &[u32], limits: &[u32]) -> Vec<String> {
+        let mut coverage = Coverage::new();
+        let mut call = Call {
+            program: program.iter().flat_map(|word| word.to_be_bytes()).collect(),
+            buffer: vec![0; LONGEST],
+            ..Call::default()
+        };
+        image.write(Layout::Present, &mut call.image);
+        let sides = Sides::alike(coffee_reference::run);
+        let mut bench = Bench::default();
+        for &limit in limits {
+            call.limit = limit;
+            let answer = bench.compare(&call, sides).expect("no difference");
+            let left = (&bench.cells[..], &bench.buffer[..]);
+            let traced = Tracer::new().trace(&call, answer, left, sides, &mut coverage);
+            traced.expect("no difference");
+            call.image = bench.buffer[..length(&bench.buffer)].to_vec();
+        }
+        let mut text = String::new();
+        coverage.stack_top.report(&mut text);
+        // The counts that are not 0.
+        text.lines()
+            .map(|line| {
+                let (title, counts) = line.split_once(": ").expect("counts");
+                let met = counts.split(", ").filter(|count| !count.ends_with(" 0"));
+                format!("{title}: {}", met.collect::<Vec<_>>().join(", "))
+            })
+            .collect()
+    }
+
+    /// A top entry that gets another address, another PSR and the same C0, and the return by
+    /// it; the same in a call for each step; a store with an empty stack, and one that is 07h.
+    #[test]
+    fn stores_to_the_stack_top() {
+        let mut image = Image::new();
+        image.set2[PSR] = IL | RSWR | RSRD;
+        image.set2[2..6].copy_from_slice(&[0x0001_0000, 24, 0x2F, 10]);
+        image.control[CCB_BASE] = 0x0001_0000;
+        image.control[DMEM_BOUND_LO] = 1;
+        image.control[IMEM_BOUND_LO] = 1;
+        image.depth = 2;
+        image.stack[1] = Entry {
+            source: 3,
+            address: 0,
+            psr: IL,
+            c0: 2,
+        };
+        image.show_stack();
+        let access = |operation, data, offset| wide_immediate(operation, data, 2, offset as u32);
+        let program = [
+            access(ST, 3, RETI_ADDR),
+            access(ST, 4, RETI_PSR),
+            access(ST, 5, RETI_CR0),
+            access(LD, 6, RETI_PSR),
+            access(LD, 7, RETI_CR0),
+            wide_registers(RETI, 0, 0, 0),
+            NOP,
+        ];
+        let store = "at depth 2 or more 1, 32-bit 1";
+        let [address, psr, c0] = [
+            format!("stores to RETI_ADDR: {store}, that change the entry 1"),
+            format!("stores to RETI_PSR: {store}, that change the entry 1"),
+            format!("stores to RETI_CR0: {store}"),
+        ];
+        let stored = "stored to the stack's top: PSR with bits above 4 1, PSR with one of bits \
+                      7..5 1, PSR with UM 1 and both set bits 1, PSR with UM 1 and set bits in \
+                      super user mode 1, C0 with bits above 2 1";
+        let returns = "interrupt returns by an entry changed in the same call: ";
+        let arrivals = "after a return to a changed address: ";
+        let changed = "by a changed address 1, by a changed PSR 1, in a 32-bit word 1, at depth 2 \
+                       or more 1, to user mode 1";
+        assert_eq!(
+            traced(&image, &program, &[7]),
+            [
+                &address,
+                &format!("{psr}, loaded in the same call 1"),
+                &c0,
+                stored,
+                &format!("{returns}{changed}"),
+                &format!("{arrivals}an instruction 1"),
+            ]
+        );
+        assert_eq!(
+            traced(&image, &program, &[1; 7]),
+            [&address, &psr, &c0, stored, returns, arrivals]
+        );
+
+        image.depth = 0;
+        image.show_stack();
+        image.set2[PSR] = IL | UM;
+        image.set1 = image.set2;
+        let nothing = [
+            "stores to RETI_PSR: ",
+            "stores to RETI_CR0: ",
+            "stored to the stack's top: ",
+            returns,
+            arrivals,
+        ];
+        let met = traced(&image, &program, &[1]);
+        assert_eq!(
+            met[0],
+            "stores to RETI_ADDR: at depth 0 1, 32-bit 1, in user mode 1"
+        );
+        assert_eq!(met[1..], nothing);
+        image.control[DMEM_BOUND_HI] = u32::MAX;
+        let met = traced(&image, &program, &[1]);
+        assert_eq!(met[0], "stores to RETI_ADDR: that are 07h 1");
+        assert_eq!(met[1..], nothing);
     }
 }

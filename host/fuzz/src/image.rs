@@ -53,6 +53,8 @@ pub const TIMER_REGISTERS: [usize; 5] = [TMR0_CNT, TMR0_MAX_CNT, TMR1_CNT, TMR1_
 pub const RETI_ADDR: usize = 0x28;
 pub const RETI_PSR: usize = 0x29;
 pub const RETI_CR0: usize = 0x2A;
+/// The registers that show the stack's top, which follow those of the timers.
+pub const RETI_REGISTERS: [usize; 3] = [RETI_ADDR, RETI_PSR, RETI_CR0];
 pub const FPU_STATUS: usize = 0x2B;
 pub const CORE_VER_ID: usize = 0x2C;
 

@@ -2,9 +2,9 @@
 //! of words and of its carrying over of earlier images on seeded random calls.
 //!
 //! 01 says what a run call is ("Machine image") and what it does ("One step"); 02 says what
-//! a listing is (wish 2), what the timers do and what is carried over (wish 5), and how a word
-//! is written (wish 7). One side is the reference
-//! emulator of host/reference; the other is the proved library, or, to show that the
+//! a listing is (wish 2), what the timers do and what is carried over (wish 5), what stores to
+//! the RETI_ registers do (wish 6), and how a word is written (wish 7). One side is the
+//! reference emulator of host/reference; the other is the proved library, or, to show that the
 //! comparison can fail, a faulty copy of the reference.
 
 pub mod call;
@@ -23,6 +23,7 @@ pub mod random;
 pub mod series;
 pub mod session;
 pub mod shrink;
+pub mod stack_top;
 pub mod state;
 pub mod timers;
 pub mod words;

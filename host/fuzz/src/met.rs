@@ -131,6 +131,13 @@ impl Conditions {
     }
 }
 
+/// Counts what was met.
+pub fn add<const N: usize>(counts: &mut [u64; N], met: [bool; N]) {
+    for (count, met) in counts.iter_mut().zip(met) {
+        *count += u64::from(met);
+    }
+}
+
 /// The place of a number in YES.
 pub fn yes_place(number: u32) -> usize {
     let place = YES.iter().position(|&(other, _)| other == number);

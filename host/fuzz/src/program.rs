@@ -1,6 +1,8 @@
 //! Random programs: regions of 16-bit and 32-bit words, biased towards words that run.
 
-use crate::image::{TIMER_REGISTERS, TMR0_CNT, TMR_CONF};
+use crate::image::{
+    RETI_ADDR, RETI_PSR, RETI_REGISTERS, TIMER_REGISTERS, TMR0_CNT, TMR1_MAX_CNT, TMR_CONF,
+};
 use crate::random::Random;
 use crate::words::{self, *};
 
@@ -34,18 +36,23 @@ pub const AMOUNT: u32 = 4;
 /// Registers for the second source of exbf.
 pub const FIELDS: [u32; 2] = [13, 27];
 
-/// What is mostly between each of the control bases and the first timer register.
-const TO_TIMERS: [u32; 2] = [TMR0_CNT as u32, 3];
+/// What is mostly between CCB_BASE and each of the control bases. From the second a 16-bit word
+/// reaches the registers of the timers and of the stack's top.
+pub const CONTROL_REACHES: [u32; 2] = [0, TMR0_CNT as u32];
 /// Registers for TMR_CONF.
 pub const TIMER_CONFIGURATIONS: [u32; 2] = [14, 28];
 /// Registers for a timer's count and maximum.
 pub const TIMER_COUNTS: [u32; 2] = [15, 16];
+/// Registers for RETI_PSR.
+pub const STATUSES: [u32; 2] = [17, 30];
 
 /// The draw of a raw random word, after the operations.
 const RAW: u32 = 64;
 
 /// The number of kinds of programs.
 pub const THEMES: usize = 10;
+/// Programs that load and store the registers of the stack's top.
+const INTERRUPT_THEME: usize = 4;
 /// Programs that load and store timer registers.
 const TIMER_THEME: usize = 9;
 
@@ -116,8 +123,8 @@ fn weight(theme: usize, operation: u32) -> u32 {
         // Jumps and branches.
         (3, JMP..=LAST_BRANCH | CMP | CMPI) => 4 * mixed,
         // Interrupts.
-        (4, EI | RETI) => 10,
-        (4, DI) => 3,
+        (INTERRUPT_THEME, EI | RETI) => 10,
+        (INTERRUPT_THEME, DI) => 3,
         // Modes.
         (5, SCALL | RETU | RETI | CHRS | DI | EI | TRAP) => 12,
         (5, SWM) => 4,
@@ -237,6 +244,12 @@ impl Filler<'_> {
             _ => (0, 0),
         };
         let tail_at = region.end - tail * width;
+        // A handler may change where and how it returns.
+        let accesses = match region.role {
+            Role::Handler if self.random.percent(30) => self.random.range(1, 6),
+            _ => 0,
+        };
+        let accesses_at = tail_at.saturating_sub(accesses * width);
 
         let mut at = region.start;
         if region.role != Role::Plain && self.random.percent(40) {
@@ -250,6 +263,9 @@ impl Filler<'_> {
         while at < region.end {
             let word = if at == tail_at {
                 tail_word
+            } else if (accesses_at..tail_at).contains(&at) {
+                let operation = if self.random.percent(75) { ST } else { LD };
+                self.register_access(operation, wide, &RETI_REGISTERS)
             } else {
                 self.word(at, wide, slot, held)
             };
@@ -347,16 +363,17 @@ impl Filler<'_> {
 
     /// ld or st, mostly close to the bounds, the cells or the control block.
     fn memory(&mut self, operation: u32, wide: bool) -> u32 {
-        let width_index = usize::from(!wide || self.random.one_in(4));
-        let timers = self.theme == TIMER_THEME && self.random.percent(50);
-        let (base, immediate) = match self.random.below(32) {
-            _ if timers => {
-                let register = self.random.below(TIMER_REGISTERS.len() as u32);
-                (
-                    CONTROL_BASES[width_index],
-                    TO_TIMERS[width_index] + register,
-                )
+        match self.theme {
+            TIMER_THEME if self.random.percent(50) => {
+                return self.register_access(operation, wide, &TIMER_REGISTERS)
             }
+            INTERRUPT_THEME if self.random.percent(30) => {
+                return self.register_access(operation, wide, &RETI_REGISTERS)
+            }
+            _ => {}
+        }
+        let width_index = self.width_index(wide);
+        let (base, immediate) = match self.random.below(32) {
             0..=16 => (
                 DATA_BASES[width_index],
                 self.random.below(7).wrapping_sub(2),
@@ -366,8 +383,30 @@ impl Filler<'_> {
             30 => (DATA_BASES[width_index], self.random.word()),
             _ => (self.source(), self.random.word()),
         };
+        self.access(operation, wide, base, immediate)
+    }
+
+    /// ld or st of one of these registers of the control block.
+    fn register_access(&mut self, operation: u32, wide: bool, registers: &[usize]) -> u32 {
+        let width_index = self.width_index(wide);
+        let offset = self.random.pick(registers) as u32;
+        self.access(
+            operation,
+            wide,
+            CONTROL_BASES[width_index],
+            offset - CONTROL_REACHES[width_index],
+        )
+    }
+
+    /// Which of a pair of registers a word names.
+    fn width_index(&mut self, wide: bool) -> usize {
+        usize::from(!wide || self.random.one_in(4))
+    }
+
+    /// ld or st with these operands.
+    fn access(&mut self, operation: u32, wide: bool, base: u32, immediate: u32) -> u32 {
         let data = match operation {
-            ST if self.random.percent(70) => self.stored(base, immediate),
+            ST if self.random.percent(70) => self.stored(wide, base, immediate),
             ST => self.source(),
             _ => self.target(),
         };
@@ -378,19 +417,14 @@ impl Filler<'_> {
         }
     }
 
-    /// A register to store, for a timer register mostly one with a fitting number.
-    fn stored(&mut self, base: u32, immediate: u32) -> u32 {
-        let register = CONTROL_BASES
-            .iter()
-            .position(|&other| other == base)
-            .and_then(|index| {
-                let place = immediate.wrapping_sub(TO_TIMERS[index]);
-                TIMER_REGISTERS.get(place as usize)
-            });
-        match register {
-            Some(&TMR_CONF) => self.random.pick(&TIMER_CONFIGURATIONS),
-            Some(_) => self.random.pick(&TIMER_COUNTS),
-            None => self.source(),
+    /// A register to store, mostly one with a number that fits the control register.
+    fn stored(&mut self, wide: bool, base: u32, immediate: u32) -> u32 {
+        match control_register(base as usize, immediate) {
+            Some(TMR0_CNT..=TMR1_MAX_CNT) => self.random.pick(&TIMER_COUNTS),
+            Some(TMR_CONF) => self.random.pick(&TIMER_CONFIGURATIONS),
+            Some(RETI_ADDR) => self.code_register(wide),
+            Some(RETI_PSR) => STATUSES[self.width_index(wide)],
+            _ => self.source(),
         }
     }
 
@@ -502,6 +536,14 @@ impl Filler<'_> {
             _ => self.random.word() & 511,
         }
     }
+}
+
+/// The offset in the control block that ld or st mostly has with a base and an immediate.
+pub fn control_register(base: usize, immediate: u32) -> Option<usize> {
+    let index = CONTROL_BASES
+        .iter()
+        .position(|&register| register as usize == base)?;
+    Some(immediate.wrapping_add(CONTROL_REACHES[index]) as usize)
 }
 
 /// Length and position of a field, often at their ends.

@@ -2,8 +2,8 @@
 
 use crate::image::*;
 use crate::program::{
-    self, Region, Role, AMOUNT, CODE_BASES, CONTROL_BASES, DATA_BASES, FIELDS,
-    TIMER_CONFIGURATIONS, TIMER_COUNTS,
+    self, Region, Role, AMOUNT, CODE_BASES, CONTROL_BASES, CONTROL_REACHES, DATA_BASES, FIELDS,
+    STATUSES, TIMER_CONFIGURATIONS, TIMER_COUNTS,
 };
 use crate::random::Random;
 use crate::words;
@@ -27,8 +27,8 @@ pub fn build(
     builder.control_block();
     builder.timers();
     builder.registers();
-    builder.position();
     builder.stack();
+    builder.position();
 }
 
 /// A half of TMR_CONF, mostly of a timer that is enabled, seldom of a watchdog.
@@ -297,7 +297,7 @@ impl Builder<'_> {
                 0 => 8,
                 1 => 0x18,
                 2 => self.random.below(0x30),
-                _ => 0x20,
+                _ => CONTROL_REACHES[1],
             };
             self.set(second, CONTROL_BASES[1], base + reach);
             for (register, wide) in CODE_BASES.into_iter().zip([true, false]) {
@@ -331,9 +331,17 @@ impl Builder<'_> {
             let wide = self.random.percent(60);
             let link = self.code_address(wide);
             self.set(second, LINK as u32, link);
+            for (register, wide) in STATUSES.into_iter().zip([true, false]) {
+                let status = self.stored_status(wide);
+                self.set(second, register, status);
+            }
         }
         self.image.set2[SPSR] = match self.random.below(4) {
             0 => self.random.number(),
+            1 => {
+                let wide = self.random.percent(60);
+                self.stored_status(wide)
+            }
             _ => self.random.pick(&[0x09, 0x19, 0x01, 0x11, 0x0E]),
         };
         for register in &mut self.image.conditions {
@@ -350,7 +358,13 @@ impl Builder<'_> {
     }
 
     fn position(&mut self) {
-        let region = self.random.pick(self.regions);
+        // One state in ten starts at a load or store with an address outside 32 bits, one in
+        // twenty at a store to a RETI_ register, and as many at a reti after such stores.
+        let start = self.random.below(20);
+        let region = match start {
+            2 | 3 => self.region(Role::Handler),
+            _ => self.random.pick(self.regions),
+        };
         let mut wide = region.wide;
         let pc = self.entrance(region);
         if self.random.one_in(30) {
@@ -358,8 +372,11 @@ impl Builder<'_> {
         }
         self.image.set2[PSR] = self.status(wide);
         self.image.position[PC] = pc;
-        if self.random.percent(10) {
-            self.address_outside(region);
+        match start {
+            0 | 1 => self.address_outside(region),
+            2 => self.stack_top_store(region),
+            3 => self.changed_return(region),
+            _ => {}
         }
         if self.random.percent(12) {
             self.image.position[SLOT] = 1;
@@ -408,10 +425,7 @@ impl Builder<'_> {
             u32::MAX - distance
         };
         self.image.position[PC] = at;
-        self.image.set1[base] = start;
-        if base != PSR {
-            self.image.set2[base] = start;
-        }
+        self.set_both(base, start);
         let wrapped = start.wrapping_add(immediate as u32);
         let point = wrapped.wrapping_add(self.random.below(3)).wrapping_sub(1);
         let (low, high) = match self.random.below(6) {
@@ -425,6 +439,96 @@ impl Builder<'_> {
         };
         self.image.control[DMEM_BOUND_LO] = low;
         self.image.control[DMEM_BOUND_HI] = high;
+    }
+
+    /// Starts at a store of a region with a RETI_ register as its address, any number to store,
+    /// and mostly with bounds that protect the register or end next to it.
+    fn stack_top_store(&mut self, region: Region) {
+        let wide = region.wide;
+        let from = program::word_of(self.random, region, wide);
+        let store = |word| words::operation(word, wide) == words::ST;
+        let Some((at, word)) = self.first_in(region, from, store) else {
+            return;
+        };
+        let (base, immediate) = words::memory_operand(word, wide);
+        // The one that the word is for, so that those after it find theirs.
+        let offset = program::control_register(base, immediate as u32)
+            .filter(|offset| RETI_REGISTERS.contains(offset))
+            .unwrap_or_else(|| self.random.pick(&RETI_REGISTERS));
+        let block = self.image.control[CCB_BASE];
+        let address = block + offset as u32;
+        let Ok(start) = u32::try_from(i64::from(address) - immediate) else {
+            return;
+        };
+        self.image.position[PC] = at;
+        let number = match offset {
+            RETI_ADDR => self.stored_address(wide),
+            RETI_PSR => self.stored_status(wide),
+            _ => self.random.number(),
+        };
+        self.set_both(words::stored_register(word, wide), number);
+        self.set_both(base, start);
+        let (low, high) = match self.random.below(8) {
+            0..=2 => self.no_bounds(),
+            3 => (address, address),
+            4 => (block, block + 255),
+            5 => (0, address - 1),
+            6 => (address + 1, u32::MAX),
+            _ => return,
+        };
+        self.image.control[DMEM_BOUND_LO] = low;
+        self.image.control[DMEM_BOUND_HI] = high;
+    }
+
+    /// Starts at a reti of a region with a top entry as stores to the RETI_ registers leave it.
+    fn changed_return(&mut self, region: Region) {
+        let reti = |word| words::operation(word, region.wide) == words::RETI;
+        let found = self.first_in(region, region.start, reti);
+        let (Some((at, _)), Some(top)) = (found, self.image.depth.checked_sub(1)) else {
+            return;
+        };
+        self.image.position[PC] = at;
+        let wide = self.random.percent(50);
+        self.image.stack[top].address = self.stored_address(wide);
+        self.image.stack[top].psr = self.status(wide);
+        self.image.show_stack();
+    }
+
+    /// Sets a register in both sets, but for PSR.
+    fn set_both(&mut self, register: usize, value: u32) {
+        self.image.set1[register] = value;
+        if register != PSR {
+            self.image.set2[register] = value;
+        }
+    }
+
+    /// A number for RETI_ADDR: an instruction address for words of the given length, or one
+    /// that is misaligned, protected, absent or too high, or anything.
+    fn stored_address(&mut self, wide: bool) -> u32 {
+        let address = program::code_address(self.random, self.regions, wide);
+        match self.random.below(16) {
+            0..=7 => address,
+            8 | 9 => address + self.random.range(1, 3),
+            10 | 11 => {
+                let bound = self.random.pick(&[IMEM_BOUND_LO, IMEM_BOUND_HI]);
+                self.image.control[bound] & !(words::bytes(wide) - 1)
+            }
+            12 => (self.program.len() as u32 & !3) + 4 * self.random.below(2),
+            13 | 14 => address | 1 << self.random.range(16, 31),
+            _ => self.random.number(),
+        }
+    }
+
+    /// A number for RETI_PSR with the given word length: either mode with any set bits, often
+    /// with bits above, which are not kept.
+    fn stored_status(&mut self, wide: bool) -> u32 {
+        let sets = self.random.pick(&[0, RSRD, RSWR, RSRD | RSWR]);
+        let above = match self.random.below(4) {
+            0 => 32 << self.random.below(27),
+            1 => self.random.word() & !31,
+            _ => 0,
+        };
+        self.status(wide) | sets | above
     }
 
     /// The first word of a region from an address on that is wanted, with its address.

@@ -2,7 +2,7 @@
 //! after them.
 
 use crate::image::*;
-use crate::met::{line, Unmet};
+use crate::met::{add, line, Unmet};
 
 /// What a step does before its clock.
 #[derive(Clone, Copy, PartialEq, Eq)]
@@ -229,13 +229,6 @@ fn reset(timer: Timer, done: Done, stored: &Image) -> [bool; RESETS.len()] {
         done == Done::TimerStore(TMR_CONF),
         timer.stays_at_0(),
     ]
-}
-
-/// Counts what was met.
-fn add<const N: usize>(counts: &mut [u64; N], met: [bool; N]) {
-    for (count, met) in counts.iter_mut().zip(met) {
-        *count += u64::from(met);
-    }
 }
 
 #[cfg(test)]

@@ -145,6 +145,15 @@ pub fn memory_operand(word: u32, wide: bool) -> (usize, i64) {
     }
 }
 
+/// The register that st stores.
+pub fn stored_register(word: u32, wide: bool) -> usize {
+    if wide {
+        (word >> 10 & 31) as usize
+    } else {
+        (word & 7) as usize + 24
+    }
+}
+
 /// The register that is the second source.
 pub fn second_source(word: u32, wide: bool) -> usize {
     if wide {
