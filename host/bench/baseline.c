@@ -331,8 +331,8 @@ static inline uint32_t extracted(uint32_t value, uint32_t field)
     return value >> (field & 31) & (uint32_t)((1ull << (field >> 5 & 63)) - 1);
 }
 
-// The bits that a store to a control register leaves in it; none for one that is only read, and for
-// RETI_.
+// The bits that a store to a control register leaves in it, but for RETI_; none for one that is only
+// read.
 static uint32_t stored_bits(uint32_t offset)
 {
     switch (offset) {
@@ -372,11 +372,13 @@ static void store_top(struct machine *m, uint32_t offset, uint32_t value)
 // Stores to the control block.
 static void store_control(struct machine *m, uint32_t offset, uint32_t value)
 {
+    if (offset >= RETI_ADDR && offset <= RETI_CR0) {
+        store_top(m, offset, value);
+        return;
+    }
     uint32_t bits = stored_bits(offset);
     if (bits != 0)
         m->control[offset] = value & bits;
-    else if (offset >= RETI_ADDR && offset <= RETI_CR0)
-        store_top(m, offset, value);
 }
 
 // Runs the instruction at PC, or enters an exception; the number of a stop, or 0.
