@@ -51,11 +51,11 @@ pub record StackShown (m : Machine) : Type 0 where
 
 -- ---- stores to the control block
 
--- what RETI_PSR keeps of x: bits 4..0, and with UM 1 both set bits become 0
+-- what RETI_PSR keeps of x: "bits 4..0, and with UM 1 both set bits become 0" (02, wish 6)
 unfoldable pub keptStatus : ℕ → ℕ
 keptStatus x = if userMode x then statusOf true false false (wideWords x) (interruptsEnabled x) else x % 32
 
--- an entry with the part replaced that the register at an offset shows: RETI_ADDR its address, RETI_PSR its PSR, RETI_CR0 its C0
+-- an entry with the part replaced that the register at an offset shows: RETI_ADDR its address, RETI_PSR its PSR, RETI_CR0 its C0, of three bits
 unfoldable pub returnStored : (offset x : ℕ) → Entry → Entry
 returnStored n x e =
     record {
@@ -65,7 +65,7 @@ returnStored n x e =
       c0 = if eqb n RETI-CR0 then x % 8 else e .c0;
     }
 
--- a store to such a register replaces that part of the top entry; with an empty stack it is ignored
+-- a store to such a register replaces that part of the top entry; "with an empty stack they are ignored"
 unfoldable pub topStored : (offset x : ℕ) → List Entry → Machine → Machine
 topStored n x [] m = m
 topStored n x (e ∷ es) m = withStack (returnStored n x e ∷ es) m
