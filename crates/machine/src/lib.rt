@@ -356,7 +356,7 @@ pub fn limit(offset: u32) -> u32
     }
 }
 
-// Whether a store to the control register at an offset changes it.
+// Whether the control register at an offset keeps what is stored.
 fn writable(offset: u32) -> bool
     ensures { λ r. ⌜ r ≡ isWritable (registerAt offset .access) ⌝ }
 {

@@ -1,14 +1,16 @@
 -- The worked examples of 01 that are marked *, and those of 02's wish 3, as a table: one step from a start, what is shown of it, and what that
--- must be. Assumes nothing.
+-- must be; and a change of task, of 02's wish 6. Assumes nothing.
 use mathlib.Core.Path.{_≡_}
 use mathlib.Core.List.{List, [], _∷_, _++_, map}
-use Prim.Native.Nat.{ℕ, _+_, _*_, _^_}
+use Prim.Native.Nat.{ℕ, zero, suc, _+_, _*_, _^_}
 use lib.ListN.{getD, set, replicate}
 use Rattle.isa.specs.Operation.{Operation, add, sub, subu, muls, mulu, mulus, ld, jmp, Properties, properties}
-use Rattle.machine.specs.Machine.{Machine, memoryOf, State, PSR, positionAt}
+use Rattle.machine.specs.Machine.{Machine, memoryOf, State, PSR, psr, positionAt, withSet2}
 use Rattle.machine.specs.Words.{ZEROS}
 use Rattle.machine.specs.declared.Position.{Position}
-use Rattle.machine.specs.Control.{controlAt, reset, EXCEPTION-CS, EXCEPTION-PC, EXCEPTION-PSR, DMEM-BOUND-LO, DMEM-BOUND-HI, IMEM-BOUND-LO, IMEM-BOUND-HI}
+use Rattle.machine.specs.declared.Entry.{Entry}
+use Rattle.machine.specs.Stack.{withStack}
+use Rattle.machine.specs.Control.{controlAt, reset, EXCEPTION-CS, EXCEPTION-PC, EXCEPTION-PSR, DMEM-BOUND-LO, DMEM-BOUND-HI, IMEM-BOUND-LO, IMEM-BOUND-HI, INT-SERV, RETURNS}
 use Rattle.codec.specs.Number.{bytesOf}
 use Rattle.effect.specs.Apply.{Transition}
 use Rattle.step.specs.Step.{step}
@@ -150,3 +152,49 @@ Worked = map given cases ≡ map wanted cases
 -- before the wish each of its cases was 08h
 abbrev pub WorkedBefore : Type 0
 WorkedBefore = map (λ c. stepBefore (c .program) (start c) 0 .kind) wrappedCases ≡ replicate 7 (Exception 0x08)
+
+-- ---- a change of task (02, wish 6)
+
+abbrev entry : (source address psr c0 : ℕ) → Entry
+entry n a q c = record { source = n; address = a; psr = q; c0 = c }
+
+-- reset but for a stack, PR0, which has CCB_BASE, and PR1 and PR2
+unfoldable pub routine : List Entry → (pr1 pr2 : ℕ) → State
+routine stack x y =
+    record {
+      machine = withStack stack (withSet2 (set (set (set (reset .set2) 0 0x0001_0000) 1 x) 2 y) reset);
+      memory = memoryOf [];
+    }
+
+unfoldable pub after : (count : ℕ) (program : List ℕ) → State → State
+after zero program s = s
+after (suc n) program s = after n program (step program s 0 .after)
+
+-- PC, PSR, C0, PR4, INT_SERV and the RETI_ registers
+unfoldable pub shownReturn : State → List ℕ
+shownReturn s =
+    let m = s .machine in
+    m .position .pc ∷ psr m ∷ getD (m .conditions) 0 0 ∷ getD (m .set2) 4 0 ∷ map (controlAt m) (INT-SERV ∷ RETURNS)
+
+unfoldable pub switching : List ℕ
+switching =
+    bytesOf (
+    0x7000_8408 ∷  -- st PR1, PR0, 28h
+    0x7000_8809 ∷  -- st PR2, PR0, 29h
+    0x7000_880A ∷  -- st PR2, PR0, 2Ah
+    0x6C00_9009 ∷  -- ld PR4, PR0, 29h
+    0xC800_0000 ∷  -- reti
+    [])
+
+-- the top, of source 7, gets 12345678h, FFFFFFFFh and FFFFFFFFh: of the PSR 19h is kept, of C0 7; reti goes there, and the entry of source 4 is
+-- shown. With an empty stack nothing but PC moves
+abbrev pub WorkedReturn : Type 0
+WorkedReturn =
+    let nested = routine (entry 7 0x80 0x0E 2 ∷ entry 4 0x40 0x19 1 ∷ []) 0x1234_5678 0xFFFF_FFFF in
+    map (λ n. shownReturn (after n switching nested)) (0 ∷ 3 ∷ 4 ∷ 5 ∷ []) ++ shownReturn (after 3 switching (routine [] 5 6)) ∷ []
+    ≡ (0 ∷ 0x0E ∷ 0 ∷ 0 ∷ 0x90 ∷ 0x80 ∷ 0x0E ∷ 2 ∷ [])
+    ∷ (12 ∷ 0x0E ∷ 0 ∷ 0 ∷ 0x90 ∷ 0x1234_5678 ∷ 0x19 ∷ 7 ∷ [])
+    ∷ (16 ∷ 0x0E ∷ 0 ∷ 0x19 ∷ 0x90 ∷ 0x1234_5678 ∷ 0x19 ∷ 7 ∷ [])
+    ∷ (0x1234_5678 ∷ 0x19 ∷ 7 ∷ 0x19 ∷ 0x10 ∷ 0x40 ∷ 0x19 ∷ 1 ∷ [])
+    ∷ (12 ∷ 0x0E ∷ 0 ∷ 0 ∷ 0 ∷ 1 ∷ 9 ∷ 0 ∷ [])
+    ∷ []
