@@ -18,7 +18,8 @@ use Rattle.effect.specs.Apply.{machineOnly, apply}
 abbrev pub IgnoredWhenEmpty : Type 0
 IgnoredWhenEmpty = (offset x : ℕ) (s : State) → isAmong offset RETURNS ≡ true → s .machine .stack ≡ [] → apply (StoreControl offset x) s ≡ apply Next s
 
--- after stores of an address, a PSR and a C0 to the three registers
+-- after stores of an address, a PSR and a C0 to the three registers, with no requests, interrupts or clocks in between; with steps' own clocks a
+-- case is worked in Worked
 abbrev pub afterStores : (address status flags : ℕ) → State → State
 afterStores a q c s =
     let stored : (offset x : ℕ) → State → State = λ n x t. apply (StoreControl n x) t .after in
