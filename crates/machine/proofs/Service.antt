@@ -1,4 +1,4 @@
--- The top of a stack of different sources below 12, when it is popped or a part of it replaced. Assumes nothing.
+-- The flags of a stack that is shown; its top, when it is popped or a part of it replaced. Assumes nothing.
 use mathlib.Core.Path.{_≡_, refl, sym, ap, _∙_}
 use mathlib.Core.Bool.{true}
 use mathlib.Core.List.{List, [], _∷_}
@@ -15,6 +15,12 @@ use Rattle.machine.specs.Words.{WORDS, machineOf}
 use Rattle.machine.specs.declared.Entry.{Entry}
 use Rattle.machine.proofs.Flat.{control-length}
 use Rattle.machine.proofs.Stack.{flags-popped, shown-flags}
+
+-- INT_SERV has the flags of the sources in service
+pub shown-served : (w : List ℕ) → length w ≡ WORDS → StackShown (machineOf w) → controlAt (machineOf w) INT-SERV ≡ serviceFlags (machineOf w .stack)
+shown-served w h s =
+    let m = machineOf w in
+    ap (λ l. getD l INT-SERV 0) (sym (s .shown)) ∙ shown-flags (m .stack) (m .control) (control-length w h)
 
 pub top-below : (es : List Entry) → distinctBelow 12 (sourcesOf es) ≡ true → 0 < length es → shownTop es .source < 12
 unfolding sourcesOf shownTop
@@ -34,12 +40,6 @@ length-popped [] = omega arith
 length-popped (e ∷ es) = omega arith
 
 -- ---- a part of the top replaced
-
--- INT_SERV has the flags of the sources in service
-pub shown-served : (w : List ℕ) → length w ≡ WORDS → StackShown (machineOf w) → controlAt (machineOf w) INT-SERV ≡ serviceFlags (machineOf w .stack)
-shown-served w h s =
-    let m = machineOf w in
-    ap (λ l. getD l INT-SERV 0) (sym (s .shown)) ∙ shown-flags (m .stack) (m .control) (control-length w h)
 
 module _ (offset x : ℕ) where
   -- its source stays
