@@ -64,8 +64,7 @@ module _ (p requests : List ℕ) where
       → (limit count : ℕ) → limit ≡ done + n → count ≡ done + length ts → Ended limit (e .steps) (e .ending) count
   runs-ended limit-reached limit count h k = limitReached (omega arith) (omega arith) refl
   runs-ended (loop.stopped {done = d} {s = s} x) limit count h k =
-      let r = stop-number p s _ x in
-      stopped (omega arith) (omega arith) (r .0) (r .1)
+      stopped (omega arith) (omega arith) (stop-number p s _ x)
   runs-ended (went-on x r) limit count h k = runs-ended r limit count (omega arith) (omega arith)
 
 -- ---- a call that is not refused

@@ -4,9 +4,11 @@ use mathlib.Core.Bool.{true}
 use mathlib.Core.List.{List, [], _∷_}
 use Prim.Native.Nat.{ℕ, suc, _≤_, _<_}
 use lib.ListN.{length, getD, getElem?}
+use Rattle.word.specs.Flags.{isAmong}
 use Rattle.machine.specs.Machine.{Machine, Memory, State}
 use Rattle.formed.specs.Questions.{Accepted}
 use Rattle.image.specs.Image.{readImage}
+use Rattle.effect.specs.Kind.{STOPS}
 use Rattle.effect.specs.Apply.{Transition}
 use Rattle.step.specs.Step.{isStop, step}
 use Rattle.emulator.specs.Run.{Call, No, Start, asked, RefusedWith, RanFor, stateWith, Called, called, transitions}
@@ -66,10 +68,10 @@ pub record Written (image before after : List ℕ) : Type 0 where
   pub front : (i : ℕ) → i < length image → getElem? after i ≡ getElem? image i
   pub further : (i : ℕ) → length image ≤ i → getElem? after i ≡ getElem? before i
 
--- "steps done, ending (0 limit reached, or stop 11 to 15)", of so many transitions: the last one is the stop, if there is one
+-- "steps done, ending (0 limit reached, or stop 11 to 15)", or stop 20 (02, wish 8), of so many transitions: the last one is the stop, if there is one
 pub data Ended (limit steps ending count : ℕ) : Type 0 where
   limitReached : steps ≡ limit → count ≡ limit → ending ≡ 0 → Ended limit steps ending count
-  stopped : steps < limit → count ≡ suc steps → 11 ≤ ending → ending ≤ 15 → Ended limit steps ending count
+  stopped : steps < limit → count ≡ suc steps → isAmong ending STOPS ≡ true → Ended limit steps ending count
 
 -- the answer's numbers, the image in the buffer; and that image and the data memory are those after the last of the call's steps
 pub record RanAs (program : List ℕ) (start : State) (c : Call) (d : Called) : Type 0 where

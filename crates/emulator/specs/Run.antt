@@ -30,7 +30,7 @@ run program requests (suc limit) done s =
     let ts = run program requests limit (suc done) (t .after) in
     t ∷ (if isStop (t .kind) then [] else ts)
 
--- steps done; "ending (0 limit reached, or stop 11 to 15)"; the state that is left
+-- steps done; "ending (0 limit reached, or stop 11 to 15)", or 20 (02, wish 8); the state that is left
 pub record RunResult : Type 0 where
   pub steps : ℕ
   pub ending : ℕ
@@ -94,7 +94,7 @@ asked program image memory c = ask (length program) (length (memory .cells)) ima
 -- what a call answers, in numbers
 pub data Reply : Type 0 where
   RefusedWith : (number : ℕ) → Reply  -- "a no gives the number", 1 to 8
-  RanFor : (steps ending : ℕ) → Reply  -- "steps done, ending (0 limit reached, or stop 11 to 15)"
+  RanFor : (steps ending : ℕ) → Reply  -- "steps done, ending (0 limit reached, or stop 11 to 15)", or 20
 
 -- the number and values of each case of the code's answer
 unfoldable pub replyOf : Answer → Reply

@@ -11,7 +11,7 @@ use Rattle.isa.specs.Decode.{decode}
 use Rattle.isa.specs.declared.Instruction.{Instruction}
 use Rattle.machine.specs.Machine.{userMode, widthOf}
 use Rattle.machine.specs.declared.Position.{Position}
-use Rattle.view.specs.View.{Attempt, Found, Raises, Stops, View, conditionFalse}
+use Rattle.view.specs.View.{Attempt, Found, Raises, Stops, View, conditionFalse, nopsFrom, nopsAfter}
 use Rattle.operation.specs.Execute.{onFound}
 use Rattle.effect.specs.Effect.{Stopped, Raised, Next}
 use Rattle.execute.specs.Decide.{perform, ifAvailable, instruction, fetchedThen}
@@ -62,7 +62,13 @@ module _ (v : View) (i : Instruction) where
       unfolding ifAvailable if_then_else_
       skipped c = free ∙ rw (t, c)
 
-      -- its own effect
-      pub performed : conditionFalse v i ≡ false → instruction v i ≡ perform v i (operationOf (i .opcode))
+      -- by the nops that must follow
+      pub looked : conditionFalse v i ≡ false → (a : Attempt (Unit {0})) → a ≡ nopsAfter v (properties (operationOf (i .opcode)) .nops)
+          → instruction v i ≡ onFound (λ _. perform v i (operationOf (i .opcode))) a
       unfolding ifAvailable if_then_else_
-      performed c = free ∙ rw (t, c)
+      looked c a e = free ∙ rw (t, c, ← e)
+
+      -- its own effect, where there are none
+      pub performed : conditionFalse v i ≡ false → properties (operationOf (i .opcode)) .nops ≡ 0 → instruction v i ≡ perform v i (operationOf (i .opcode))
+      unfolding nopsFrom onFound
+      performed c n = looked c (Found tt) (rw n)

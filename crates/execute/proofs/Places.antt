@@ -14,9 +14,9 @@ use Rattle.isa.specs.Computed.{instructions}
 use Rattle.isa.specs.Theorems.{between}
 use Rattle.isa.specs.declared.Instruction.{Instruction}
 use Rattle.isa.proofs.Table.{values, agree}
-use Rattle.isa.proofs.Groups.{usable-low, no-transfer}
+use Rattle.isa.proofs.Groups.{usable-low, no-transfer, no-nops}
 use Rattle.machine.specs.declared.Position.{Position}
-use Rattle.view.specs.View.{Attempt, Raises, mapFound, Location, View, withPlaces, conditionFalse}
+use Rattle.view.specs.View.{Attempt, Raises, mapFound, Location, View, withPlaces, conditionFalse, nopsAfter}
 use Rattle.effect.specs.Effect.{Effect, Stopped, Raised, Next}
 use Rattle.operation.specs.Execute.{onFound, afterThis, targetBy, jumped, branch, execute}
 use Rattle.execute.specs.Decide.{perform, ifAvailable, instruction}
@@ -47,7 +47,7 @@ module _ (i : Instruction) (a : between 27 28 (i .opcode) ≡ true) where
     access-skipped = skipped v i usable stays
 
     access-performed : conditionFalse v i ≡ false → instruction v i ≡ perform v i (operationOf (i .opcode))
-    access-performed = performed v i usable stays
+    access-performed c = let h = range .1 in performed v i usable stays c (no-nops (i .opcode) (omega arith))
 
     -- an exception where the address leads to one
     pub access-raised : (held : Location → ℕ) → LoadsPlaces held v → conditionFalse v i ≡ false → (code : ℕ) → v .place (addressOf v i) ≡ Raises code
@@ -92,7 +92,8 @@ module _ (v : View) (place : ℤ → Attempt Location) (held : Location → ℕ)
     unfolding ifAvailable perform withPlaces conditionFalse
     other-available (some c) = refl
     other-available none =
-        ap (λ (e : Effect). if properties (operationOf (i .opcode)) .transfer && eqb (v .position .slot) 1 then Stopped 13 else if conditionFalse v i then Next else e)
+        ap (λ (e : Effect). if properties (operationOf (i .opcode)) .transfer && eqb (v .position .slot) 1 then Stopped 13 else if conditionFalse v i then Next
+        else onFound (λ _. e) (nopsAfter v (properties (operationOf (i .opcode)) .nops)))
         (other-same i (v .source (i .sreg1)) (v .source (i .sreg2)) (i .opcode) k a)
 
     -- another instruction is the same

@@ -1,13 +1,13 @@
--- What a decision can be: a stop is one of the five, an exception has the code of a test or of trap, a store goes to a place that passed the data tests, and a privileged effect is not user mode's. Assumes nothing.
+-- What a decision can be: a stop has one of the numbers, an exception has the code of a test or of trap, a store goes to a place that passed the data tests, and a privileged effect is not user mode's. Assumes nothing.
 use mathlib.Core.Path.{_≡_, refl}
 use mathlib.Core.Bool.{Bool, true, false}
 use mathlib.Core.Option.{Option, none, some}
 use mathlib.Core.List.{List}
-use Prim.Native.Nat.{ℕ, _≤_}
+use Prim.Native.Nat.{ℕ}
 use native.Mathlib.Omega.{arith}
-use lib.Dec.{lit≤}
 use lib.IntN.{ℤ}
 use Rattle.word.specs.Choice.{if_then_else_}
+use Rattle.word.specs.Flags.{isAmong}
 use Rattle.word.specs.Word.{wordOf}
 use Rattle.word.specs.declared.Sum.{Sum}
 use Rattle.isa.specs.Operation.{Operation, nop, add, addu, sub, subu, and, or, xor, muls, mulu, mulus, muls16, mulu16, mulus16, sll, srl, sra, sext, addi, addiu, andi, ori, muli, slli, srli, srai, sexti, ld, st, mov, not, mulhi, cmp, cmpi, lli, lui, jmp, jal, jmpr, jalr, bc, begt, belt, beq, bgt, blt, bne, bnc, scall, retu, reti, chrs, di, ei, swm, trap, scon, rcon, conb, conh, exb, exh, exbf, exbfi, operationOf, Width, w16, w32, Availability, anywhere, wideOnly, superOnly, unavailable, codeOf, properties}
@@ -17,13 +17,14 @@ use Rattle.isa.specs.declared.Instruction.{Instruction}
 use Rattle.machine.specs.Machine.{State, userMode, widthOf}
 use Rattle.view.specs.View.{Attempt, Found, Raises, Stops, Location, Block, Cell, View, view}
 use Rattle.view.proofs.Addresses.{Reached}
-use Rattle.view.proofs.Answers.{Code, tests, traps, Numbered, AnswersNumbered, view-numbered}
+use Rattle.execute.proofs.Answers.{Code, tests, traps, Numbered, AnswersNumbered, view-numbered, nops-numbered}
 use Rattle.word.proofs.Tests.{if-holds}
 use Rattle.word.proofs.Bounds.{word-below}
 use Rattle.operation.specs.Execute.{checked, wrapped, product, onFound, stored, targetBy, jumped, branch, execute}
 use Rattle.execute.specs.Decide.{perform, ifAvailable, instruction, fetchedThen, decide}
 use Rattle.effect.specs.Update.{Update}
 use Rattle.effect.specs.Update as update
+use Rattle.effect.specs.Kind.{STOPS}
 use Rattle.effect.specs.Effect.{Effect, Stopped, Raised, SystemCall, InterruptReturn, StoreCell, Updates, Jump, JumpLink}
 
 -- what a view allows of the plain updates: a store to a register of the block that passed the data tests, and what is super user's in that mode
@@ -44,7 +45,7 @@ SafeUpdate v (update.SwitchWidth w) = Unit {0}
 
 -- and of effects
 abbrev pub Safe : View → Effect → Type 0
-Safe v (Stopped n) = (11 ≤ n) × (n ≤ 15)
+Safe v (Stopped n) = isAmong n STOPS ≡ true
 Safe v (Raised c) = Code c
 Safe v SystemCall = Unit {0}
 Safe v InterruptReturn = v .nested ≡ true
@@ -102,7 +103,7 @@ unavailable-coded superOnly w false = tests refl
 
 module _ (v : View) (h : AnswersNumbered v) (i : Instruction) (x y : ℕ) where
   execute-safe : (op : Operation) → Available v op → Safe v (execute op v i x y)
-  unfolding execute wrapped product properties
+  unfolding execute wrapped product properties isAmong
   execute-safe nop e = tt
   execute-safe add e = checked-safe v (i .dreg) _
   execute-safe addu e = tt
@@ -134,7 +135,7 @@ module _ (v : View) (h : AnswersNumbered v) (i : Instruction) (x y : ℕ) where
   execute-safe st e = found-safe v _ _ (h .access _) (λ l r. stored-safe v (v .source (i .dreg)) l (_, r))
   execute-safe mov e = tt
   execute-safe not e = tt
-  execute-safe mulhi e = if-safe v _ _ _ (λ _. tt) (λ _. (lit≤ tt, lit≤ tt))
+  execute-safe mulhi e = if-safe v _ _ _ (λ _. tt) (λ _. refl)
   execute-safe cmp e = tt
   execute-safe cmpi e = tt
   execute-safe lli e = tt
@@ -153,7 +154,7 @@ module _ (v : View) (h : AnswersNumbered v) (i : Instruction) (x y : ℕ) where
   execute-safe bnc e = branch-safe v _ i
   execute-safe scall e = tt
   execute-safe retu e = super-only _ _ e
-  execute-safe reti e = if-safe v _ _ _ (λ b. b) (λ _. (lit≤ tt, lit≤ tt))
+  execute-safe reti e = if-safe v _ _ _ (λ b. b) (λ _. refl)
   execute-safe chrs e = super-only _ _ e
   execute-safe di e = tt
   execute-safe ei e = tt
@@ -173,10 +174,11 @@ module _ (v : View) (h : AnswersNumbered v) (i : Instruction) (x y : ℕ) where
 module _ (v : View) (h : AnswersNumbered v) where
   available-safe : (i : Instruction) (op : Operation) (o : Option ℕ)
       → unavailable (properties op .availability) (widthOf (v .status)) (userMode (v .status)) ≡ o → Safe v (ifAvailable v i op o)
-  unfolding ifAvailable perform codeOf
+  unfolding ifAvailable perform codeOf isAmong
   available-safe i op (some c) e = rw e at (unavailable-coded (properties op .availability) (widthOf (v .status)) (userMode (v .status)))
   available-safe i op none e =
-      if-safe v _ _ _ (λ _. (lit≤ tt, lit≤ tt)) (λ _. if-safe v _ _ _ (λ _. tt) (λ _. execute-safe v h i (v .source (i .sreg1)) (v .source (i .sreg2)) op e))
+      if-safe v _ _ _ (λ _. refl) (λ _. if-safe v _ _ _ (λ _. tt) (λ _.
+      found-safe v _ _ (nops-numbered _ (v .following) (h .after) 1 (properties op .nops)) (λ _ _. execute-safe v h i (v .source (i .sreg1)) (v .source (i .sreg2)) op e)))
 
   decided-safe : Safe v (decide v)
   unfolding decide fetchedThen instruction

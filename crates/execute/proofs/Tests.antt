@@ -17,14 +17,14 @@ use Rattle.isa.proofs.Decoded.{InRange, in-range}
 use Rattle.machine.specs.Machine.{Machine, psr, userMode, wideWords, widthOf, Memory}
 use Rattle.machine.specs.declared.Position.{Position}
 use Rattle.machine.specs.Words.{machineOf}
-use Rattle.view.specs.View.{Found, View, view, viewOf, conditionFalse}
+use Rattle.view.specs.View.{Attempt, Found, View, view, viewOf, conditionFalse, nopsAfter}
 use Rattle.effect.specs.Effect.{Effect, Stopped, Raised, Next}
 use Rattle.operation.specs.Execute.{onFound, execute}
 use Rattle.execute.specs.Decide.{perform, fetchedThen}
-use Rattle.execute.proofs.Order.{codeFor, transferInSlot, barred, in-slot, skipped, performed}
+use Rattle.execute.proofs.Order.{codeFor, transferInSlot, barred, in-slot, skipped, looked, performed}
 use Rattle.effect.specs.Apply.{Report, reportOn}
 use Rattle.isa.proofs.Table.{values, agree}
-use Rattle.isa.proofs.Groups.{usable-low, usable-jump, no-transfer, transfers}
+use Rattle.isa.proofs.Groups.{usable-low, usable-jump, no-transfer, transfers, no-nops}
 
 -- 40 to 47 are never conditional
 never-conditional : (n : ℕ) → 40 ≤ n → n < 48 → properties (operationOf n) .conditional ≡ false
@@ -99,11 +99,20 @@ module _ (p w : List ℕ) (memory : Memory) {word op : ℕ} {i : Instruction} (d
       unfolding view onFound fetchedThen
       word-skipped c = by Next (rw (← (d .same)) (skipped v i (same-code ∙ usable) (same-transfer ∙ t) c))
 
-      -- its own effect, on its two sources
-      pub word-performed : conditionFalse v i ≡ false → (x y : ℕ) → x ≡ v .source (i .sreg1) → y ≡ v .source (i .sreg2)
+      -- by the nops that must follow; its own effect is on its two sources
+      pub word-looked : conditionFalse v i ≡ false → (x y : ℕ) → x ≡ v .source (i .sreg1) → y ≡ v .source (i .sreg2)
+          → (r : Attempt (Unit {0})) → r ≡ nopsAfter v (properties (operationOf op) .nops)
+          → done ≡ reportOn (onFound (λ _. execute (operationOf (i .opcode)) v i x y) r) w memory
+      unfolding view fetchedThen perform
+      word-looked c x y a b r e =
+          by (onFound (λ _. execute (operationOf (i .opcode)) v i x y) r)
+          (rw (← (d .same), a, b) (looked v i (same-code ∙ usable) (same-transfer ∙ t) c r (rw (d .number) e)))
+
+      -- its own effect, where there are none
+      pub word-performed : properties (operationOf op) .nops ≡ 0 → conditionFalse v i ≡ false → (x y : ℕ) → x ≡ v .source (i .sreg1) → y ≡ v .source (i .sreg2)
           → done ≡ reportOn (execute (operationOf (i .opcode)) v i x y) w memory
       unfolding view onFound fetchedThen perform
-      word-performed c x y a b = by (execute (operationOf (i .opcode)) v i x y) (rw (← (d .same), a, b) (performed v i (same-code ∙ usable) (same-transfer ∙ t) c))
+      word-performed n c x y a b = by (execute (operationOf (i .opcode)) v i x y) (rw (← (d .same), a, b) (performed v i (same-code ∙ usable) (same-transfer ∙ t) c (rw (d .number) n)))
 
   -- nop to cmpi: only the condition is asked
   module _ (h : op < 34) where
@@ -115,7 +124,7 @@ module _ (p w : List ℕ) (memory : Memory) {word op : ℕ} {i : Instruction} (d
 
     pub low-performed : conditionFalse v i ≡ false → (x y : ℕ) → x ≡ v .source (i .sreg1) → y ≡ v .source (i .sreg2)
         → done ≡ reportOn (execute (operationOf (i .opcode)) v i x y) w memory
-    low-performed = word-performed (usable-low _ _ op h) stays
+    low-performed = word-performed (usable-low _ _ op h) stays (no-nops op (omega arith))
 
     -- its own effect, by the clause of its number
     pub low-performed-as : (n : ℕ) → op ≡ n → conditionFalse v i ≡ false → (x y : ℕ) → x ≡ v .source (i .sreg1) → y ≡ v .source (i .sreg2)
@@ -136,7 +145,7 @@ module _ (p w : List ℕ) (memory : Memory) {word op : ℕ} {i : Instruction} (d
 
       pub jump-performed : conditionFalse v i ≡ false → (x y : ℕ) → x ≡ v .source (i .sreg1) → y ≡ v .source (i .sreg2)
           → done ≡ reportOn (execute (operationOf (i .opcode)) v i x y) w memory
-      jump-performed = word-performed (usable-jump _ _ op l h) free
+      jump-performed = word-performed (usable-jump _ _ op l h) free (no-nops op h)
 
   -- branches are never conditional
   unconditional : 40 ≤ op → op < 48 → conditionFalse v i ≡ false

@@ -9,7 +9,7 @@ use Rattle.isa.specs.Decode.{decode}
 use Rattle.isa.specs.declared.Instruction.{Instruction}
 use Rattle.machine.specs.Machine.{userMode, widthOf}
 use Rattle.machine.specs.declared.Position.{Position}
-use Rattle.view.specs.View.{Attempt, View, conditionFalse}
+use Rattle.view.specs.View.{Attempt, View, conditionFalse, nopsAfter}
 use Rattle.operation.specs.Execute.{onFound, execute}
 use Rattle.effect.specs.Effect.{Effect, Stopped, Raised, Next}
 
@@ -18,13 +18,13 @@ unfoldable pub perform : View → Instruction → Operation → Effect
 perform v i op = execute op v i (v .source (i .sreg1)) (v .source (i .sreg2))
 
 -- the code of 02h, if it is there; stop 13 for a control transfer in a slot, condition true or not; "condition false: nothing
--- but PC moves"; its own effect
+-- but PC moves"; the nops that must follow, looked at "once any condition is true and before stop 15" (02, wish 8); its own effect
 unfoldable pub ifAvailable : View → Instruction → Operation → Option ℕ → Effect
 ifAvailable v i op (some code) = Raised code
 ifAvailable v i op none =
     if properties op .transfer && eqb (v .position .slot) 1 then Stopped 13
     else if conditionFalse v i then Next
-    else perform v i op
+    else onFound (λ _. perform v i op) (nopsAfter v (properties op .nops))
 
 -- a decoded instruction: 02h not in this width or mode ("Code 01h no longer occurs"); then the rest
 unfoldable pub instruction : View → Instruction → Effect

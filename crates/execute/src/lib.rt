@@ -11,7 +11,7 @@ ghost use Rattle.view.specs.View.{Found, viewOf};
 ghost use Rattle.execute.specs.Decide.{fetchedThen, decide};
 ghost use Rattle.effect.specs.Apply.{reportBy, reportOn};
 ghost use Rattle.machine.specs.Stack.{StackShown};
-ghost use Rattle.operation.specs.Promises.{PerformsSeen, PerformsStoring};
+ghost use Rattle.operation.specs.Promises.{PerformsIn, PerformsSeen, StoresIn, PerformsStoring};
 use effect::next;
 use machine::wide_words;
 use operation::branches;
@@ -24,6 +24,7 @@ use operation::registers;
 use operation::store;
 use operation::system;
 use view::Fetched;
+use view::NopCheck;
 use view::condition_false;
 use view::source;
 
@@ -131,10 +132,10 @@ fn branch_word(w: &mut [u32], word: u32, op: u32) -> u32
     branches(w, i)
 }
 
-// Words of operations 48 to 57: scall to rcon.
-fn system_word(w: &mut [u32], word: u32, op: u32) -> u32
-    requires { ⌜ MachineWords (now w) × StackShown (machineOf (now w)) × (op ≡ opcodeOf (widthOf (psr (machineOf (now w)))) word) × (48 ≤ op) × (op ≤ 57) ⌝ }
-    ensures { λ r. ⌜ PerformsSeen (λ v. fetchedThen v (Found word)) r (now (w .entry)) (now (w .exit)) ⌝ }
+// Words of operations 48 to 57: scall to rcon. Four of them have nops after them.
+fn system_word(program: &[u8], w: &mut [u32], word: u32, op: u32) -> u32
+    requires { ⌜ MachineWords (now w) × (machineOf (now w) .position .pc < MOST-MEMORY) × StackShown (machineOf (now w)) × (op ≡ opcodeOf (widthOf (psr (machineOf (now w)))) word) × (48 ≤ op) × (op ≤ 57) ⌝ }
+    ensures { λ r. ⌜ PerformsIn (now (program .entry)) (λ v. fetchedThen v (Found word)) r (now (w .entry)) (now (w .exit)) ⌝ }
 {
     let code = unavailability(w, op);
     if code != 0 {
@@ -145,10 +146,16 @@ fn system_word(w: &mut [u32], word: u32, op: u32) -> u32
     }
     let i = isa::decode_system(word, wide_words(w), op);
     if condition_false(w, i) {
-        next(w)
-    } else {
-        let x = source(w, i.sreg1);
-        system(w, i, x)
+        return next(w);
+    }
+    let nops = view::check_nops(program, w, isa::nops_after(op));
+    match nops {
+        NopCheck::Pass => {
+            let x = source(w, i.sreg1);
+            system(w, i, x)
+        }
+        NopCheck::Fault(code) => effect::raise(w, code),
+        NopCheck::Stop(number) => number,
     }
 }
 
@@ -185,15 +192,15 @@ fn lower_half(w: &mut [u32], word: u32, op: u32) -> u32
 
 // Words of the operations above st, 29 to 63: mov to exbfi. The last group is called in two places: a function with one caller would be made a
 // part of the loop over steps, and the words of the other groups would take 5 to 8 % more instructions.
-fn upper_half(w: &mut [u32], word: u32, op: u32) -> u32
+fn upper_half(program: &[u8], w: &mut [u32], word: u32, op: u32) -> u32
     requires { ⌜ MachineWords (now w) × (machineOf (now w) .position .pc < MOST-MEMORY) × StackShown (machineOf (now w)) × (op ≡ opcodeOf (widthOf (psr (machineOf (now w)))) word) × (29 ≤ op) ⌝ }
-    ensures { λ r. ⌜ PerformsSeen (λ v. fetchedThen v (Found word)) r (now (w .entry)) (now (w .exit)) ⌝ }
+    ensures { λ r. ⌜ PerformsIn (now (program .entry)) (λ v. fetchedThen v (Found word)) r (now (w .entry)) (now (w .exit)) ⌝ }
 {
     match op {
         29..=35 => move_word(w, word, op),
         36..=39 => jump_word(w, word, op),
         40..=47 => branch_word(w, word, op),
-        48..=57 => system_word(w, word, op),
+        48..=57 => system_word(program, w, word, op),
         _ => {
             if wide_words(w) {
                 field_word(w, word, op, true)
@@ -207,14 +214,14 @@ fn upper_half(w: &mut [u32], word: u32, op: u32) -> u32
 // An instruction word, by the number of its operation. ld and st are chosen first (02, wish 4: "Choose between those two before testing the
 // other operations"); the operations below and above them are told apart after that, each half in a chain of its own: in one chain the
 // compiler takes the last groups for rare.
-fn instruction(w: &mut [u32], cells: &mut [u32], word: u32) -> u32
+fn instruction(program: &[u8], w: &mut [u32], cells: &mut [u32], word: u32) -> u32
     requires { ⌜ MachineWords (now w) × (machineOf (now w) .position .pc < MOST-MEMORY) × StackShown (machineOf (now w)) ⌝ }
-    ensures { λ r. ⌜ PerformsStoring (λ v. fetchedThen v (Found word)) r (now (w .entry)) (now (cells .entry)) (now (w .exit)) (now (cells .exit)) ⌝ }
+    ensures { λ r. ⌜ StoresIn (now (program .entry)) (λ v. fetchedThen v (Found word)) r (now (w .entry)) (now (cells .entry)) (now (w .exit)) (now (cells .exit)) ⌝ }
 {
     let op = isa::opcode(word, wide_words(w));
     if op > 26 {
         if op > 28 {
-            upper_half(w, word, op)
+            upper_half(program, w, word, op)
         } else {
             access_word(w, cells, word, op)
         }
@@ -230,7 +237,7 @@ pub fn execute(program: &[u8], w: &mut [u32], cells: &mut [u32]) -> u32
 {
     let fetched = view::fetch(program, w);
     match fetched {
-        Fetched::Word(word) => instruction(w, cells, word),
+        Fetched::Word(word) => instruction(program, w, cells, word),
         Fetched::Fault(code) => effect::raise(w, code),
         Fetched::Absent => 11,
     }

@@ -44,3 +44,13 @@ no-field-transfer = agree (λ n. properties (operationOf n) .transfer) (λ n. fa
 pub transfers : (n : ℕ) → 36 ≤ n → n < 48 → properties (operationOf n) .transfer ≡ true
 unfolding instructions values
 transfers = agree (λ n. properties (operationOf n) .transfer) (λ n. true) 36 12 refl
+
+-- no nops must follow nop to bnc
+pub no-nops : (n : ℕ) → n < 48 → properties (operationOf n) .nops ≡ 0
+unfolding instructions values
+no-nops n h = agree (λ n. properties (operationOf n) .nops) (λ n. 0) 0 48 refl n (omega arith) h
+
+-- nor conb to exbfi
+pub no-field-nops : (n : ℕ) → 58 ≤ n → n < 64 → properties (operationOf n) .nops ≡ 0
+unfolding instructions values
+no-field-nops = agree (λ n. properties (operationOf n) .nops) (λ n. 0) 58 6 refl

@@ -8,9 +8,10 @@ use native.Mathlib.Omega.{arith}
 use lib.Dec.{leb, eqb}
 use lib.ListN.{length}
 use borrow.Author.Tests.{leb-true, le-leb, lt-leb, ne-eqb}
+use Rattle.word.specs.Choice.{if_then_else_}
 use Rattle.isa.specs.Operation.{operationOf, Width, w16, w32, widthBy, Availability, anywhere, wideOnly, superOnly, unavailable, codeOf, properties}
 use Rattle.isa.specs.Computed.{instructions}
-use Rattle.isa.specs.Theorems.{Numbered, between, ConditionalIs, TransferIs, codeAt, codeBy, UnavailableIs}
+use Rattle.isa.specs.Theorems.{Numbered, between, ConditionalIs, TransferIs, nopsBy, NopsAre, codeAt, codeBy, UnavailableIs}
 use Rattle.isa.proofs.Table.{values, agree, by-number}
 
 -- no number past high is one of low to high
@@ -40,6 +41,13 @@ transfer-is = by-number (λ o. properties o .transfer) (λ n. between 36 50 n ||
   where
     high : (n : ℕ) → 64 ≤ n → between 36 50 n || eqb n 54 ≡ false
     high n h = rw (not-between 36 50 n (omega arith), ne-eqb n 54 (λ e. omega arith))
+
+pub nops-are : NopsAre
+unfolding instructions values if_then_else_
+nops-are = by-number (λ o. properties o .nops) nopsBy refl high
+  where
+    high : (n : ℕ) → 64 ≤ n → nopsBy n ≡ 0
+    high n h = rw (ne-eqb n 48 (λ e. omega arith), ne-eqb n 49 (λ e. omega arith), ne-eqb n 50 (λ e. omega arith), ne-eqb n 54 (λ e. omega arith))
 
 pub unavailable-is : UnavailableIs
 unfolding instructions values

@@ -1,4 +1,4 @@
--- The operations, one row for each (01 "Operations", "Never conditional", "Super user only", stop 13; 02 wish 1; mnemonics: 002 section 6.2).
+-- The operations, one row for each (01 "Operations", "Never conditional", "Super user only", stop 13; 02 wishes 1 and 8; mnemonics: 002 section 6.2).
 -- Assumes nothing.
 use mathlib.Core.Bool.{Bool, true, false}
 use mathlib.Core.List.{List, [], _∷_}
@@ -90,21 +90,28 @@ pub record Properties : Type 0 where
   pub conditional : Bool  -- bit 25 of a 32-bit word makes it conditional; otherwise that bit is ignored
   pub availability : Availability
   pub transfer : Bool  -- a control transfer, which stops with 13 in a branch slot
+  pub nops : ℕ  -- how many nops must follow it
 
 -- rows of the table: of operations that may be conditional, that never are, and of control transfers of both kinds
 abbrev optional : ℕ → String → Form → Properties
-optional n m f = record { number = n; mnemonic = bytes m; form = f; conditional = true; availability = anywhere; transfer = false }
+optional n m f = record { number = n; mnemonic = bytes m; form = f; conditional = true; availability = anywhere; transfer = false; nops = 0 }
 
 abbrev always : ℕ → String → Form → Availability → Properties
-always n m f a = record { number = n; mnemonic = bytes m; form = f; conditional = false; availability = a; transfer = false }
+always n m f a = record { number = n; mnemonic = bytes m; form = f; conditional = false; availability = a; transfer = false; nops = 0 }
 
 abbrev optionalTransfer : ℕ → String → Form → Properties
-optionalTransfer n m f = record { number = n; mnemonic = bytes m; form = f; conditional = true; availability = anywhere; transfer = true }
+optionalTransfer n m f = record { number = n; mnemonic = bytes m; form = f; conditional = true; availability = anywhere; transfer = true; nops = 0 }
 
 abbrev alwaysTransfer : ℕ → String → Form → Availability → Properties
-alwaysTransfer n m f a = record { number = n; mnemonic = bytes m; form = f; conditional = false; availability = a; transfer = true }
+alwaysTransfer n m f a = record { number = n; mnemonic = bytes m; form = f; conditional = false; availability = a; transfer = true; nops = 0 }
 
--- the table: each operation's number, mnemonic, operands, whether it may be conditional, where it is available, whether it is a control transfer
+-- a row with so many nops
+abbrev followedBy : ℕ → Properties → Properties
+followedBy n p =
+    record { number = p .number; mnemonic = p .mnemonic; form = p .form; conditional = p .conditional; availability = p .availability; transfer = p .transfer; nops = n }
+
+-- the table: each operation's number, mnemonic, operands, whether it may be conditional, where it is available, whether it is a control transfer,
+-- and how many nops must follow it: "the nops after swm, scall, retu and reti" (02, wish 8), "two, one, one, three"
 unfoldable pub properties : Operation → Properties
 properties nop = always 0 "nop" NoOperands anywhere
 properties add = optional 1 "add" ThreeRegisters
@@ -154,13 +161,13 @@ properties bgt = alwaysTransfer 44 "bgt" Branch anywhere
 properties blt = alwaysTransfer 45 "blt" Branch anywhere
 properties bne = alwaysTransfer 46 "bne" Branch anywhere
 properties bnc = alwaysTransfer 47 "bnc" Branch anywhere
-properties scall = optionalTransfer 48 "scall" NoOperands
-properties retu = alwaysTransfer 49 "retu" NoOperands superOnly
-properties reti = alwaysTransfer 50 "reti" NoOperands anywhere
+properties scall = followedBy 1 (optionalTransfer 48 "scall" NoOperands)
+properties retu = followedBy 1 (alwaysTransfer 49 "retu" NoOperands superOnly)
+properties reti = followedBy 3 (alwaysTransfer 50 "reti" NoOperands anywhere)
 properties chrs = always 51 "chrs" (LowBits 2) superOnly
 properties di = always 52 "di" NoOperands anywhere
 properties ei = always 53 "ei" NoOperands anywhere
-properties swm = alwaysTransfer 54 "swm" (LowBits 1) anywhere
+properties swm = followedBy 2 (alwaysTransfer 54 "swm" (LowBits 1) anywhere)
 properties trap = always 55 "trap" (LowBits 5) anywhere
 properties scon = always 56 "scon" Destination anywhere
 properties rcon = always 57 "rcon" Source anywhere

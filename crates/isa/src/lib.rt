@@ -73,6 +73,19 @@ pub fn is_transfer(op: u32) -> bool
     (36 <= op) & (op <= 50) | (op == 54)
 }
 
+// How many nops must follow an operation.
+pub fn nops_after(op: u32) -> u32
+    ensures { λ r. ⌜ r ≡ properties (operationOf op) .nops ⌝ }
+{
+    match op {
+        48 => 1,
+        49 => 1,
+        50 => 3,
+        54 => 2,
+        _ => 0,
+    }
+}
+
 // The code of the exception where an operation may not be used; 0 where it may.
 pub fn unavailability(op: u32, wide: bool, user: bool) -> u32
     ensures { λ r. ⌜ r ≡ codeOf (unavailable (properties (operationOf op) .availability) (widthBy wide) user) ⌝ }

@@ -15,7 +15,7 @@ use Rattle.isa.specs.Decode.{wordBytes}
 use Rattle.machine.specs.Machine.{Machine, State, psr, userMode, widthOf, setBy}
 use Rattle.machine.specs.Control.{controlAt, within, protectedCell, CCB-BASE, DMEM-BOUND-LO, DMEM-BOUND-HI, IMEM-BOUND-LO, IMEM-BOUND-HI}
 use Rattle.machine.proofs.Lists.{same-getD}
-use Rattle.view.specs.View.{Attempt, Found, Raises, Stops, mapFound, anyWithin, byteThen, bytesAt, fetchAt, Location, Block, Cell, inBlock, foundAt, placeAt, heldAt, view}
+use Rattle.view.specs.View.{Attempt, Found, Raises, Stops, mapFound, anyWithin, byteThen, bytesAt, readAt, fetchAt, Location, Block, Cell, inBlock, foundAt, placeAt, heldAt, view}
 use Rattle.view.proofs.Addresses.{place-cell, place-block}
 use Rattle.isolation.proofs.User.{read-bit, write-bit}
 use Rattle.isolation.proofs.States.{Mode, Low, mode-user}
@@ -35,9 +35,13 @@ module _ (low high : ℕ) (p q : List ℕ) (h : SameBytes low high p q) where
       ap (λ b. byteThen b (λ x. bytesAt p n (suc a) (w * 256 + x))) (h a (o .0))
       ∙ ap (byteThen (getElem? q a)) (fun-ext (λ x. bytes-same n (suc a) (w * 256 + x) (o .1)))
 
+  read-same : (n a : ℕ) → readAt p low high true n a ≡ readAt q low high true n a
+  unfolding readAt
+  read-same n a = if-else _ _ _ _ (λ e. bytes-same n a 0 e)
+
   fetch-same : (n pc : ℕ) → fetchAt p low high true n pc ≡ fetchAt q low high true n pc
   unfolding fetchAt
-  fetch-same n pc = if-else _ _ _ _ (λ _. if-else _ _ _ _ (λ e. bytes-same n pc 0 e))
+  fetch-same n pc = if-else _ _ _ _ (λ _. read-same n pc)
 
 -- ---- data memory
 
@@ -112,6 +116,8 @@ view-same p q s t i j l h =
     let un : userMode (psr n) ≡ true = mode-user j in
     let fetched : view p s .fetched ≡ view q t .fetched =
     cc (fetch-same _ _ p q h (wordBytes (widthOf (psr m))) (m .position .pc), um, un, l .shown .status, l .imemLow, l .imemHigh, l .shown .position) in
+    let following : (k : ℕ) → view p s .following k ≡ view q t .following k = λ k.
+    cc (read-same _ _ p q h (wordBytes (widthOf (psr m))) (m .position .pc + k * wordBytes (widthOf (psr m))), um, un, l .shown .status, l .imemLow, l .imemHigh, l .shown .position) in
     let source : (x : ℕ) → view p s .source x ≡ view q t .source x = λ x.
     ap (λ r. getD r x 0) (set1-used _ m (read-bit (psr m) (i .user .status)) ∙ l .shown .set1 ∙ sym (set1-used _ n (read-bit (psr n) (j .user .status)))) in
     let target : (x : ℕ) → view p s .target x ≡ view q t .target x = λ x.
@@ -125,6 +131,7 @@ view-same p q s t i j l h =
       conditions = l .shown .conditions d;
       nested = l .nested d;
       fetched = fetched d;
+      following = λ k. following k d;
       source = λ x. source x d;
       target = λ x. target x d;
       place = λ z. place z d;

@@ -12,16 +12,23 @@ use Rattle.effect.specs.Effect.{Effect, Raised}
 use Rattle.effect.specs.Apply.{reportBy, reportOn}
 use Rattle.operation.specs.Execute.{jumped}
 
--- words become those after the effect that their view gives, but for free places (machine/Words: isFree), whatever the program and the memory hold; the memory stays
-abbrev pub PerformsSeen : (View → Effect) → (stop : ℕ) (before after : List ℕ) → Type 0
-PerformsSeen e n before after =
-    (program : List ℕ) (memory : Memory) → reportBy n after memory ≡ reportOn (e (viewOf program before memory)) before memory
+-- words become those after the effect that their view in a program gives, but for free places (machine/Words: isFree), whatever the memory holds;
+-- the memory stays
+abbrev pub PerformsIn : (program : List ℕ) → (View → Effect) → (stop : ℕ) (before after : List ℕ) → Type 0
+PerformsIn program e n before after = (memory : Memory) → reportBy n after memory ≡ reportOn (e (viewOf program before memory)) before memory
 
--- words, but for free places (machine/Words: isFree), and cells become those after the effect that their view gives, whatever the program holds
+-- whatever the program holds
+abbrev pub PerformsSeen : (View → Effect) → (stop : ℕ) (before after : List ℕ) → Type 0
+PerformsSeen e n before after = (program : List ℕ) → PerformsIn program e n before after
+
+-- words, but for free places (machine/Words: isFree), and cells become those after the effect that their view in a program gives
+abbrev pub StoresIn : (program : List ℕ) → (View → Effect) → (stop : ℕ) (before cells after stored : List ℕ) → Type 0
+StoresIn program e n before cells after stored =
+    reportBy n after (memoryOf stored) ≡ reportOn (e (viewOf program before (memoryOf cells))) before (memoryOf cells)
+
+-- whatever the program holds
 abbrev pub PerformsStoring : (View → Effect) → (stop : ℕ) (before cells after stored : List ℕ) → Type 0
-PerformsStoring e n before cells after stored =
-    (program : List ℕ)
-    → reportBy n after (memoryOf stored) ≡ reportOn (e (viewOf program before (memoryOf cells))) before (memoryOf cells)
+PerformsStoring e n before cells after stored = (program : List ℕ) → StoresIn program e n before cells after stored
 
 -- a taken jump to the target has the exception with this code, or none where the code is 0
 abbrev pub RefusesJump : (target : ℤ) (code : ℕ) (words : List ℕ) → Type 0

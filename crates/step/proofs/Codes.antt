@@ -7,7 +7,7 @@ use native.Mathlib.Omega.{arith}
 use Rattle.isa.proofs.Table.{values, agree}
 use Rattle.machine.specs.Machine.{State}
 use Rattle.view.specs.View.{View, view}
-use Rattle.view.proofs.Answers.{Code, tests, traps}
+use Rattle.execute.proofs.Answers.{Code, tests, traps}
 use Rattle.execute.specs.Decide.{decide}
 use Rattle.execute.proofs.Safe.{Safe, decide-safe}
 use Rattle.effect.specs.Effect.{Effect, Stopped, Raised, SystemCall, InterruptReturn, StoreCell, Updates}

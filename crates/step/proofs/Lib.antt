@@ -13,3 +13,4 @@ pub mod Transitions
 pub mod Codes
 pub mod AddressOrder
 pub mod Return
+pub mod RequiredNops

@@ -1,24 +1,24 @@
--- The numbers of stops: 11 to 15 (01 "One step"), so that 0 reports a step. Assumes nothing.
+-- The numbers of stops: one of those that are listed, so that 0 reports a step. Assumes nothing.
 use mathlib.Core.Path.{_≡_, refl, sym}
 use mathlib.Core.Bool.{true, false, true≢false}
 use mathlib.Core.List.{List}
-use Prim.Native.Nat.{ℕ, _≤_}
-use native.Mathlib.Omega.{arith}
+use Prim.Native.Nat.{ℕ}
+use Rattle.word.specs.Flags.{isAmong}
 use Rattle.word.proofs.Tests.{false-unless}
 use Rattle.machine.specs.Machine.{State}
 use Rattle.view.specs.View.{View, view}
 use Rattle.execute.specs.Decide.{decide}
 use Rattle.effect.specs.Effect.{Effect, Stopped, Raised, SystemCall, InterruptReturn, StoreCell, Updates}
 use Rattle.effect.specs.Apply.{Transition, machineOnly, storeCell, apply, stopNumber}
-use Rattle.effect.specs.Kind.{Kind}
+use Rattle.effect.specs.Kind.{Kind, STOPS}
 use Rattle.effect.specs.Kind as kind
 use Rattle.step.specs.Step.{isStop, unclocked, step}
 use Rattle.execute.proofs.Safe.{Safe, decide-safe}
 use Rattle.step.proofs.StepKinds.{unclocked-kind, step-kind}
 
--- a stop's number is one of the five
+-- a stop's number is one of them
 abbrev Numbered : Kind → Type 0
-Numbered k = isStop k ≡ true → (11 ≤ stopNumber k) × (stopNumber k ≤ 15)
+Numbered k = isStop k ≡ true → isAmong (stopNumber k) STOPS ≡ true
 
 -- a number other than 0 is a stop's
 pub numbered-stop : (k : Kind) → (stopNumber k ≡ 0 → ⊥) → isStop k ≡ true
@@ -33,7 +33,8 @@ numbered-stop (kind.Stop n) h = refl
 
 -- 0 is no stop's
 pub numbered-step : (k : Kind) → Numbered k → stopNumber k ≡ 0 → isStop k ≡ false
-numbered-step k h z = false-unless _ (λ b. let n = h b in omega arith)
+unfolding isAmong
+numbered-step k h z = false-unless _ (λ b. true≢false (sym (rw z at (h b))))
 
 none-stops : {A : Type 0} → false ≡ true → A
 none-stops e = absurd (true≢false (sym e))

@@ -1,11 +1,11 @@
 -- The worked examples of 01 that are marked *, and those of 02's wish 3, as a table: one step from a start, what is shown of it, and what that
--- must be; and a change of task, of 02's wish 6. Assumes nothing.
+-- must be; a change of task, of 02's wish 6; and a table of the nops of 02's wish 8. Assumes nothing.
 use mathlib.Core.Path.{_≡_}
 use mathlib.Core.List.{List, [], _∷_, _++_, map}
 use Prim.Native.Nat.{ℕ, zero, suc, _+_, _*_, _^_}
 use lib.ListN.{getD, set, replicate}
 use Rattle.isa.specs.Operation.{Operation, add, sub, subu, muls, mulu, mulus, ld, jmp, Properties, properties}
-use Rattle.machine.specs.Machine.{Machine, memoryOf, State, PSR, psr, positionAt, withSet2}
+use Rattle.machine.specs.Machine.{Machine, memoryOf, State, PSR, LINK, psr, positionAt, withSet2}
 use Rattle.machine.specs.Words.{ZEROS}
 use Rattle.machine.specs.declared.Position.{Position}
 use Rattle.machine.specs.declared.Entry.{Entry}
@@ -15,7 +15,7 @@ use Rattle.codec.specs.Number.{bytesOf}
 use Rattle.effect.specs.Apply.{Transition}
 use Rattle.step.specs.Step.{step}
 use Rattle.step.specs.AddressOrder.{stepBefore}
-use Rattle.effect.specs.Kind.{Kind, Ordinary, Exception}
+use Rattle.effect.specs.Kind.{Kind, Ordinary, SystemCall, Exception, Stop}
 
 pub record Case : Type 0 where
   pub psr : ℕ
@@ -122,8 +122,8 @@ cases =
     -- "at 0, jmp 1 is 03h, jmp 2 goes to 8"
     jump 1 (Exception 0x03) (0 ∷ 0 ∷ []) ∷
     jump 2 Ordinary (1 ∷ 8 ∷ []) ∷
-    -- "swm 0 (D8000000h) at 0: PC 12"
-    wide (word 0xD800_0000) 0 0 (λ s. s .machine .position .pc ∷ []) Ordinary (12 ∷ []) ∷
+    -- "swm 0 (D8000000h) at 0: PC 12"; "the worked swm case now has its two nops" (02, wish 8)
+    wide (bytesOf (0xD800_0000 ∷ 0 ∷ 0 ∷ [])) 0 0 (λ s. s .machine .position .pc ∷ []) Ordinary (12 ∷ []) ∷
     -- "user ld at LO−1 and HI+1, cells being there, passes; at LO and HI it is 07h"
     load 0x0F Ordinary (77 ∷ []) ∷
     load 0x14 Ordinary (77 ∷ []) ∷
@@ -184,6 +184,7 @@ switching =
     0x7000_880A ∷  -- st PR2, PR0, 2Ah
     0x6C00_9009 ∷  -- ld PR4, PR0, 29h
     0xC800_0000 ∷  -- reti
+    0 ∷ 0 ∷ 0 ∷  -- nop
     [])
 
 -- the top, of source 7, gets 12345678h, FFFFFFFFh and FFFFFFFFh: of the PSR 19h is kept, of C0 7; reti goes there, and the entry of source 4 is
@@ -198,3 +199,69 @@ WorkedReturn =
     ∷ (0x1234_5678 ∷ 0x19 ∷ 7 ∷ 0x19 ∷ 0x10 ∷ 0x40 ∷ 0x19 ∷ 1 ∷ [])
     ∷ (12 ∷ 0x0E ∷ 0 ∷ 0 ∷ 0 ∷ 1 ∷ 9 ∷ 0 ∷ [])
     ∷ []
+
+-- ---- the nops that must follow (02, wish 8)
+
+-- one step from 0, with this PSR, in a slot or not, program bytes from low to high protected, EXCEPTION_PC 99, PR31 77 and all else as at reset: what
+-- it was; PC, PR31 and EXCEPTION_PC after it
+unfoldable pub stepped : (psr low high slot : ℕ) (program : List ℕ) → Seen
+stepped q low high slot program =
+    let m = record {
+      set1 = reset .set1;
+      set2 = set (set (reset .set2) PSR q) LINK 77;
+      conditions = reset .conditions;
+      control = set (set (set (reset .control) EXCEPTION-PC 99) IMEM-BOUND-LO low) IMEM-BOUND-HI high;
+      position = record { pc = 0; slot = slot; target = 0; held = 0; high = 0; low = 0 };
+      stack = [];
+      dividers = ZEROS;
+    } in
+    let t = step program (record { machine = m; memory = memoryOf [] }) 0 in
+    let after = t .after .machine in
+    record { kind = t .kind; shown = after .position .pc ∷ getD (after .set2) LINK 0 ∷ controlAt after EXCEPTION-PC ∷ [] }
+
+-- in user mode with 32-bit words and nothing protected; in super user mode
+abbrev user : List ℕ → Seen
+user words = stepped 0x09 1 0 0 (bytesOf words)
+
+abbrev super : List ℕ → Seen
+super words = stepped 0x0E 1 0 0 (bytesOf words)
+
+abbrev seen : Kind → (pc link exceptionPc : ℕ) → Seen
+seen kind pc link e = record { kind = kind; shown = pc ∷ link ∷ e ∷ [] }
+
+-- all is as before it
+abbrev stop : ℕ → Seen
+stop n = seen (Stop n) 0 77 99
+
+-- 4807883Fh is addi R2, R1, −1
+abbrev work : ℕ
+work = 0x4807_883F
+
+-- the definitions give what they must, at each case
+abbrev pub WorkedNops : Type 0
+WorkedNops =
+    -- swm 0: no word; two nops; another operation second, or first with nothing after it; the second not wholly there
+    user (0xD800_0000 ∷ []) ∷ user (0xD800_0000 ∷ 0 ∷ 0 ∷ []) ∷ user (0xD800_0000 ∷ 0 ∷ work ∷ []) ∷ user (0xD800_0000 ∷ work ∷ [])
+    ∷ stepped 0x09 1 0 0 (bytesOf (0xD800_0000 ∷ 0 ∷ []) ++ 0 ∷ 0 ∷ [])
+    -- its last byte protected, and another operation there; in super user mode; another operation first
+    ∷ stepped 0x09 11 11 0 (bytesOf (0xD800_0000 ∷ 0 ∷ work ∷ [])) ∷ stepped 0x0E 11 11 0 (bytesOf (0xD800_0000 ∷ 0 ∷ 0 ∷ []))
+    ∷ stepped 0x09 11 11 0 (bytesOf (0xD800_0000 ∷ work ∷ 0 ∷ []))
+    -- its last byte protected and absent
+    ∷ stepped 0x09 11 11 0 (bytesOf (0xD800_0000 ∷ 0 ∷ []))
+    -- reti with an empty stack: three nops; another operation third
+    ∷ user (0xC800_0000 ∷ 0 ∷ 0 ∷ 0 ∷ []) ∷ user (0xC800_0000 ∷ 0 ∷ 0 ∷ work ∷ [])
+    -- retu in user mode, with no nop; in super user mode, with one and with another operation
+    ∷ user (0xC400_0000 ∷ []) ∷ super (0xC400_0000 ∷ 0 ∷ []) ∷ super (0xC400_0000 ∷ work ∷ [])
+    -- scall: a nop with all other bits 1; another operation; the same, eq C0, C0 being 0; in a slot, with no nop
+    ∷ user (0xC000_0000 ∷ 0x03FF_FFFF ∷ []) ∷ user (0xC000_0000 ∷ work ∷ []) ∷ user (0xC218_0000 ∷ work ∷ []) ∷ stepped 0x09 1 0 1 (bytesOf (0xC000_0000 ∷ []))
+    -- 16-bit words: scall and a nop
+    ∷ stepped 0x01 1 0 0 (0xC0 ∷ 0x00 ∷ 0x00 ∷ 0x01 ∷ []) ∷ []
+    ≡ stop 11 ∷ seen Ordinary 12 77 99 ∷ stop 20 ∷ stop 20
+    ∷ stop 11
+    ∷ seen (Exception 0x00) 0 77 0 ∷ seen Ordinary 12 77 99
+    ∷ stop 20
+    ∷ seen (Exception 0x00) 0 77 0
+    ∷ stop 15 ∷ stop 20
+    ∷ seen (Exception 0x02) 0 77 0 ∷ seen Ordinary 77 77 99 ∷ stop 20
+    ∷ seen SystemCall 0 8 99 ∷ stop 20 ∷ seen Ordinary 4 77 99 ∷ stop 13
+    ∷ seen SystemCall 0 4 99 ∷ []

@@ -16,7 +16,7 @@ use Rattle.isa.specs.Operation.{Width, w16, w32, widthBy}
 use Rattle.isa.specs.Decode.{wordBytes, wordAt}
 use Rattle.machine.specs.Control.{within}
 use Rattle.view.specs.Theorems.{FetchedWord}
-use Rattle.view.specs.View.{Attempt, Found, Raises, Stops, anyWithin, byteThen, bytesAt, fetchAt}
+use Rattle.view.specs.View.{Attempt, Found, Raises, Stops, anyWithin, byteThen, bytesAt, readAt, fetchAt}
 
 -- ---- protection
 
@@ -126,7 +126,7 @@ not-fetched false false f w a e = let z : _≡_ {A = ℕ} 0 1 = cc in omega arit
 
 pub fetched-inside : (program : List ℕ) (low high : ℕ) (user : Bool) (n pc w : ℕ) → 0 < n
     → fetchAt program low high user n pc ≡ Found w → pc + n ≤ length program
-unfolding fetchAt
+unfolding fetchAt readAt
 fetched-inside program low high user n pc w p e =
     either (leb (pc + n) (length program)) (leb-true (pc + n) (length program))
     (λ t. absurd (not-fetched _ _ _ w (bytes-absent program n pc 0 p (leb-false (pc + n) (length program) t)) e))
@@ -144,3 +144,9 @@ pub aligned-fits : (width : Width) (n a : ℕ) → n ≡ wordBytes width → a <
 unfolding wordBytes
 aligned-fits w16 n a e h z = rw e (let t : a % 2 ≡ 0 = rw e at z in omega arith)
 aligned-fits w32 n a e h z = rw e (let t : a % 4 ≡ 0 = rw e at z in omega arith)
+
+-- up to four words have at most sixteen bytes
+pub words-on : (width : Width) (n k : ℕ) → n ≡ wordBytes width → k < 4 → k * n + n ≤ 16
+unfolding wordBytes
+words-on w16 n k e h = rw e (omega arith)
+words-on w32 n k e h = rw e (omega arith)

@@ -11,13 +11,16 @@ use Rattle.word.specs.Choice.{if_then_else_}
 use Rattle.word.specs.Word.{wordOf, isAddress}
 use Rattle.isa.specs.Condition.{conditionOf, holds}
 use Rattle.isa.specs.declared.Instruction.{Instruction}
-use Rattle.isa.specs.Decode.{wordBytes}
+use Rattle.isa.specs.Operation.{Width}
+use Rattle.isa.specs.Decode.{wordBytes, opcodeOf}
 use Rattle.machine.specs.Machine.{Machine, Memory, State, psr, userMode, readsSet2, writesSet2, widthOf, setBy}
 use Rattle.machine.specs.Control.{controlAt, within, protectedCell, CCB-BASE, IMEM-BOUND-LO, IMEM-BOUND-HI}
 use Rattle.machine.specs.Words.{stateOf}
 use Rattle.machine.specs.declared.Position.{Position}
 use Rattle.view.specs.declared.Fetched.{Fetched}
 use Rattle.view.specs.declared.Fetched.the-variants.{Word, Fault, Absent}
+use Rattle.view.specs.declared.NopCheck.{NopCheck}
+use Rattle.view.specs.declared.NopCheck.the-variants as check
 use Rattle.view.specs.declared.Place.{Place}
 use Rattle.view.specs.declared.Place.the-variants as place
 
@@ -52,13 +55,17 @@ unfoldable pub bytesAt : (program : List ℕ) (n a w : ℕ) → Attempt ℕ
 bytesAt program zero a w = Found w
 bytesAt program (suc n) a w = byteThen (getElem? program a) (λ b. bytesAt program n (suc a) (w * 256 + b))
 
--- the word at pc: "misaligned (05h); any byte of the word protected in user mode (00h); byte absent (stop 11)". Protection is by address,
--- present or not
+-- the word at a: "any byte of the word protected in user mode (00h); byte absent (stop 11)". Protection is by address, present or not
+unfoldable pub readAt : (program : List ℕ) (low high : ℕ) (user : Bool) (n a : ℕ) → Attempt ℕ
+readAt program low high user n a =
+    if user && anyWithin low high a n then Raises 0x00
+    else bytesAt program n a 0
+
+-- the word at pc: "misaligned (05h)" first
 unfoldable pub fetchAt : (program : List ℕ) (low high : ℕ) (user : Bool) (n pc : ℕ) → Attempt ℕ
 fetchAt program low high user n pc =
     if not (eqb (pc % n) 0) then Raises 0x05
-    else if user && anyWithin low high pc n then Raises 0x00
-    else bytesAt program n pc 0
+    else readAt program low high user n pc
 
 -- the number and values of each case of the code's answer (01 "If an answer is an enum")
 unfoldable pub fetchedAs : Fetched → Attempt ℕ
@@ -115,6 +122,7 @@ pub record View : Type 0 where
   pub conditions : List ℕ
   pub nested : Bool  -- the hardware stack is not empty
   pub fetched : Attempt ℕ  -- the instruction word
+  pub following : (k : ℕ) → Attempt ℕ  -- the k-th word after it, of the same width
   pub source : ℕ → ℕ  -- a register of the set that RSRD names
   pub target : ℕ → ℕ  -- a register of the set that RSWR names
   pub place : ℤ → Attempt Location  -- where a data address leads
@@ -138,6 +146,7 @@ view program s =
       conditions = m .conditions;
       nested = nestedBy (m .stack);
       fetched = fetchAt program (controlAt m IMEM-BOUND-LO) (controlAt m IMEM-BOUND-HI) (userMode q) n (m .position .pc);
+      following = λ k. readAt program (controlAt m IMEM-BOUND-LO) (controlAt m IMEM-BOUND-HI) (userMode q) n (m .position .pc + k * n);
       source = λ r. getD (setBy (readsSet2 q) m) r 0;
       target = λ r. getD (setBy (writesSet2 q) m) r 0;
       place = placeAt s;
@@ -154,10 +163,28 @@ withPlaces place held v =
       conditions = v .conditions;
       nested = v .nested;
       fetched = v .fetched;
+      following = v .following;
       source = v .source;
       target = v .target;
       place = place;
       load = λ a. mapFound held (place a);
+      closed = v .closed;
+    }
+
+-- a view in which the words after the instruction are these; all else is the same. For comparisons: no rule uses it
+unfoldable pub withFollowing : (following : ℕ → Attempt ℕ) → View → View
+withFollowing following v =
+    record {
+      status = v .status;
+      position = v .position;
+      conditions = v .conditions;
+      nested = v .nested;
+      fetched = v .fetched;
+      following = following;
+      source = v .source;
+      target = v .target;
+      place = v .place;
+      load = v .load;
       closed = v .closed;
     }
 
@@ -173,7 +200,30 @@ Shows f r words = (program : List ℕ) (memory : Memory) → r ≡ f (viewOf pro
 unfoldable pub conditionFalse : View → Instruction → Bool
 conditionFalse v i = i .conditional && not (holds (conditionOf (i .condition)) (getD (v .conditions) (i .creg) 0))
 
+-- ---- the nops that must follow some instructions (02, wish 8)
+
+-- one of them, looked at, and then the rest: "20, a stop, when one of them has another operation than 0"
+unfoldable pub nopThen : Width → Attempt ℕ → (rest : Attempt (Unit {0})) → Attempt (Unit {0})
+nopThen width (Found w) rest = if eqb (opcodeOf width w) 0 then rest else Stops 20
+nopThen width (Raises c) rest = Raises c
+nopThen width (Stops n) rest = Stops n
+
+-- so many of them, from the k-th of these words on: "looked at one after another"
+unfoldable pub nopsFrom : Width → (following : ℕ → Attempt ℕ) → (k count : ℕ) → Attempt (Unit {0})
+nopsFrom width following k zero = Found tt
+nopsFrom width following k (suc count) = nopThen width (following k) (nopsFrom width following (suc k) count)
+
+-- those that must follow the instruction, "in the old width"
+abbrev pub nopsAfter : View → (count : ℕ) → Attempt (Unit {0})
+nopsAfter v count = nopsFrom (widthOf (v .status)) (v .following) 1 count
+
+-- the number and values of each case of the code's answer
+unfoldable pub nopCheckAs : NopCheck → Attempt (Unit {0})
+nopCheckAs check.Pass = Found tt
+nopCheckAs (check.Fault c) = Raises c
+nopCheckAs (check.Stop n) = Stops n
+
 -- to unfold all of these
 unfoldable pub seeing : Unit {0}
-unfolding mapFound anyWithin byteThen bytesAt fetchAt fetchedAs inBlock foundAt placeAt placeAs heldAt nestedBy view withPlaces conditionFalse
+unfolding mapFound anyWithin byteThen bytesAt readAt fetchAt fetchedAs inBlock foundAt placeAt placeAs heldAt nestedBy view withPlaces withFollowing conditionFalse nopThen nopsFrom nopCheckAs
 seeing = tt

@@ -9,6 +9,7 @@ mod program;
 use isa::Instruction;
 pub use memory::cell;
 pub use memory::place as place_at;
+pub use program::check_nops;
 pub use program::closed;
 pub use program::fetch;
 pub use program::misaligned;
@@ -21,6 +22,16 @@ pub enum Fetched {
     Fault(u32),
     // A byte is absent.
     Absent,
+}
+
+// What the look at the nops that must follow an instruction gives.
+pub enum NopCheck {
+    // They are there.
+    Pass,
+    // An exception with its code.
+    Fault(u32),
+    // A stop with its number.
+    Stop(u32),
 }
 
 // What a data address names.

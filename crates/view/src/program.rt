@@ -7,9 +7,10 @@ ghost use Rattle.isa.specs.Operation.{widthBy};
 ghost use Rattle.isa.specs.Decode.{wordBytes};
 ghost use Rattle.machine.specs.Control.{controlAt, IMEM-BOUND-LO, IMEM-BOUND-HI};
 ghost use Rattle.machine.specs.Words.{MachineWords, machineOf};
-ghost use Rattle.view.specs.View.{View, anyWithin, bytesAt, fetchedAs, viewOf};
-ghost use Rattle.machine.specs.Machine.{Memory};
+ghost use Rattle.view.specs.View.{Found, View, anyWithin, bytesAt, readAt, fetchedAs, viewOf, nopThen, nopsAfter, nopCheckAs};
+ghost use Rattle.machine.specs.Machine.{MOST-MEMORY, Memory, psr, userMode, widthOf};
 use crate::Fetched;
+use crate::NopCheck;
 
 // Whether one of the n program bytes from a on is protected from the mode: the two ranges overlap.
 pub fn closed(w: &[u32], user: bool, a: u32, n: u32) -> bool
@@ -50,6 +51,18 @@ fn word_at(program: &[u8], wide: bool, a: u32) -> Fetched
     }
 }
 
+// The instruction word at an address: protected, absent, or there.
+fn read_at(program: &[u8], w: &[u32], wide: bool, a: u32) -> Fetched
+    requires { ⌜ MachineWords (now w) × (a + wordBytes (widthBy wide) ≤ 2 ^ 32) ⌝ }
+    ensures { λ r. ⌜ fetchedAs r ≡ readAt (now (program .entry)) (controlAt (machineOf (now (w .entry))) IMEM-BOUND-LO) (controlAt (machineOf (now (w .entry))) IMEM-BOUND-HI) (userMode (psr (machineOf (now (w .entry))))) (wordBytes (widthBy wide)) a ⌝ }
+{
+    if closed(w, machine::user_mode(w), a, isa::word_bytes(wide)) {
+        Fetched::Fault(0x00)
+    } else {
+        word_at(program, wide, a)
+    }
+}
+
 // The next instruction word: misaligned, protected, absent, or there.
 pub fn fetch(program: &[u8], w: &[u32]) -> Fetched
     requires { ⌜ MachineWords (now w) ⌝ }
@@ -57,12 +70,60 @@ pub fn fetch(program: &[u8], w: &[u32]) -> Fetched
 {
     let pc = machine::pc(w);
     let wide = machine::wide_words(w);
-    let n = isa::word_bytes(wide);
     if misaligned(wide, pc) {
         Fetched::Fault(0x05)
-    } else if closed(w, machine::user_mode(w), pc, n) {
-        Fetched::Fault(0x00)
     } else {
-        word_at(program, wide, pc)
+        read_at(program, w, wide, pc)
     }
+}
+
+// The k-th word after the next instruction: protected, absent, or there.
+fn following(program: &[u8], w: &[u32], k: u32) -> Fetched
+    requires { ⌜ MachineWords (now w) × (machineOf (now w) .position .pc < MOST-MEMORY) × (k < 4) ⌝ }
+    ensures { λ r. ⌜ ((memory : Memory) → fetchedAs r ≡ viewOf (now (program .entry)) (now (w .entry)) memory .following k) ⌝ }
+{
+    let wide = machine::wide_words(w);
+    read_at(program, w, wide, machine::pc(w) + k * isa::word_bytes(wide))
+}
+
+// Whether a nop stands there.
+fn check_nop(program: &[u8], w: &[u32], k: u32) -> NopCheck
+    requires { ⌜ MachineWords (now w) × (machineOf (now w) .position .pc < MOST-MEMORY) × (k < 4) ⌝ }
+    ensures { λ r. ⌜ ((memory : Memory) → let v = viewOf (now (program .entry)) (now (w .entry)) memory in nopCheckAs r ≡ nopThen (widthOf (v .status)) (v .following k) (Found tt)) ⌝ }
+{
+    let fetched = following(program, w, k);
+    match fetched {
+        Fetched::Word(word) => {
+            if isa::opcode(word, machine::wide_words(w)) == 0 {
+                NopCheck::Pass
+            } else {
+                NopCheck::Stop(20)
+            }
+        }
+        Fetched::Fault(code) => NopCheck::Fault(code),
+        Fetched::Absent => NopCheck::Stop(11),
+    }
+}
+
+// The nops that must follow the next instruction, so many of them, one after another.
+pub fn check_nops(program: &[u8], w: &[u32], count: u32) -> NopCheck
+    requires { ⌜ MachineWords (now w) × (machineOf (now w) .position .pc < MOST-MEMORY) × (count < 4) ⌝ }
+    ensures { λ r. ⌜ ((memory : Memory) → nopCheckAs r ≡ nopsAfter (viewOf (now (program .entry)) (now (w .entry)) memory) count) ⌝ }
+{
+    let mut k = 1;
+    while k <= count
+    {
+        let checked = check_nop(program, w, k);
+        match checked {
+            NopCheck::Pass => {}
+            NopCheck::Fault(code) => {
+                return NopCheck::Fault(code);
+            }
+            NopCheck::Stop(number) => {
+                return NopCheck::Stop(number);
+            }
+        }
+        k += 1;
+    }
+    NopCheck::Pass
 }

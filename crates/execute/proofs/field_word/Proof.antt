@@ -9,7 +9,7 @@ use Rattle.isa.specs.Operation.{operationOf, Properties, properties}
 use Rattle.machine.specs.Machine.{Machine, widthOf}
 use Rattle.machine.specs.Words.{machineOf}
 use Rattle.machine.specs.declared.Position.{Position}
-use Rattle.isa.proofs.Groups.{no-field-transfer}
+use Rattle.isa.proofs.Groups.{no-field-transfer, no-field-nops}
 use Rattle.execute.proofs.Tests.{Decoded, decoded, decoded-word, word-barred, word-skipped, word-performed}
 use Rattle.execute.proofs.field_word.Statement.{statement}
 use Rattle.execute.proofs.field_word.Tie as tie
@@ -65,8 +65,9 @@ returns-3 c p memory =
     let left = read .before .before .before .before in
     let d = left .before .before .before in
     let free = d .before in
+    let none = no-field-nops (entry d .args .op) (omega arith) (omega arith) in
     c .before .before .fields .ensures _ memory
-    ∙ sym (word-performed p _ memory (given d) (sym (free .before .unavailability .ensures) ∙ free .if1 .left) (stays d) (sym (left .before .condition-false .ensures p memory) ∙ left .if2 .left)
+    ∙ sym (word-performed p _ memory (given d) (sym (free .before .unavailability .ensures) ∙ free .if1 .left) (stays d) none (sym (left .before .condition-false .ensures p memory) ∙ left .if2 .left)
     _ _ (read .before .before .source .ensures p memory) (read .source2 .ensures p memory))
 
 pub field-word-spec : {M : Type 1} → statement M

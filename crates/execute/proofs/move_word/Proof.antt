@@ -9,7 +9,7 @@ use Rattle.isa.specs.Operation.{operationOf, Properties, properties}
 use Rattle.machine.specs.Machine.{Machine, widthOf}
 use Rattle.machine.specs.Words.{machineOf}
 use Rattle.machine.specs.declared.Position.{Position}
-use Rattle.isa.proofs.Groups.{no-transfer}
+use Rattle.isa.proofs.Groups.{no-transfer, no-nops}
 use Rattle.execute.proofs.Tests.{Decoded, decoded, decoded-word, word-barred, word-skipped, word-performed}
 use Rattle.execute.proofs.move_word.Statement.{statement}
 use Rattle.execute.proofs.move_word.Tie as tie
@@ -63,8 +63,9 @@ returns-3 c p memory =
     let left = read .before .before .before .before in
     let d = left .before .before .before in
     let free = d .before .before .before in
+    let none = no-nops (entry d .args .op) (omega arith) in
     c .before .before .moves .ensures p memory
-    ∙ sym (word-performed p _ memory (given d) (sym (free .before .unavailability .ensures) ∙ free .if1 .left) (stays d) (sym (left .before .condition-false .ensures p memory) ∙ left .if2 .left)
+    ∙ sym (word-performed p _ memory (given d) (sym (free .before .unavailability .ensures) ∙ free .if1 .left) (stays d) none (sym (left .before .condition-false .ensures p memory) ∙ left .if2 .left)
     _ _ (read .before .before .source .ensures p memory) (read .source2 .ensures p memory))
 
 pub move-word-spec : {M : Type 1} → statement M

@@ -1,37 +1,41 @@
--- The exceptions and stops that the memories give: codes and numbers of 01's. Assumes nothing.
+-- The exceptions and stops that a view shows: codes and numbers of those that are listed. Assumes nothing.
 use mathlib.Core.Path.{_≡_, refl}
 use mathlib.Core.List.{List}
 use mathlib.Core.Option.{Option, none, some}
-use Prim.Native.Nat.{ℕ, zero, suc, _*_, _+_, _≤_, _<_}
-use lib.Dec.{eqb, lit≤}
+use Prim.Native.Nat.{ℕ, zero, suc, _*_, _+_, _<_}
+use lib.Dec.{eqb}
 use lib.IntN.{ℤ}
 use lib.ListN.{getElem?}
 use mathlib.Core.Bool.{Bool, true, _||_}
+use Rattle.word.specs.Flags.{isAmong}
 use Rattle.word.proofs.Tests.{if-holds}
+use Rattle.isa.specs.Operation.{Width}
 use Rattle.isa.specs.Theorems.{between}
 use Rattle.machine.specs.Machine.{State}
-use Rattle.view.specs.View.{Attempt, Found, Raises, Stops, mapFound, byteThen, bytesAt, fetchAt, foundAt, placeAt, View, view}
+use Rattle.view.specs.View.{Attempt, Found, Raises, Stops, mapFound, byteThen, bytesAt, readAt, fetchAt, foundAt, placeAt, View, view, nopThen, nopsFrom}
+use Rattle.effect.specs.Kind.{STOPS}
 
 -- a code of an exception: of a test of an instruction, or "trap n has code 224 + n"
 pub data Code (c : ℕ) : Type 0 where
   tests : eqb c 0x00 || between 0x02 0x09 c ≡ true → Code c
   traps : (n : ℕ) → n < 32 → c ≡ 224 + n → Code c
 
--- an exception has such a code, a stop a number of 01's, 11 to 15
+-- an exception has such a code, a stop a number of the list
 abbrev pub Numbered : {A : Type 0} → Attempt A → Type 0
 Numbered (Found x) = Unit {0}
 Numbered (Raises c) = Code c
-Numbered (Stops n) = (11 ≤ n) × (n ≤ 15)
+Numbered (Stops n) = isAmong n STOPS ≡ true
 
 -- each that a view shows
 pub record AnswersNumbered (v : View) : Type 0 where
   pub fetch : Numbered (v .fetched)
+  pub after : (k : ℕ) → Numbered (v .following k)
   pub access : (z : ℤ) → Numbered (v .place z)
   pub loading : (z : ℤ) → Numbered (v .load z)
 
 byte-numbered : (b : Option ℕ) (f : ℕ → Attempt ℕ) → ((x : ℕ) → Numbered (f x)) → Numbered (byteThen b f)
-unfolding byteThen
-byte-numbered none f h = (lit≤ tt, lit≤ tt)
+unfolding byteThen isAmong
+byte-numbered none f h = refl
 byte-numbered (some x) f h = h x
 
 bytes-numbered : (program : List ℕ) (n a w : ℕ) → Numbered (bytesAt program n a w)
@@ -39,17 +43,21 @@ unfolding bytesAt
 bytes-numbered program zero a w = tt
 bytes-numbered program (suc n) a w = byte-numbered (getElem? program a) _ (λ x. bytes-numbered program n (suc a) (w * 256 + x))
 
+read-numbered : (program : List ℕ) (low high : ℕ) (user : Bool) (n a : ℕ) → Numbered (readAt program low high user n a)
+unfolding readAt
+read-numbered program low high user n a = if-holds Numbered _ (λ _. tests refl) (λ _. bytes-numbered program n a 0)
+
 fetch-numbered : (program : List ℕ) (low high : ℕ) (user : Bool) (n pc : ℕ) → Numbered (fetchAt program low high user n pc)
 unfolding fetchAt
-fetch-numbered program low high user n pc = if-holds Numbered _ (λ _. tests refl) (λ _. if-holds Numbered _ (λ _. tests refl) (λ _. bytes-numbered program n pc 0))
+fetch-numbered program low high user n pc = if-holds Numbered _ (λ _. tests refl) (λ _. read-numbered program low high user n pc)
 
 place-numbered : (s : State) (z : ℤ) → Numbered (placeAt s z)
-unfolding placeAt foundAt
+unfolding placeAt foundAt isAmong
 place-numbered s z =
     if-holds Numbered _ (λ _. tests refl) (λ _.
     if-holds Numbered _ (λ _. tests refl) (λ _.
     if-holds Numbered _ (λ _. tt) (λ _.
-    if-holds Numbered _ (λ _. tt) (λ _. (lit≤ tt, lit≤ tt)))))
+    if-holds Numbered _ (λ _. tt) (λ _. refl))))
 
 map-numbered : {A B : Type 0} (f : A → B) (t : Attempt A) → Numbered t → Numbered (mapFound f t)
 unfolding mapFound
@@ -62,6 +70,20 @@ unfolding view
 view-numbered program s =
     record {
       fetch = fetch-numbered program _ _ _ _ _;
+      after = λ k. read-numbered program _ _ _ _ _;
       access = place-numbered s;
       loading = λ z. map-numbered _ (placeAt s z) (place-numbered s z);
     }
+
+-- the nops that must follow
+
+nop-numbered : (width : Width) (a : Attempt ℕ) (rest : Attempt (Unit {0})) → Numbered a → Numbered rest → Numbered (nopThen width a rest)
+unfolding nopThen isAmong
+nop-numbered width (Found w) rest n h = if-holds Numbered _ (λ _. h) (λ _. refl)
+nop-numbered width (Raises c) rest n h = n
+nop-numbered width (Stops k) rest n h = n
+
+pub nops-numbered : (width : Width) (following : ℕ → Attempt ℕ) → ((k : ℕ) → Numbered (following k)) → (k count : ℕ) → Numbered (nopsFrom width following k count)
+unfolding nopsFrom
+nops-numbered width following h k zero = tt
+nops-numbered width following h k (suc count) = nop-numbered width (following k) _ (h k) (nops-numbered width following h (suc k) count)
