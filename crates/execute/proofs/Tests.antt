@@ -103,7 +103,7 @@ module _ (p w : List ℕ) (memory : Memory) {word op : ℕ} {i : Instruction} (d
       pub word-looked : conditionFalse v i ≡ false → (x y : ℕ) → x ≡ v .source (i .sreg1) → y ≡ v .source (i .sreg2)
           → (r : Attempt (Unit {0})) → r ≡ nopsAfter v (properties (operationOf op) .nops)
           → done ≡ reportOn (onFound (λ _. execute (operationOf (i .opcode)) v i x y) r) w memory
-      unfolding view fetchedThen perform
+      unfolding view onFound fetchedThen perform
       word-looked c x y a b r e =
           by (onFound (λ _. execute (operationOf (i .opcode)) v i x y) r)
           (rw (← (d .same), a, b) (looked v i (same-code ∙ usable) (same-transfer ∙ t) c r (rw (d .number) e)))

@@ -5,9 +5,9 @@ use mathlib.Core.Option.{Option, none, some}
 use mathlib.Core.Bool.{Bool, true, false, _||_, and-false}
 use Prim.Native.Nat.{ℕ, _≤_, _<_}
 use native.Mathlib.Omega.{arith}
-use lib.Dec.{leb, eqb}
+use lib.Dec.{leb, ltb, eqb}
 use lib.ListN.{length}
-use borrow.Author.Tests.{leb-true, le-leb, lt-leb, ne-eqb}
+use borrow.Author.Tests.{leb-true, ltb-true, le-leb, lt-leb, ne-eqb}
 use Rattle.word.specs.Choice.{if_then_else_}
 use Rattle.isa.specs.Operation.{operationOf, Width, w16, w32, widthBy, Availability, anywhere, wideOnly, superOnly, unavailable, codeOf, properties}
 use Rattle.isa.specs.Computed.{instructions}
@@ -48,6 +48,11 @@ nops-are = by-number (λ o. properties o .nops) nopsBy refl high
   where
     high : (n : ℕ) → 64 ≤ n → nopsBy n ≡ 0
     high n h = rw (ne-eqb n 48 (λ e. omega arith), ne-eqb n 49 (λ e. omega arith), ne-eqb n 50 (λ e. omega arith), ne-eqb n 54 (λ e. omega arith))
+
+-- at most three
+pub nops-few : (n : ℕ) → properties (operationOf n) .nops < 4
+unfolding instructions values
+nops-few n = ltb-true _ 4 (by-number (λ o. ltb (properties o .nops) 4) (λ n. true) refl (λ n h. refl) n)
 
 pub unavailable-is : UnavailableIs
 unfolding instructions values

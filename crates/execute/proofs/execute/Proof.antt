@@ -43,7 +43,7 @@ returns : tie.Need-returns
 unfolding fetchedAs
 returns c =
     let match = c .before .before .before .before .before .before .before .before .before in
-    c .before .before .before .before .instruction .ensures (now (entry (match .before) .args .program)) ∙ given (match .before) _ (c .before .before .before .before .before .before .before .before .fetched .given .1)
+    c .before .before .before .before .instruction .ensures ∙ given (match .before) _ (c .before .before .before .before .before .before .before .before .fetched .given .1)
 
 returns-2 : tie.Need-returns-2
 unfolding fetchedAs onFound fetchedThen

@@ -11,7 +11,7 @@ use Rattle.execute.proofs.instruction.Statement.{statement}
 use Rattle.execute.proofs.instruction.Tie as tie
 
 abbrev entry : tie.After-opcode → tie.Start
-entry c = c .before .before .before .before .before
+entry c = c .before .before .before .before .before .before
 
 number : (c : tie.After-opcode) → c .opcode .result ≡ opcodeOf (widthOf (psr (machineOf (now (entry c .args .w))))) (entry c .args .word)
 unfolding widthOf
@@ -27,10 +27,10 @@ lower-half-requires : tie.Need-lower-half-requires
 lower-half-requires c κs = (search needs, number (c .before .before), search needs)
 
 returns : tie.Need-returns
-returns c p = c .before .before .upper-half .ensures p (memoryOf (now (entry (c .before .before .before .before .before .before) .args .cells)))
+returns c = c .before .before .upper-half .ensures (memoryOf (now (entry (c .before .before .before .before .before .before) .args .cells)))
 
 returns-3 : tie.Need-returns-3
-returns-3 c p = c .before .before .lower-half .ensures p (memoryOf (now (entry (c .before .before .before .before .before) .args .cells)))
+returns-3 c = c .before .before .lower-half .ensures _ (memoryOf (now (entry (c .before .before .before .before .before) .args .cells)))
 
 pub instruction-spec : {M : Type 1} → statement M
 instruction-spec =
@@ -42,5 +42,7 @@ instruction-spec =
     lower-half-requires
     (λ c. search needs)
     returns
-    (λ c. search needs) (λ c. search needs) (λ c. search needs) (λ c. search needs)
+    (λ c. search needs) (λ c. search needs)
+    (λ c. c .before .before .before .before .access-word .ensures _)
+    (λ c. search needs)
     returns-3)

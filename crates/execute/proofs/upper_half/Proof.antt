@@ -15,10 +15,10 @@ use Rattle.execute.proofs.upper_half.Tie as tie
 
 -- what the last group asks, in either width; a word's number is below 64
 asked : (c : tie.After-wide-words) (wide : Bool) → c .wide-words .result ≡ wide
-    → let s = c .before .before .before .before in
+    → let s = c .before .before .before .before .before in
     (wide ≡ wideWords (psr (machineOf (now (s .args .w))))) × (s .args .op ≡ opcodeOf (widthOf (psr (machineOf (now (s .args .w))))) (s .args .word)) × (58 ≤ s .args .op) × (s .args .op ≤ 63)
 asked c wide e =
-    let s = c .before .before .before .before in
+    let s = c .before .before .before .before .before in
     let d = decoded-word (now (s .args .w)) (s .args .word) (s .args .op) (s .pre .3) in
     let n = d .number in
     let h = d .range .opcode in
@@ -37,4 +37,9 @@ upper-half-spec =
     (λ c κs. search needs) (λ c κs. search needs) (λ c κs. search needs) (λ c κs. search needs) (λ c κs. search needs)
     field-word-requires
     field-word-requires-2
-    (λ c. search needs) (λ c. search needs) (λ c. search needs) (λ c. search needs) (λ c. search needs) (λ c. search needs) (λ c. search needs) (λ c. search needs) (λ c. search needs) (λ c. search needs) (λ c. search needs) (λ c. search needs))
+    (λ c. search needs) (λ c. c .before .before .move-word .ensures _)
+    (λ c. search needs) (λ c. c .before .before .jump-word .ensures _)
+    (λ c. search needs) (λ c. c .before .before .branch-word .ensures _)
+    (λ c. search needs) (λ c. search needs)
+    (λ c. search needs) (λ c. c .before .before .field-word .ensures _)
+    (λ c. search needs) (λ c. c .before .before .field-word2 .ensures _))
