@@ -206,7 +206,7 @@ WorkedReturn =
 -- it was; PC, PR31 and EXCEPTION_PC after it
 unfoldable pub stepped : (psr low high slot : ℕ) (program : List ℕ) → Seen
 stepped q low high slot program =
-    let m = record {
+    let m : Machine = record {
       set1 = reset .set1;
       set2 = set (set (reset .set2) PSR q) LINK 77;
       conditions = reset .conditions;
@@ -215,7 +215,8 @@ stepped q low high slot program =
       stack = [];
       dividers = ZEROS;
     } in
-    let t = step program (record { machine = m; memory = memoryOf [] }) 0 in
+    let s : State = record { machine = m; memory = memoryOf [] } in
+    let t = step program s 0 in
     let after = t .after .machine in
     record { kind = t .kind; shown = after .position .pc ∷ getD (after .set2) LINK 0 ∷ controlAt after EXCEPTION-PC ∷ [] }
 
