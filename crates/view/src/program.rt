@@ -111,8 +111,7 @@ pub fn check_nops(program: &[u8], w: &[u32], count: u32) -> NopCheck
     ensures { λ r. ⌜ ((memory : Memory) → nopCheckAs r ≡ nopsAfter (viewOf (now (program .entry)) (now (w .entry)) memory) count) ⌝ }
 {
     let mut k = 1;
-    while k <= count
-    {
+    while k <= count {
         let checked = check_nop(program, w, k);
         match checked {
             NopCheck::Pass => {}

@@ -21,14 +21,22 @@ given c f e memory = rw (← (c .following .ensures memory), e)
 returns : tie.Need-returns
 unfolding fetchedAs nopThen nopCheckAs if_then_else_ view widthOf
 returns c memory =
-    rw (given (c .before .before .before .before .before .before) _ (c .before .before .before .before .fetched .given .1) memory,
-      ← (c .before .before .wide-words .ensures), ← (c .before .opcode .ensures), c .if1 .taken)
+    rw (
+      given (c .before .before .before .before .before .before) _ (c .before .before .before .before .fetched .given .1) memory,
+      ← (c .before .before .wide-words .ensures),
+      ← (c .before .opcode .ensures),
+      c .if1 .taken,
+    )
 
 returns-2 : tie.Need-returns-2
 unfolding fetchedAs nopThen nopCheckAs if_then_else_ view widthOf
 returns-2 c memory =
-    rw (given (c .before .before .before .before .before .before) _ (c .before .before .before .before .fetched .given .1) memory,
-      ← (c .before .before .wide-words .ensures), ← (c .before .opcode .ensures), ne-eqb _ 0 (c .if1 .left))
+    rw (
+      given (c .before .before .before .before .before .before) _ (c .before .before .before .before .fetched .given .1) memory,
+      ← (c .before .before .wide-words .ensures),
+      ← (c .before .opcode .ensures),
+      ne-eqb _ 0 (c .if1 .left),
+    )
 
 returns-3 : tie.Need-returns-3
 unfolding fetchedAs nopThen nopCheckAs
