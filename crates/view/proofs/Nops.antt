@@ -1,6 +1,6 @@
 -- The nops that must follow an instruction: what the look at them gives. Assumes nothing.
-use mathlib.Core.Path.{_≡_, refl, sym}
-use mathlib.Core.Bool.{Bool, true, false}
+use mathlib.Core.Path.{_≡_, refl}
+use mathlib.Core.Bool.{Bool}
 use mathlib.Core.List.{List}
 use mathlib.Core.Option.{Option, none, some}
 use Prim.Native.Nat.{ℕ, zero, suc, _+_, _-_, _*_, _≤_, _<_}
@@ -13,7 +13,7 @@ use Rattle.word.specs.Choice.{if_then_else_}
 use Rattle.word.proofs.Tests.{either, if-holds}
 use Rattle.isa.specs.Operation.{Width}
 use Rattle.isa.specs.Decode.{opcodeOf}
-use Rattle.machine.specs.Machine.{State, widthOf}
+use Rattle.machine.specs.Machine.{widthOf}
 use Rattle.view.specs.View.{Attempt, Found, Raises, Stops, byteThen, bytesAt, readAt, View, view, nopThen, nopsFrom}
 use Rattle.view.specs.Theorems.{NopAt, NoNopAt, protected, absent, other, Looked, nops, first, LookedAt}
 

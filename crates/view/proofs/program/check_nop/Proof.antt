@@ -1,8 +1,7 @@
 -- `view::program::check_nop` meets its contract: by what the word is. Assumes nothing.
-use mathlib.Core.Path.{_≡_, sym, ap, _∙_}
-use lib.Dec.{eqb}
+use mathlib.Core.Path.{_≡_}
 use borrow.Author.Needs.{needs}
-use borrow.Author.Tests.{eq-eqb, ne-eqb}
+use borrow.Author.Tests.{ne-eqb}
 use denote.Ref.{now}
 use Rattle.word.specs.Choice.{if_then_else_}
 use Rattle.machine.specs.Machine.{Memory, widthOf}
