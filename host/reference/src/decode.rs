@@ -247,6 +247,19 @@ impl Operation {
         )
     }
 
+    /// How many nops have to follow the operation. 002, section 6.2: swm "has to be followed
+    /// by two nop -instructions", scall "has a branch slot which in this case has to be
+    /// filled with a nop instruction", "The instruction following retu always has to be a
+    /// nop", reti "has to be followed by three nops". 02, wish 8: "two, one, one, three".
+    pub fn required_nops(self) -> u32 {
+        match self {
+            Swm => 2,
+            Scall | Retu => 1,
+            Reti => 3,
+            _ => 0,
+        }
+    }
+
     /// The operations 18 to 26, 33, 60 and 61, which in a 16-bit word take dr as source
     /// and target: "with an immediate, but for ld and st, dr is source and target".
     fn has_register_and_immediate(self) -> bool {

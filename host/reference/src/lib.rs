@@ -1,7 +1,7 @@
 //! A reference emulator of the COFFEE core, to compare other implementations with.
 //!
 //! It is written from three papers alone: 02 (the change requests, of which wishes 1 to 3
-//! and 5 to 7 are done), 01 (the board's rules) and 002 (the COFFEE Core user manual, July
+//! and 5 to 8 are done), 01 (the board's rules) and 002 (the COFFEE Core user manual, July
 //! 2007). Where they differ, 02 decides, then 01. It is meant to be read beside them, and
 //! puts clarity before speed.
 
@@ -41,7 +41,7 @@ pub struct Answer {
     pub refusal: u32,
     /// The steps done; 0 on a refusal.
     pub steps: u32,
-    /// 0 when the limit was reached, or the stop's number, 11 to 15; 0 on a refusal.
+    /// 0 when the limit was reached, or the stop's number, 11 to 15 or 20; 0 on a refusal.
     pub ending: u32,
 }
 

@@ -23,9 +23,9 @@ mod exception {
     pub const TRAP: u32 = 224;
 }
 
-/// Stop numbers (01, "One step").
+/// Stop numbers (01, "One step"; 02, wish 8).
 mod stop {
-    /// A byte of the instruction word is absent.
+    /// A byte of the instruction word, or of a nop that has to follow it, is absent.
     pub const NO_PROGRAM_BYTE: u32 = 11;
     /// A data address is neither in the control block nor a cell.
     pub const NO_DATA_CELL: u32 = 12;
@@ -35,6 +35,8 @@ mod stop {
     pub const NO_PRODUCT: u32 = 14;
     /// reti with an empty hardware stack.
     pub const EMPTY_STACK: u32 = 15;
+    /// Another operation stands where a nop has to follow.
+    pub const NOT_A_NOP: u32 = 20;
 }
 
 /// Why an instruction is not done.
@@ -202,6 +204,11 @@ impl Machine {
         if self.misaligned(address) {
             return Err(Fault::Exception(exception::MISALIGNED_INSTRUCTION_ADDRESS));
         }
+        self.word_at(address, program)
+    }
+
+    /// The word at an aligned address, with the last two tests of a fetch.
+    fn word_at(&self, address: u32, program: &[u8]) -> Result<u32, Fault> {
         if self.word_forbidden(address) {
             return Err(Fault::Exception(exception::INSTRUCTION_ADDRESS_VIOLATION));
         }
@@ -245,7 +252,31 @@ impl Machine {
             }
         }
 
+        self.check_required_nops(instruction.operation, address, program)?;
         self.execute(instruction, address, product, cells)
+    }
+
+    /// Tests the words after the instruction at `address` that have to be nops. 02, wish 8:
+    /// "These words are now looked at one after another in the old width, once any condition
+    /// is true and before stop 15. In user mode a protected byte among them raises 00h at the
+    /// instruction's own address; an absent byte is stop 11." "20, a stop, when one of them
+    /// has another operation than 0, given in that look": a word has all its tests before
+    /// the next has any. PSR is still the old one, and so are width and mode.
+    fn check_required_nops(
+        &self,
+        operation: Operation,
+        address: u32,
+        program: &[u8],
+    ) -> Result<(), Fault> {
+        let length = self.word_length();
+        for n in 1..=operation.required_nops() {
+            let word = self.word_at(address + n * length.bytes(), program)?;
+            // "Bits that an operation does not use are ignored": a nop has its operation only.
+            if operation_number(word, length) != 0 {
+                return Err(Fault::Stop(stop::NOT_A_NOP));
+            }
+        }
+        Ok(())
     }
 
     /// "Code 02h: lli, lui in 16-bit; those two [retu, chrs] in user mode." 02: exbfi is

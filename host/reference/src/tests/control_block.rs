@@ -101,6 +101,9 @@ fn the_stack_top_shows() {
         rri(27, 6, 1, 0x29),
         rri(27, 7, 1, 0x2A),
         plain(50, 0),
+        NOP,
+        NOP,
+        NOP,
     ])
     .pr(1, 0x0001_0000)
     .pr(9, 0xFFFF_FFFC)

@@ -46,10 +46,10 @@ fn no_code_01() {
             let wide = operation << 26 | bits;
             let short = (operation << 10 | bits & 0x3FF) as u16;
             for bench in [
-                Bench::new(&[wide]),
-                Bench::new(&[wide]).user(),
-                Bench::new_16(&[short]),
-                Bench::new_16(&[short]).user(),
+                Bench::new(&[wide, NOP, NOP, NOP]),
+                Bench::new(&[wide, NOP, NOP, NOP]).user(),
+                Bench::new_16(&[short, 0, 0, 0]),
+                Bench::new_16(&[short, 0, 0, 0]).user(),
             ] {
                 let mut bench = bench.control(offset::EXCEPTION_CS, 0xFF);
                 bench.run(1);
@@ -75,7 +75,9 @@ fn code_02() {
     // lli, lui and exbfi are fine in user mode with 32-bit words, and no other operation
     // is refused in user mode.
     for operation in (0..=63).filter(|operation| ![49, 51].contains(operation)) {
-        let mut bench = Bench::new(&[operation << 26]).user().in_service(0, 0, 9, 0);
+        let mut bench = Bench::new(&[operation << 26, NOP, NOP, NOP])
+            .user()
+            .in_service(0, 0, 9, 0);
         bench.machine.position.product = Some(0);
         bench.steps(1);
         if operation == 55 {
@@ -565,8 +567,8 @@ fn stop_14() {
 /// Stop 15: reti with an empty stack.
 #[test]
 fn stop_15() {
-    Bench::new(&[plain(50, 0)]).stops(15);
-    Bench::new_16(&[h_plain(50, 0)]).stops(15);
+    Bench::new(&[plain(50, 0), NOP, NOP, NOP]).stops(15);
+    Bench::new_16(&[h_plain(50, 0), 0, 0, 0]).stops(15);
 }
 
 /// The answer gives the steps before a stop, and they stay done.

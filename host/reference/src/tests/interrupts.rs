@@ -170,7 +170,7 @@ fn nesting() {
 /// A request that cannot nest waits, and is served after reti.
 #[test]
 fn service_after_return() {
-    // The routine of every source is reti at 100h + 10h × source.
+    // The routine of every source is reti and its nops at 100h + 10h × source.
     let mut bench = ready(&[NOP; 128]);
     for source in 0..12 {
         let at = 0x100 + 0x10 * source;
@@ -338,7 +338,7 @@ fn loading_pending_flags() {
 /// reti to a context with IE 1 lets the next pending interrupt through at once.
 #[test]
 fn back_to_back_interrupts() {
-    let mut bench = ready(&[plain(50, 0)]).in_service(0, 0x44, 0x1E, 2);
+    let mut bench = ready(&[plain(50, 0), NOP, NOP, NOP]).in_service(0, 0x44, 0x1E, 2);
     bench.machine.set_psr(0x0E);
     assert_eq!(accepted(&mut bench, 1), None);
     assert_eq!((bench.pc(), bench.psr()), (0x44, 0x1E));

@@ -59,6 +59,7 @@ fn ld(dreg: u32, register: u32) -> u32 {
     rri(27, dreg, 1, register as i32)
 }
 
+/// It has to be followed by three nops.
 const RETI: u32 = 50 << 26;
 
 /// What a RETI_ register keeps of a value.
@@ -154,7 +155,8 @@ fn the_top_entry_is_replaced() {
 fn an_empty_stack() {
     for register in REGISTERS {
         for value in values() {
-            let words = [st(register), ld(3, 0x28), ld(4, 0x29), ld(5, 0x2A), RETI];
+            let mut words = vec![st(register), ld(3, 0x28), ld(4, 0x29), ld(5, 0x2A)];
+            words.extend([RETI, NOP, NOP, NOP]);
             let mut bench = routine(&words, 0, value);
             bench.moves_only_pc(4);
             bench.steps(3);
@@ -171,9 +173,10 @@ fn an_empty_stack() {
     assert_eq!(stack_of_image(&bench), [1, 9, 12, 0x1E, 6]);
     assert_eq!(bench.machine.control[0x28..=0x2A], [12, 0x1E, 6]);
     // An emptied stack is an empty one.
-    let mut bench = routine(&[st(0x28), RETI, st(0x28)], 1, 8);
+    let words = [st(0x28), RETI, NOP, NOP, NOP, st(0x28)];
+    let mut bench = routine(&words, 1, 20);
     bench.steps(2);
-    bench.moves_only_pc(12);
+    bench.moves_only_pc(24);
     assert_eq!(bench.machine.control[0x28..=0x2A], [1, 9, 0]);
 }
 
@@ -187,7 +190,8 @@ fn every_psr() {
         for value in [low, 0xFFFF_FE00 | low] {
             for user in [false, true] {
                 for depth in [1, 2, 12] {
-                    let mut bench = routine(&[st(0x29), RETI], depth, value);
+                    let words = [st(0x29), RETI, NOP, NOP, NOP];
+                    let mut bench = routine(&words, depth, value);
                     if user {
                         bench = bench.user();
                     }
@@ -210,7 +214,7 @@ fn every_psr() {
 fn every_c0() {
     for low in 0..256 {
         for value in [low, 0xFFFF_FF00 | low] {
-            let words = [st(0x2A), RETI];
+            let words = [st(0x2A), RETI, NOP, NOP, NOP];
             let mut bench = routine(&words, 2, value).c(0, 2).c(1, 5).c(7, 1);
             stores(&mut bench, 0x2A, value, 4);
             bench.steps(1);
@@ -225,18 +229,19 @@ fn every_c0() {
 fn every_address() {
     for address in values() {
         // The third entry's PSR has 32-bit words and super user mode.
-        let mut bench = routine(&[st(0x28), RETI], 3, address);
+        let words = [st(0x28), RETI, NOP, NOP, NOP];
+        let mut bench = routine(&words, 3, address);
         stores(&mut bench, 0x28, address, 4);
         bench.steps(1);
         assert_eq!((bench.pc(), bench.psr()), (address, 0x0E));
         if address % 4 != 0 {
             bench.raises(0x05);
-        } else if address >= 8 {
+        } else if address >= 20 {
             bench.stops(11);
         }
     }
     // To user mode, with all of the program protected.
-    let words = [st(0x28), rri(28, 3, 1, 0x29), RETI];
+    let words = [st(0x28), rri(28, 3, 1, 0x29), RETI, NOP, NOP, NOP];
     let mut bench = routine(&words, 1, 0x4C).pr(3, 0x0F);
     bench.steps(3);
     assert_eq!((bench.pc(), bench.psr()), (0x4C, 0x09));
@@ -265,7 +270,7 @@ fn loads_before_and_after() {
 #[test]
 fn returns_after_stores() {
     for depth in 1..=12 {
-        let words = [st(0x28), st(0x29), st(0x2A), RETI];
+        let words = [st(0x28), st(0x29), st(0x2A), RETI, NOP, NOP, NOP];
         let mut bench = routine(&words, depth, 0x77);
         bench.steps(3);
         for n in (0..depth).rev() {
@@ -305,6 +310,7 @@ fn two_tasks_in_turn() {
     }
     exchange.push(RETI);
     let steps = 1 + exchange.len() as u32;
+    exchange.extend([NOP; 3]);
 
     // At 0 user code that counts R1 up, at 80h 16-bit super user code that counts PR24 down,
     // at 100h the routine of source 0.
@@ -355,7 +361,7 @@ fn an_interrupt_after_a_store() {
         .c(0, 3)
         .in_service(5, 0x40, 0x1E, 4);
     bench.program.resize(0x140, 0);
-    for word in [st(0x2A), RETI] {
+    for word in [st(0x2A), RETI, NOP, NOP, NOP] {
         bench.program.extend(word.to_be_bytes());
     }
     bench.steps(2);
@@ -381,7 +387,7 @@ fn an_interrupt_after_a_store() {
 fn a_stored_ie_waits_for_reti() {
     for (stacked, value, enabled) in [(0x0E, 0x1E, true), (0x1E, 0x0E, false)] {
         // Source 1, which is pending, has priority 0, source 0 has 1.
-        let mut bench = ready(&[st(0x29), NOP, RETI])
+        let mut bench = ready(&[st(0x29), NOP, RETI, NOP, NOP, NOP])
             .control(offset::COP_INT_PRI, 0x0001)
             .pr(1, BLOCK)
             .pr(2, value)
@@ -440,7 +446,8 @@ fn stores_in_16_bit_words() {
 fn stores_in_a_slot() {
     for register in REGISTERS {
         for transfer in [jump(36, 8), jump(37, 8), branch(7, 0, 8)] {
-            let words = [transfer, st(register), NOP, NOP, NOP, RETI];
+            let mut words = vec![transfer, st(register), NOP, NOP, NOP];
+            words.extend([RETI, NOP, NOP, NOP]);
             let mut bench = routine(&words, 2, 0x77);
             bench.steps(1);
             stores(&mut bench, register, 0x77, 20);
@@ -578,7 +585,7 @@ fn beside_a_list() {
     let mut random = Random(0x2545_F491_4F6C_DD1D);
     let mut list: Vec<[u32; 4]> = Vec::new();
     let mut depths = [0; 13];
-    let mut bench = ready(&[rri(28, 2, 1, 0), RETI]);
+    let mut bench = ready(&[rri(28, 2, 1, 0), RETI, NOP, NOP, NOP]);
     for round in 0..40_000 {
         // The stack grows and shrinks by turns.
         let growing = round / 100 % 2 == 0;

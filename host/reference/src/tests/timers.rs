@@ -130,7 +130,10 @@ fn a_stop_is_no_clock() {
             bench.stops(13);
             let mulhi = rrr(31, 3, 0, 0);
             Bench::new(&[mulhi]).timer(timer, on).stops(14);
-            Bench::new(&[plain(50, 0)]).timer(timer, on).stops(15);
+            let mut reti = [plain(50, 0), NOP, NOP, NOP];
+            Bench::new(&reti).timer(timer, on).stops(15);
+            reti[3] = lli(1, 1);
+            Bench::new(&reti).timer(timer, on).stops(20);
         }
     }
 }

@@ -136,7 +136,7 @@ fn transfers_in_a_slot() {
 /// "scall: link PR31 is two words on, SPSR takes PSR, PSR becomes 0Eh."
 #[test]
 fn system_calls() {
-    let mut bench = Bench::new(&[NOP, plain(48, 0)])
+    let mut bench = Bench::new(&[NOP, plain(48, 0), NOP])
         .user()
         .at(4)
         .pr(30, 0xFFFF_FFFF)
@@ -153,7 +153,7 @@ fn system_calls() {
     bench.raises(0x05);
 
     // 16-bit: two old-width words on. PR31 and SPSR are written whatever RSWR says.
-    let mut bench = Bench::new_16(&[h_plain(48, 0)]);
+    let mut bench = Bench::new_16(&[h_plain(48, 0), 0]);
     bench.machine.set_psr(0x12);
     bench.steps(1);
     assert_eq!((bench.pc(), bench.psr()), (0, 0x0E));
@@ -161,7 +161,7 @@ fn system_calls() {
     assert_eq!(bench.machine.set2[30], 0x12);
 
     // Conditional scall.
-    let mut bench = Bench::new(&[when(3, 6, plain(48, 0))])
+    let mut bench = Bench::new(&[when(3, 6, plain(48, 0)), NOP])
         .c(6, 4)
         .control(offset::SYSTEM_ADDR, 8);
     bench.steps(1);
@@ -178,7 +178,9 @@ fn returns_to_user_mode() {
         (0xFFFF_FFFF, 0x19),
         (0x06, 0x01),
     ] {
-        let mut bench = Bench::new(&[plain(49, 0)]).pr(31, 0xFFFF_FFFD).pr(30, spsr);
+        let mut bench = Bench::new(&[plain(49, 0), NOP])
+            .pr(31, 0xFFFF_FFFD)
+            .pr(30, spsr);
         bench.steps(1);
         assert_eq!((bench.pc(), bench.psr()), (0xFFFF_FFFD, psr));
         assert_eq!(bench.machine.set2[30], spsr);
@@ -188,24 +190,23 @@ fn returns_to_user_mode() {
 /// "reti pops (stop 15 when empty) and clears that source's flag."
 #[test]
 fn returns_from_interrupts() {
-    let mut bench = Bench::new(&[plain(50, 0), plain(50, 0), plain(50, 0)])
-        .in_service(7, 8, 0x1E, 2)
-        .in_service(3, 4, 0x0E, 5);
+    let reti = [plain(50, 0), NOP, NOP, NOP];
+    let mut bench = Bench::new(&[reti; 3].concat())
+        .in_service(7, 32, 0x1E, 2)
+        .in_service(3, 16, 0x0E, 5);
     bench.steps(1);
-    assert_eq!((bench.pc(), bench.psr()), (4, 0x0E));
+    assert_eq!((bench.pc(), bench.psr()), (16, 0x0E));
     assert_eq!(bench.machine.conditions[0], 5);
     assert_eq!(bench.machine.control[offset::INT_SERV], 1 << 7);
-    assert_eq!(bench.machine.control[0x28..=0x2A], [8, 0x1E, 2]);
+    assert_eq!(bench.machine.control[0x28..=0x2A], [32, 0x1E, 2]);
     bench.steps(1);
-    assert_eq!((bench.pc(), bench.psr()), (8, 0x1E));
+    assert_eq!((bench.pc(), bench.psr()), (32, 0x1E));
     assert_eq!(bench.machine.conditions[0], 2);
     assert_eq!(bench.machine.control[offset::INT_SERV], 0);
     assert_eq!(bench.machine.control[0x28..=0x2A], [1, 9, 0]);
     bench.stops(15);
     // It runs in user mode too.
-    let mut bench = Bench::new(&[plain(50, 0)])
-        .user()
-        .in_service(0, 64, 0x0E, 0);
+    let mut bench = Bench::new(&reti).user().in_service(0, 64, 0x0E, 0);
     bench.steps(1);
     assert_eq!((bench.pc(), bench.psr()), (64, 0x0E));
 }
@@ -220,21 +221,21 @@ fn switching_the_word_length() {
         (0x0E, 1, 0x0E),
         (0x1E, 31, 0x1E),
     ] {
-        let mut bench = Bench::new(&[NOP, plain(54, immediate)]).at(4);
+        let mut bench = Bench::new(&[NOP, plain(54, immediate), NOP, NOP]).at(4);
         bench.machine.set_psr(psr);
         bench.steps(1);
         assert_eq!((bench.pc(), bench.psr()), (16, new_psr));
     }
-    let mut bench = Bench::new_16(&[0, h_plain(54, 1)]).at(2);
+    let mut bench = Bench::new_16(&[0, h_plain(54, 1), 0, 0]).at(2);
     bench.steps(1);
     assert_eq!((bench.pc(), bench.psr()), (8, 0x0E));
     // It never aligns.
-    let mut bench = Bench::new_16(&[h_plain(54, 1)]);
+    let mut bench = Bench::new_16(&[h_plain(54, 1), 0, 0]);
     bench.steps(1);
     assert_eq!((bench.pc(), bench.psr()), (6, 0x0E));
     bench.raises(0x05);
     // It runs in user mode.
-    let mut bench = Bench::new(&[plain(54, 0)]).user();
+    let mut bench = Bench::new(&[plain(54, 0), NOP, NOP]).user();
     bench.steps(1);
     assert_eq!((bench.pc(), bench.psr()), (12, 0x01));
 }

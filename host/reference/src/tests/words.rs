@@ -271,10 +271,11 @@ fn never_conditional() {
         bench.steps(1);
         assert_eq!(bench.machine.position.slot, Some(8));
     }
-    let mut bench = Bench::new(&[always(plain(49, 0))]).pr(31, 64);
+    let mut bench = Bench::new(&[always(plain(49, 0)), NOP]).pr(31, 64);
     bench.steps(1);
     assert_eq!((bench.pc(), bench.psr()), (64, 0x09));
-    let mut bench = Bench::new(&[always(plain(50, 0))]).in_service(2, 64, 0x0A, 3);
+    let words = [always(plain(50, 0)), NOP, NOP, NOP];
+    let mut bench = Bench::new(&words).in_service(2, 64, 0x0A, 3);
     bench.steps(1);
     assert_eq!((bench.pc(), bench.psr()), (64, 0x0A));
     // chrs 0, ei, di, swm 0, trap 4.
@@ -283,7 +284,7 @@ fn never_conditional() {
         (plain(53, 0), 0x1E),
         (plain(54, 0), 0x06),
     ] {
-        let mut bench = Bench::new(&[always(word)]);
+        let mut bench = Bench::new(&[always(word), NOP, NOP]);
         bench.steps(1);
         assert_eq!(bench.psr(), psr);
     }
@@ -310,7 +311,7 @@ fn nothing_is_conditional_in_16_bit() {
     let mut bench = Bench::new_16(&[h_rr(38, 2, 0)]).pr(26, 40);
     bench.steps(1);
     assert_eq!(bench.machine.position.slot, Some(40));
-    let mut bench = Bench::new_16(&[h_plain(48, 0)]).control(0x1F, 40);
+    let mut bench = Bench::new_16(&[h_plain(48, 0), 0]).control(0x1F, 40);
     bench.steps(1);
     assert_eq!(bench.pc(), 40);
 }

@@ -69,9 +69,10 @@ fn jmp_at_0() {
     assert_eq!((bench.pc(), bench.machine.position.slot), (8, None));
 }
 
+/// 02, wish 8: "the worked swm case now has its two nops".
 #[test]
 fn swm_at_0() {
-    let mut bench = Bench::new(&[0xD800_0000]);
+    let mut bench = Bench::new(&[0xD800_0000, NOP, NOP]);
     bench.steps(1);
     assert_eq!(bench.pc(), 12);
     assert_eq!(bench.psr(), 0x06);
