@@ -56,7 +56,7 @@ extern "C" {
 struct coffee_answer {
     uint32_t refusal; /* 0, or the number of the first question that is answered no; then steps and ending are 0 */
     uint32_t steps;   /* completed steps */
-    uint32_t ending;  /* 0: the limit was reached; 11 to 15: the number of the stop */
+    uint32_t ending;  /* 0: the limit was reached; 11 to 15 or 20: the number of the stop */
 };
 
 /* Runs the machine that `image` says for at most `limit` steps.
@@ -73,11 +73,12 @@ struct coffee_answer {
  * buffer    the new image is written to its front; its further bytes stay as they are
  *
  * Stops, which are no steps and change nothing:
- *   11  a byte of the instruction word is outside program memory
+ *   11  a byte of the instruction word, or of a nop that must follow it, is outside program memory
  *   12  a data address is neither in the control block nor a cell
  *   13  a control transfer in a branch slot
  *   14  mulhi without a product from the step just before
  *   15  reti with an empty stack
+ *   20  another operation than nop where swm (two), scall, retu (one) or reti (three) wants nops
  *
  * Refusals, asked in this order:
  *   1  program longer than 65,536 bytes, or more than 65,536 cells

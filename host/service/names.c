@@ -39,7 +39,8 @@ const char *stop_meaning(uint32_t stop)
 {
     switch (stop) {
     case 11:
-        return "a byte of the instruction word is outside program memory";
+        return "a byte of the instruction word, or of a nop that must follow it, is outside program "
+               "memory";
     case 12:
         return "a data address is neither in the control block nor a cell";
     case 13:
@@ -48,6 +49,9 @@ const char *stop_meaning(uint32_t stop)
         return "mulhi without a product from the step just before";
     case 15:
         return "reti with an empty stack";
+    case 20:
+        return "another operation than nop where swm (two), scall, retu (one) or reti (three) wants "
+               "nops";
     default:
         return "a stop that is not known here";
     }

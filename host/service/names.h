@@ -20,7 +20,7 @@ extern const char *const position_names[POSITION_NUMBERS];
 /* The interrupt sources, as the names of their vectors have them. */
 extern const char *const source_names[SOURCES];
 
-/* What a stop means, 11 to 15. */
+/* What a stop means, 11 to 15 or 20. */
 const char *stop_meaning(uint32_t stop);
 
 enum { LONGEST_NAME = 64 };

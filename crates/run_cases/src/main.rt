@@ -1,4 +1,5 @@
-// The run program on the files of other folders: limits, lengths, a watchdog, missing files. A line has the path of code.bin and what the run program prints.
+// The run program on the files of other folders: limits, lengths, a watchdog, a missing nop, missing files. A line has the path of code.bin and what
+// the run program prints.
 use libc::STDOUT_FILENO;
 
 // Prints the first path, and what the run program prints for the files at the two.
@@ -28,6 +29,8 @@ fn main() {
     case(b"long/code.bin", b"long/limit.txt");
     // a watchdog that counts to 8 from the fifth step on, over a loop of three: the twelfth step ends at reset
     case(b"watchdog/code.bin", b"watchdog/limit.txt");
+    // addi in place of the second nop after swm, the second word: stop 20
+    case(b"nops/code.bin", b"nops/limit.txt");
     // no code.bin: the empty program stops at once
     case(b"no_code/code.bin", b"no_code/limit.txt");
     // no files at all: an empty limit.txt says no limit

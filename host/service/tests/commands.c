@@ -256,12 +256,20 @@ static void stop(size_t cells, const char *words, const char *line, const char *
 {
     write_words("program", words);
     machine("m", cells);
-    ACCEPTED(text("run: %s", line), text("%s\n%s\n", line, in_words), "run", "-v", "program", "m",
-             "100");
+    ACCEPTED(text("run of %s: %s", words, line), text("%s\n%s\n", line, in_words), "run", "-v",
+             "program", "m", "100");
     RUN("run", "--strict", "program", "m", "100");
     same_number("--strict gives 4", 4, (unsigned)outcome.status);
-    check("--strict prints the line too", strncmp(outcome.out, "0 1", 3) == 0);
+    same_text("--strict prints the line too", text("0%s\n", strchr(line, ' ')), outcome.out);
 }
+
+/* What a stop 11, and a stop 20, means in words, with no exception before it. */
+#define NO_WORD \
+    "a byte of the instruction word, or of a nop that must follow it, is outside program memory; " \
+    "no exception entered"
+#define NO_NOP \
+    "another operation than nop where swm (two), scall, retu (one) or reti (three) wants nops; " \
+    "no exception entered"
 
 static void test_run(void)
 {
@@ -284,12 +292,8 @@ static void test_run(void)
              "000000000000000000000000000003");
     ACCEPTED("1,000,000 steps", "1000000 0 00000004\n", "run", "program", "m", "1000000");
 
-    stop(1, "", "0 11 00000000",
-         "stop 11 at 00000000: a byte of the instruction word is outside program memory; "
-         "no exception entered");
-    stop(1, "00000000", "1 11 00000004",
-         "stop 11 at 00000004: a byte of the instruction word is outside program memory; "
-         "no exception entered");
+    stop(1, "", "0 11 00000000", "stop 11 at 00000000: " NO_WORD);
+    stop(1, "00000000", "1 11 00000004", "stop 11 at 00000004: " NO_WORD);
     stop(0, "6C000000", "0 12 00000000",
          "stop 12 at 00000000: a data address is neither in the control block nor a cell; "
          "no exception entered");
@@ -333,6 +337,44 @@ static void test_run(void)
     machine("m", 0);
     RUN("run", "program", "m", "3");
     same_number("a machine with 0 cells is saved as one", 0, word_at("m", CELL_COUNT));
+}
+
+/* Programs where a word that must be a nop is another, addi PR2, PR1, -1 (4807883Fh), absent or
+   protected (02, wish 8). */
+static void test_nops(void)
+{
+    section("required nops");
+    fresh();
+    stop(1, "D8000000 00000000 4807883F", "0 20 00000000", "stop 20 at 00000000: " NO_NOP);
+    stop(1, "C0000000 4807883F", "0 20 00000000", "stop 20 at 00000000: " NO_NOP);
+    stop(1, "C4000000 4807883F", "0 20 00000000", "stop 20 at 00000000: " NO_NOP);
+    stop(1, "C8000000 00000000 00000000 4807883F", "0 20 00000000",
+         "stop 20 at 00000000: " NO_NOP);
+    stop(1, "00000000 D8000000 00000000", "1 11 00000004", "stop 11 at 00000004: " NO_WORD);
+
+    /* lli PR1, 5; swm 0; nop; addi PR2, PR1, -1. */
+    write_words("program", "88010005 D8000000 00000000 4807883F 0C110000");
+    machine("m", 4);
+    ACCEPTED("work in place of a nop", "1 20 00000004\n", "run", "program", "m", "100");
+    machine("expected", 4);
+    set_word("expected", SET_2 + 1, 5);
+    set_word("expected", POSITION, 4);
+    same_bytes("the machine before the stop is saved", "expected", "m");
+    ACCEPTED("the same stop again", "0 20 00000004\n", "run", "program", "m", "100");
+    same_bytes("and the same machine", "expected", "m");
+    /* swm goes on at 16, in 16-bit words: sub PR25, PR26. */
+    write_words("program", "88010005 D8000000 00000000 00000000 0C110000");
+    ACCEPTED("with both nops the run goes on", "2 0 00000012\n", "run", "program", "m", "2");
+
+    /* In user mode, byte 7 protected, the last one of the nop. */
+    write_words("program", "C0000000 4807883F");
+    machine("m", 4);
+    set_word("m", PSR, 9);
+    set_word("m", IMEM_BOUND_LO, 7);
+    ACCEPTED("a protected nop",
+             "1 0 00000000\nall steps done, next at 00000000; 1 exception entered, code 00h at "
+             "00000000\n",
+             "run", "-v", "program", "m", "1");
 }
 
 /* A machine that takes requests: IE 1, every source let through, service in super user mode,
@@ -793,6 +835,7 @@ void test_commands(void)
     test_cells();
     test_list();
     test_run();
+    test_nops();
     test_in_words();
     test_resume();
     test_long();
