@@ -112,7 +112,9 @@ enum {
 };
 
 // Stop numbers.
-enum { NO_PROGRAM = 11, NO_DATA = 12, TRANSFER_IN_SLOT = 13, NO_PRODUCT = 14, NO_INTERRUPT = 15 };
+enum {
+    NO_PROGRAM = 11, NO_DATA = 12, TRANSFER_IN_SLOT = 13, NO_PRODUCT = 14, NO_INTERRUPT = 15, NO_NOP = 20,
+};
 
 // ---- instruction words
 
@@ -237,6 +239,12 @@ static inline bool program_protected(const struct machine *m, uint32_t address, 
     return low <= high && low <= address + (size - 1) && address <= high;
 }
 
+// Whether all bytes of a word are in program memory.
+static inline bool program_present(const struct memories *lent, uint32_t address, uint32_t size)
+{
+    return (uint64_t)address + size <= lent->program_len;
+}
+
 // Whether the next word can be fetched and is mulhi.
 static bool next_is_mulhi(const struct machine *m, const struct memories *lent)
 {
@@ -244,7 +252,7 @@ static bool next_is_mulhi(const struct machine *m, const struct memories *lent)
     uint32_t size = psr & IL ? 4 : 2;
     return (m->pc & (size - 1)) == 0
         && !((psr & UM) && program_protected(m, m->pc, size))
-        && (uint64_t)m->pc + size <= lent->program_len
+        && program_present(lent, m->pc, size)
         && word_at(lent->program, m->pc, psr & IL) >> 26 == MULHI;
 }
 
@@ -381,6 +389,29 @@ static void store_control(struct machine *m, uint32_t offset, uint32_t value)
         m->control[offset] = value & bits;
 }
 
+// Exception 00h for a nop that must follow; no stop has this number.
+enum { PROTECTED_NOP = 1 };
+
+// Looks for a missing nop, of so many that must follow the instruction at pc, in its width: 0 if there is
+// none, the number of a stop, or PROTECTED_NOP.
+static inline uint32_t missing_nop(
+    const struct machine *m, const struct memories *lent, uint32_t psr, uint32_t pc, uint32_t size,
+    uint32_t count)
+{
+    uint32_t last = pc + count * size;
+
+    for (uint32_t address = pc + size; address <= last; address += size) {
+        if ((psr & UM) && program_protected(m, address, size))
+            return PROTECTED_NOP;
+        if (!program_present(lent, address, size))
+            return NO_PROGRAM;
+        // In either width the operation is the top six bits of the first byte.
+        if (lent->program[address] >> 2 != NOP)
+            return NO_NOP;
+    }
+    return 0;
+}
+
 // Runs the instruction at PC, or enters an exception; the number of a stop, or 0.
 static inline uint32_t instruction(struct machine *m, const struct memories *lent)
 {
@@ -397,7 +428,7 @@ static inline uint32_t instruction(struct machine *m, const struct memories *len
         code = PROTECTED_INSTRUCTION;
         goto exception;
     }
-    if ((uint64_t)pc + size > lent->program_len)
+    if (!program_present(lent, pc, size))
         return NO_PROGRAM;
     uint32_t word = word_at(lent->program, pc, psr & IL);
     uint32_t op = word >> 26;
@@ -420,6 +451,7 @@ static inline uint32_t instruction(struct machine *m, const struct memories *len
     uint32_t value;
     uint64_t product;
     int64_t target;
+    uint32_t missing;
 
     switch (op) {
     case NOP:
@@ -598,6 +630,9 @@ static inline uint32_t instruction(struct machine *m, const struct memories *len
         goto jump;
 
     case SCALL:
+        missing = missing_nop(m, lent, psr, pc, size, 1);
+        if (missing != 0)
+            goto no_nop;
         m->registers[PR31] = pc + 2 * size;
         m->registers[SPSR] = psr;
         m->registers[PSR] = SUPER_USER;
@@ -608,10 +643,16 @@ static inline uint32_t instruction(struct machine *m, const struct memories *len
             code = ILLEGAL_INSTRUCTION;
             goto exception;
         }
+        missing = missing_nop(m, lent, psr, pc, size, 1);
+        if (missing != 0)
+            goto no_nop;
         m->registers[PSR] = (m->registers[SPSR] & (IE | IL)) | UM;
         next = m->registers[PR31];
         goto done;
     case RETI:
+        missing = missing_nop(m, lent, psr, pc, size, 3);
+        if (missing != 0)
+            goto no_nop;
         if (m->depth == 0)
             return NO_INTERRUPT;
         m->depth--;
@@ -635,6 +676,9 @@ static inline uint32_t instruction(struct machine *m, const struct memories *len
         m->registers[PSR] = psr | IE;
         goto done;
     case SWM:
+        missing = missing_nop(m, lent, psr, pc, size, 2);
+        if (missing != 0)
+            goto no_nop;
         m->registers[PSR] = (psr & ~(uint32_t)IL) | (word & 1) << 3;
         next = pc + 3 * size;
         goto done;
@@ -714,6 +758,10 @@ done:
     m->held = 0;
     return 0;
 
+no_nop:
+    if (missing != PROTECTED_NOP)
+        return missing;
+    code = PROTECTED_INSTRUCTION;
 exception:
     raise(m, code);
     return 0;

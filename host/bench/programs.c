@@ -2,7 +2,8 @@
 //
 // Low memory is the system's: program bytes below USER_PROGRAM and data addresses below USER_DATA are
 // protected from user mode, the control block among them, so every fetch, jump, load and store of user
-// mode passes both bounds. A scene runs for ever; the step limit ends it.
+// mode passes both bounds. Words that are not written are 0, so the nops that must follow retu and reti are
+// there. A scene runs for ever; the step limit ends it.
 #include "programs.h"
 
 #include <stdbool.h>
