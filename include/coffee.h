@@ -22,7 +22,7 @@ extern "C" {
 
 /* The version of this header and of the library that goes with it. The first number is that of the shared library's name: it changes when a
  * program has to be compiled anew. */
-#define COFFEE_VERSION "2.0.0"
+#define COFFEE_VERSION "2.1.0"
 
 /* Most bytes of program memory, and most cells of data memory. */
 #define COFFEE_MEMORY_MAX 65536

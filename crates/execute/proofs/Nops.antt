@@ -1,25 +1,25 @@
 -- What the look at the nops that must follow an instruction makes of it: nothing, or what the first word that is none gives. Assumes nothing.
-use mathlib.Core.Path.{_≡_, refl}
-use mathlib.Core.Bool.{_&&_}
+use mathlib.Core.Path.{_≡_, refl, sym, _∙_}
+use mathlib.Core.Bool.{_&&_, true≢false}
 use mathlib.Core.Option.{Option, none, some}
 use Prim.Native.Nat.{ℕ, zero, suc, _+_, _≤_, _<_}
 use native.Mathlib.Omega.{arith}
 use lib.Dec.{eqb}
 use Rattle.word.specs.Choice.{if_then_else_}
 use Rattle.word.proofs.Tests.{either}
-use Rattle.isa.specs.Operation.{operationOf, Width, w16, w32, Properties, properties}
+use Rattle.isa.specs.Operation.{operationOf, Width, w16, w32, Properties, properties, unavailable}
 use Rattle.isa.specs.Computed.{instructions}
 use Rattle.isa.specs.Decode.{opcodeOf, assembled, decode}
 use Rattle.isa.specs.declared.Instruction.{Instruction}
 use Rattle.isa.proofs.Table.{values, agree}
 use Rattle.isa.proofs.Decoded.{InRange, in-range}
-use Rattle.machine.specs.Machine.{widthOf}
+use Rattle.machine.specs.Machine.{userMode, widthOf}
 use Rattle.machine.specs.declared.Position.{Position}
 use Rattle.view.specs.View.{Attempt, Found, Raises, Stops, View, withFollowing, conditionFalse, nopThen, nopsFrom, nopsAfter}
 use Rattle.view.specs.Theorems.{NopAt, NoNopAt, protected, absent, other, Looked, nops, first}
 use Rattle.effect.specs.Effect.{Effect, Stopped, Raised}
 use Rattle.operation.specs.Execute.{onFound, afterThis, targetBy, jumped, branch, execute}
-use Rattle.execute.specs.Decide.{perform, ifAvailable, instruction, fetchedThen}
+use Rattle.execute.specs.Decide.{perform, ifAvailable, instruction, fetchedThen, Passes}
 
 -- words 0 are nops
 all-nops : (width : Width) (k n : ℕ) → nopsFrom width (λ j. Found 0) k n ≡ Found tt
@@ -34,19 +34,14 @@ Refuses (Found x) e = ⊥
 Refuses (Raises c) e = e ≡ Raised c
 Refuses (Stops n) e = e ≡ Stopped n
 
--- an effect in place of another: the same, or what the first word that is no nop gives
-pub data Effects (v : View) (count : ℕ) (now before : Effect) : Type 0 where
-  alike : now ≡ before → Effects v count now before
-  denied : (k : ℕ) → 1 ≤ k → k < 1 + count → ((j : ℕ) → 1 ≤ j → j < k → NopAt v j) → (a : Attempt (Unit {0})) → NoNopAt v k a → Refuses a now → Effects v count now before
+-- the effect of an instruction in place of another: the same, and then the nops follow, if it comes to the look at them; or what the first word that is
+-- no nop gives
+pub data Effects (v : View) (i : Instruction) (count : ℕ) (now before : Effect) : Type 0 where
+  alike : (Passes v i → (k : ℕ) → 1 ≤ k → k < 1 + count → NopAt v k) → now ≡ before → Effects v i count now before
+  denied : Passes v i → (k : ℕ) → 1 ≤ k → k < 1 + count → ((j : ℕ) → 1 ≤ j → j < k → NopAt v j) → (a : Attempt (Unit {0})) → NoNopAt v k a → Refuses a now
+      → Effects v i count now before
 
 module _ (v : View) where
-  looked-effects : (count : ℕ) (e : Effect) (a : Attempt (Unit {0})) → Looked v 1 count a → Effects v count (onFound (λ _. e) a) e
-  unfolding onFound
-  looked-effects count e a (nops f p) = alike (rw p)
-  looked-effects count e a (first k l h f (protected p)) = denied k l h f _ (protected p) refl
-  looked-effects count e a (first k l h f (absent p)) = denied k l h f _ (absent p) refl
-  looked-effects count e a (first k l h f (other w p d)) = denied k l h f _ (other w p d) refl
-
   -- the same view with nops after the instruction
   abbrev u : View
   u = withFollowing (λ k. Found 0) v
@@ -61,18 +56,29 @@ module _ (v : View) where
       abbrev count : ℕ
       count = properties (operationOf (i .opcode)) .nops
 
-      available : (o : Option ℕ) → Effects v count (ifAvailable v i (operationOf (i .opcode)) o) (ifAvailable u i (operationOf (i .opcode)) o)
+      looked-effects : Passes v i → (e : Effect) (a : Attempt (Unit {0})) → Looked v 1 count a → Effects v i count (onFound (λ _. e) a) e
+      unfolding onFound
+      looked-effects p e a (nops f q) = alike (λ _. f) (rw q)
+      looked-effects p e a (first k l m f (protected q)) = denied p k l m f _ (protected q) refl
+      looked-effects p e a (first k l m f (absent q)) = denied p k l m f _ (absent q) refl
+      looked-effects p e a (first k l m f (other w q d)) = denied p k l m f _ (other w q d) refl
+
+      available-effects : (o : Option ℕ) → unavailable (properties (operationOf (i .opcode)) .availability) (widthOf (v .status)) (userMode (v .status)) ≡ o
+          → Effects v i count (ifAvailable v i (operationOf (i .opcode)) o) (ifAvailable u i (operationOf (i .opcode)) o)
       unfolding ifAvailable withFollowing conditionFalse if_then_else_ onFound
-      available (some c) = alike refl
-      available none =
+      available-effects (some c) o = alike (λ p. absurd (let e = p .available in let z : _≡_ {A = ℕ} 0 1 = cc in omega arith)) refl
+      available-effects none o =
           either (properties (operationOf (i .opcode)) .transfer && eqb (v .position .slot) 1)
-          (λ t. alike (rw t))
+          (λ t. alike (λ p. absurd (true≢false (sym t ∙ p .inNoSlot))) (rw t))
           (λ t.
           either (conditionFalse v i)
-          (λ c. alike (rw (t, c)))
-          (λ c. rw (t, c, all-nops (widthOf (v .status)) 1 count, ← (performed-same i h)) (looked-effects count (perform v i (operationOf (i .opcode))) _ (looked count))))
+          (λ c. alike (λ p. absurd (true≢false (sym c ∙ p .holds))) (rw (t, c)))
+          (λ c.
+          rw (t, c, all-nops (widthOf (v .status)) 1 count, ← (performed-same i h))
+          (looked-effects (record { available = o; inNoSlot = t; holds = c }) (perform v i (operationOf (i .opcode))) _ (looked count))))
 
     -- an instruction word
-    pub word-effects : (w : ℕ) → Effects v (properties (operationOf (opcodeOf (widthOf (v .status)) w)) .nops) (fetchedThen v (Found w)) (fetchedThen u (Found w))
+    pub word-effects : (w : ℕ) → let i = decode (widthOf (v .status)) w in
+        Effects v i (properties (operationOf (opcodeOf (widthOf (v .status)) w)) .nops) (fetchedThen v (Found w)) (fetchedThen u (Found w))
     unfolding fetchedThen onFound instruction withFollowing decode assembled
-    word-effects w = available (decode (widthOf (v .status)) w) (in-range (widthOf (v .status)) w .opcode) _
+    word-effects w = available-effects (decode (widthOf (v .status)) w) (in-range (widthOf (v .status)) w .opcode) _ refl

@@ -1,5 +1,6 @@
 -- What the next instruction does: the order of its tests (01 "Instruction order"). Assumes nothing.
-use mathlib.Core.Bool.{_&&_}
+use mathlib.Core.Path.{_≡_}
+use mathlib.Core.Bool.{false, _&&_}
 use mathlib.Core.Option.{Option, none, some}
 use Prim.Native.Nat.{ℕ}
 use lib.Dec.{eqb}
@@ -39,6 +40,13 @@ fetchedThen v = onFound (λ w. instruction v (decode (widthOf (v .status)) w))
 -- what the next instruction does
 unfoldable pub decide : View → Effect
 decide v = fetchedThen v (v .fetched)
+
+-- an instruction that comes to the nops that must follow it, and then to its own effect: available, no control transfer in a slot, its condition
+-- not false. For comparisons: no rule uses it
+pub record Passes (v : View) (i : Instruction) : Type 0 where
+  pub available : unavailable (properties (operationOf (i .opcode)) .availability) (widthOf (v .status)) (userMode (v .status)) ≡ none
+  pub inNoSlot : properties (operationOf (i .opcode)) .transfer && eqb (v .position .slot) 1 ≡ false
+  pub holds : conditionFalse v i ≡ false
 
 -- to unfold all of these
 unfoldable pub deciding : Unit {0}

@@ -90,7 +90,7 @@ pub record Properties : Type 0 where
   pub conditional : Bool  -- bit 25 of a 32-bit word makes it conditional; otherwise that bit is ignored
   pub availability : Availability
   pub transfer : Bool  -- a control transfer, which stops with 13 in a branch slot
-  pub nops : ℕ  -- how many nops must follow it
+  pub nops : ℕ  -- how many nops must follow it (002 section 6.2)
 
 -- rows of the table: of operations that may be conditional, that never are, and of control transfers of both kinds
 abbrev optional : ℕ → String → Form → Properties

@@ -2,15 +2,17 @@
 -- of the step rests on these. Assumes nothing.
 use mathlib.Core.Path.{_≡_}
 use mathlib.Core.List.{List, [], _∷_}
+use mathlib.Core.Option.{none}
 use Prim.Native.Nat.{ℕ, _≤_, _<_}
 use Rattle.isa.specs.Operation.{operationOf, Properties, properties}
-use Rattle.isa.specs.Decode.{opcodeOf}
+use Rattle.isa.specs.Decode.{opcodeOf, decode}
 use Rattle.machine.specs.Machine.{State, widthOf}
 use Rattle.view.specs.View.{Attempt, Found, Raises, Stops, View, view, withFollowing}
 use Rattle.view.specs.Theorems.{NopAt, NoNopAt}
+use Rattle.execute.specs.Decide.{Passes}
 use Rattle.effect.specs.Kind.{Kind, Exception, Stop}
 use Rattle.effect.specs.Apply.{Transition}
-use Rattle.step.specs.Interrupt.{withRequests}
+use Rattle.step.specs.Interrupt.{withRequests, acceptedSource}
 use Rattle.step.specs.Step.{unclockedSeeing, withClock, unclocked, step}
 
 -- ---- the step before
@@ -60,28 +62,36 @@ RunsAsBefore =
 
 -- ---- every other program
 
+-- the step comes to the look at the nops: no interrupt is accepted, and the instruction fetched is available, no control transfer in a slot, and its
+-- condition not false
+pub record Looks (program : List ℕ) (s : State) (word : ℕ) : Type 0 where
+  pub uninterrupted : acceptedSource (view program s) (s .machine) ≡ none
+  pub fetched : view program s .fetched ≡ Found word
+  pub passes : Passes (view program s) (decode (widthOf (view program s .status)) word)
+
 -- the exception or the stop that a look gives
 abbrev pub Gives : Attempt (Unit {0}) → Kind → Type 0
 Gives (Found x) kind = ⊥
 Gives (Raises code) kind = kind ≡ Exception code
 Gives (Stops number) kind = kind ≡ Stop number
 
--- the instruction must be followed by nops, and the first word that is none gives an exception or a stop
-pub record Refused (v : View) (kind : Kind) : Type 0 where
-  pub word : ℕ
-  pub fetched : v .fetched ≡ Found word
+-- the first of so many words that is no nop gives an exception or a stop
+pub record FirstOther (v : View) (count : ℕ) (kind : Kind) : Type 0 where
   pub k : ℕ
   pub from : 1 ≤ k
-  pub to : k ≤ nopsOf v word
+  pub to : k ≤ count
   pub earlier : (j : ℕ) → 1 ≤ j → j < k → NopAt v j
   pub look : Attempt (Unit {0})
   pub none : NoNopAt v k look
   pub given : Gives look kind
 
--- a step, before its clock, is what it was, or refused so; r is the state with the requests added
+-- a step before its clock: what it was, and then the nops follow, if it comes to the look at them; or what the look gives. r is the state with the
+-- requests added
 pub data Compared (program : List ℕ) (s : State) (requests : ℕ) (r : State) : Type 0 where
-  same : unclocked program s requests ≡ unclockedBefore program s requests → Compared program s requests r
-  refused : Refused (view program r) (unclocked program s requests .kind) → Compared program s requests r
+  same : ((w : ℕ) → Looks program r w → (k : ℕ) → 1 ≤ k → k ≤ nopsOf (view program r) w → NopAt (view program r) k)
+      → unclocked program s requests ≡ unclockedBefore program s requests → Compared program s requests r
+  refused : (w : ℕ) → Looks program r w → FirstOther (view program r) (nopsOf (view program r) w) (unclocked program s requests .kind)
+      → Compared program s requests r
 
 -- whatever the program, the state and the requests
 abbrev pub NopsLooked : Type 0

@@ -238,31 +238,35 @@ stop n = seen (Stop n) 0 77 99
 abbrev work : ℕ
 work = 0x4807_883F
 
+-- what the definitions give, and what they must
+unfoldable pub nopCases : List (Seen × Seen)
+nopCases =
+    -- swm: no word; two nops; the second another operation; the first, and no second; the second not wholly there
+    (user (0xD800_0000 ∷ []), stop 11) ∷
+    (user (0xD800_0000 ∷ 0 ∷ 0 ∷ []), seen Ordinary 12 77 99) ∷
+    (user (0xD800_0000 ∷ 0 ∷ work ∷ []), stop 20) ∷
+    (user (0xD800_0000 ∷ work ∷ []), stop 20) ∷
+    (stepped 0x09 1 0 0 (bytesOf (0xD800_0000 ∷ 0 ∷ []) ++ 0 ∷ 0 ∷ []), stop 11) ∷
+    -- the last byte of its second protected, and another operation there; the same absent; in super user mode; the first another operation
+    (stepped 0x09 11 11 0 (bytesOf (0xD800_0000 ∷ 0 ∷ work ∷ [])), seen (Exception 0x00) 0 77 0) ∷
+    (stepped 0x09 11 11 0 (bytesOf (0xD800_0000 ∷ 0 ∷ [])), seen (Exception 0x00) 0 77 0) ∷
+    (stepped 0x0E 11 11 0 (bytesOf (0xD800_0000 ∷ 0 ∷ 0 ∷ [])), seen Ordinary 12 77 99) ∷
+    (stepped 0x09 11 11 0 (bytesOf (0xD800_0000 ∷ work ∷ 0 ∷ [])), stop 20) ∷
+    -- reti with an empty stack: three nops; the third another operation
+    (user (0xC800_0000 ∷ 0 ∷ 0 ∷ 0 ∷ []), stop 15) ∷
+    (user (0xC800_0000 ∷ 0 ∷ 0 ∷ work ∷ []), stop 20) ∷
+    -- retu: in user mode with no nop; in super user mode with one, and with another operation
+    (user (0xC400_0000 ∷ []), seen (Exception 0x02) 0 77 0) ∷
+    (super (0xC400_0000 ∷ 0 ∷ []), seen Ordinary 77 77 99) ∷
+    (super (0xC400_0000 ∷ work ∷ []), stop 20) ∷
+    -- scall: a nop with all other bits 1; another operation; the same, eq C0, and C0 is 0; in a slot with no nop; 16-bit words
+    (user (0xC000_0000 ∷ 0x03FF_FFFF ∷ []), seen SystemCall 0 8 99) ∷
+    (user (0xC000_0000 ∷ work ∷ []), stop 20) ∷
+    (user (0xC218_0000 ∷ work ∷ []), seen Ordinary 4 77 99) ∷
+    (stepped 0x09 1 0 1 (bytesOf (0xC000_0000 ∷ [])), stop 13) ∷
+    (stepped 0x01 1 0 0 (0xC0 ∷ 0x00 ∷ 0x00 ∷ 0x01 ∷ []), seen SystemCall 0 4 99) ∷
+    []
+
 -- the definitions give what they must, at each case
 abbrev pub WorkedNops : Type 0
-WorkedNops =
-    -- swm 0: no word; two nops; another operation second, or first with nothing after it; the second not wholly there
-    user (0xD800_0000 ∷ []) ∷ user (0xD800_0000 ∷ 0 ∷ 0 ∷ []) ∷ user (0xD800_0000 ∷ 0 ∷ work ∷ []) ∷ user (0xD800_0000 ∷ work ∷ [])
-    ∷ stepped 0x09 1 0 0 (bytesOf (0xD800_0000 ∷ 0 ∷ []) ++ 0 ∷ 0 ∷ [])
-    -- its last byte protected, and another operation there; in super user mode; another operation first
-    ∷ stepped 0x09 11 11 0 (bytesOf (0xD800_0000 ∷ 0 ∷ work ∷ [])) ∷ stepped 0x0E 11 11 0 (bytesOf (0xD800_0000 ∷ 0 ∷ 0 ∷ []))
-    ∷ stepped 0x09 11 11 0 (bytesOf (0xD800_0000 ∷ work ∷ 0 ∷ []))
-    -- its last byte protected and absent
-    ∷ stepped 0x09 11 11 0 (bytesOf (0xD800_0000 ∷ 0 ∷ []))
-    -- reti with an empty stack: three nops; another operation third
-    ∷ user (0xC800_0000 ∷ 0 ∷ 0 ∷ 0 ∷ []) ∷ user (0xC800_0000 ∷ 0 ∷ 0 ∷ work ∷ [])
-    -- retu in user mode, with no nop; in super user mode, with one and with another operation
-    ∷ user (0xC400_0000 ∷ []) ∷ super (0xC400_0000 ∷ 0 ∷ []) ∷ super (0xC400_0000 ∷ work ∷ [])
-    -- scall: a nop with all other bits 1; another operation; the same, eq C0, C0 being 0; in a slot, with no nop
-    ∷ user (0xC000_0000 ∷ 0x03FF_FFFF ∷ []) ∷ user (0xC000_0000 ∷ work ∷ []) ∷ user (0xC218_0000 ∷ work ∷ []) ∷ stepped 0x09 1 0 1 (bytesOf (0xC000_0000 ∷ []))
-    -- 16-bit words: scall and a nop
-    ∷ stepped 0x01 1 0 0 (0xC0 ∷ 0x00 ∷ 0x00 ∷ 0x01 ∷ []) ∷ []
-    ≡ stop 11 ∷ seen Ordinary 12 77 99 ∷ stop 20 ∷ stop 20
-    ∷ stop 11
-    ∷ seen (Exception 0x00) 0 77 0 ∷ seen Ordinary 12 77 99
-    ∷ stop 20
-    ∷ seen (Exception 0x00) 0 77 0
-    ∷ stop 15 ∷ stop 20
-    ∷ seen (Exception 0x02) 0 77 0 ∷ seen Ordinary 77 77 99 ∷ stop 20
-    ∷ seen SystemCall 0 8 99 ∷ stop 20 ∷ seen Ordinary 4 77 99 ∷ stop 13
-    ∷ seen SystemCall 0 4 99 ∷ []
+WorkedNops = map (λ c. c .0) nopCases ≡ map (λ c. c .1) nopCases
