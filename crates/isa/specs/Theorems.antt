@@ -35,9 +35,9 @@ ConditionalIs = (n : ℕ) → properties (operationOf n) .conditional ≡ ((betw
 abbrev pub TransferIs : Type 0
 TransferIs = (n : ℕ) → properties (operationOf n) .transfer ≡ between 36 50 n || eqb n 54
 
--- "The nops after swm, scall, retu and reti .. (two, one, one, three)" (02, wish 8): swm is 54, scall 48, retu 49, reti 50
+-- "The nops after swm, scall, retu and reti .. (two, one, one, three)" (02, wish 8): reti is 50, swm 54, scall 48, retu 49
 abbrev pub nopsBy : (n : ℕ) → ℕ
-nopsBy n = if eqb n 48 || eqb n 49 then 1 else if eqb n 50 then 3 else if eqb n 54 then 2 else 0
+nopsBy n = if eqb n 50 then 3 else if eqb n 54 then 2 else if eqb n 48 || eqb n 49 then 1 else 0
 
 abbrev pub NopsAre : Type 0
 NopsAre = (n : ℕ) → properties (operationOf n) .nops ≡ nopsBy n

@@ -77,12 +77,14 @@ pub fn is_transfer(op: u32) -> bool
 pub fn nops_after(op: u32) -> u32
     ensures { λ r. ⌜ r ≡ properties (operationOf op) .nops ⌝ }
 {
-    match op {
-        48 => 1,
-        49 => 1,
-        50 => 3,
-        54 => 2,
-        _ => 0,
+    if op == 50 {
+        3
+    } else if op == 54 {
+        2
+    } else if (op == 48) | (op == 49) {
+        1
+    } else {
+        0
     }
 }
 
