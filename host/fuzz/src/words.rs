@@ -55,6 +55,16 @@ pub fn is_transfer(operation: u32) -> bool {
     (JMP..=RETI).contains(&operation) || operation == SWM
 }
 
+/// How many nops have to follow the operation (02, wish 8).
+pub fn required_nops(operation: u32) -> u32 {
+    match operation {
+        SCALL | RETU => 1,
+        SWM => 2,
+        RETI => 3,
+        _ => 0,
+    }
+}
+
 /// Whether the operation holds its product for mulhi.
 pub fn holds_product(operation: u32) -> bool {
     matches!(operation, MULS | MULU | MULUS | MULI)
