@@ -928,6 +928,8 @@ mod tests {
             access(LD, 7, RETI_CR0),
             wide_registers(RETI, 0, 0, 0),
             NOP,
+            NOP,
+            NOP,
         ];
         let store = "at depth 2 or more 1, 32-bit 1";
         let [address, psr, c0] = [

@@ -1,10 +1,10 @@
 //! Random programs: regions of 16-bit and 32-bit words, biased towards words that run.
 
+use crate::call::MEMORY_LIMIT;
 use crate::image::{
     RETI_ADDR, RETI_PSR, RETI_REGISTERS, TIMER_REGISTERS, TMR0_CNT, TMR1_MAX_CNT, TMR_CONF,
 };
 use crate::random::Random;
-use crate::required_nops::OPERATIONS;
 use crate::words::{self, *};
 
 /// What a region is for, which decides how it ends.
@@ -66,7 +66,7 @@ pub const TIMER_COUNTS: [u32; 2] = [15, 16];
 pub const STATUSES: [u32; 2] = [17, 30];
 
 /// The greatest length of a program.
-const GREATEST: u32 = 65_536;
+const GREATEST: u32 = MEMORY_LIMIT as u32;
 
 /// The draw of a raw random word, after the operations.
 const RAW: u32 = 64;
@@ -169,12 +169,11 @@ pub fn build(
     bytes: &mut Vec<u8>,
     regions: &mut Vec<Region>,
 ) -> bool {
+    let mut theme = random.below(THEMES as u32) as usize;
     let keeps_nops = random.percent(92);
-    let theme = if keeps_nops || random.percent(40) {
-        random.below(THEMES as u32) as usize
-    } else {
-        MODE_THEME
-    };
+    if !keeps_nops && random.percent(60) {
+        theme = MODE_THEME;
+    }
     lay_out(random, bytes, regions);
     for index in 0..regions.len() {
         Filler {
@@ -254,7 +253,7 @@ impl BeforeNops {
     /// One of a program's, if it has one.
     fn pick(random: &mut Random, bytes: &[u8], regions: &[Region]) -> Option<BeforeNops> {
         let mut places = BeforeNops::all(bytes, regions);
-        let operation = random.pick(&OPERATIONS);
+        let operation = random.pick(&BEFORE_NOPS);
         if places.iter().any(|place| place.operation == operation) {
             places.retain(|place| place.operation == operation);
         }
@@ -752,4 +751,34 @@ pub fn word_of(random: &mut Random, region: Region, wide: bool) -> u32 {
     }
     let width = words::bytes(wide);
     region.start + width * random.below((region.nops() - region.start) / width)
+}
+
+#[cfg(test)]
+mod tests {
+    use super::*;
+
+    /// Most programs have nops wherever they have to follow and are there; of the others most
+    /// have not.
+    #[test]
+    fn nops_follow() {
+        let themes = Themes::new();
+        let (mut bytes, mut regions) = (Vec::new(), Vec::new());
+        // By what build says and by what is there.
+        let mut programs = [[0; 2]; 2];
+        for case in 0..5000 {
+            let mut random = Random::of_case(3, case);
+            let keeps_nops = build(&mut random, &themes, &mut bytes, &mut regions);
+            let nops = BeforeNops::all(&bytes, &regions).iter().all(|place| {
+                let width = words::bytes(place.wide);
+                (place.at + width..place.end())
+                    .step_by(width as usize)
+                    .filter_map(|at| words::word_at(&bytes, at, place.wide))
+                    .all(|word| words::operation(word, place.wide) == NOP)
+            });
+            programs[usize::from(keeps_nops)][usize::from(nops)] += 1;
+        }
+        let [[wrong, right], [never, kept]] = programs;
+        assert_eq!(never, 0);
+        assert!(wrong > right && kept > 8 * (wrong + right));
+    }
 }

@@ -8,8 +8,8 @@ use crate::program::{
 use crate::random::Random;
 use crate::words;
 
-/// Fills `image` with a random state for a program, which mostly has nops wherever they have to
-/// follow, and a number of cells.
+/// Fills `image` with a random state for a program and a number of cells; `keeps_nops` is whether
+/// the program has nops wherever they have to follow.
 pub fn build(
     random: &mut Random,
     program: &[u8],
@@ -364,8 +364,7 @@ impl Builder<'_> {
     fn position(&mut self) {
         // One state in ten starts at a load or store with an address outside 32 bits, one in
         // twenty at a store to a RETI_ register, as many at a reti after such stores, and as
-        // many at a word after which nops have to follow, but most of those of programs that do
-        // not have all the nops.
+        // many at a word after which nops have to follow; most do where nops are missing.
         let mut start = self.random.below(20);
         if !self.keeps_nops && self.random.percent(60) {
             start = 4;

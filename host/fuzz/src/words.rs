@@ -55,7 +55,10 @@ pub fn is_transfer(operation: u32) -> bool {
     (JMP..=RETI).contains(&operation) || operation == SWM
 }
 
-/// How many nops have to follow the operation (02, wish 8).
+/// The operations after which nops have to follow (02, wish 8).
+pub const BEFORE_NOPS: [u32; 4] = [SCALL, RETU, RETI, SWM];
+
+/// How many nops have to follow the operation.
 pub fn required_nops(operation: u32) -> u32 {
     match operation {
         SCALL | RETU => 1,
