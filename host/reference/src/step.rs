@@ -261,7 +261,7 @@ impl Machine {
     /// is true and before stop 15. In user mode a protected byte among them raises 00h at the
     /// instruction's own address; an absent byte is stop 11." "20, a stop, when one of them
     /// has another operation than 0, given in that look": a word has all its tests before
-    /// the next has any. PSR is still the old one.
+    /// the next has any. PSR is still the old one, and so are width and mode.
     fn check_required_nops(
         &self,
         operation: Operation,

@@ -168,26 +168,32 @@ fn by_hand() {
         &[0xC800_0000, 0, 0, 0],
     ];
     for words in good {
-        let ready = |words: &[u32]| Bench::new(words).in_service(0, 0, 0x0E, 0);
-        ready(words).steps(1);
+        let bench = |words: &[u32]| Bench::new(words).in_service(0, 0, 0x0E, 0);
+        bench(words).steps(1);
         for n in 1..words.len() {
             // addi PR1, PR1, 1
-            let mut work = words.to_vec();
-            work[n] = 0x4800_0421;
-            ready(&work).stops(20);
-            ready(&words[..n]).stops(11);
+            let mut other = words.to_vec();
+            other[n] = 0x4800_0421;
+            bench(&other).stops(20);
+            bench(&words[..n]).stops(11);
         }
     }
-    let good: [&[u16]; 4] = [&[0xD801, 0, 0], &[0xC000, 0], &[0xC400, 0], &[0xC800, 0, 0, 0]];
+    // swm 1, scall, retu, reti.
+    let good: [&[u16]; 4] = [
+        &[0xD801, 0, 0],
+        &[0xC000, 0],
+        &[0xC400, 0],
+        &[0xC800, 0, 0, 0],
+    ];
     for words in good {
-        let ready = |words: &[u16]| Bench::new_16(words).in_service(0, 0, 0x0E, 0);
-        ready(words).steps(1);
+        let bench = |words: &[u16]| Bench::new_16(words).in_service(0, 0, 0x0E, 0);
+        bench(words).steps(1);
         for n in 1..words.len() {
             // addi PR25, 1
-            let mut work = words.to_vec();
-            work[n] = 0x4809;
-            ready(&work).stops(20);
-            ready(&words[..n]).stops(11);
+            let mut other = words.to_vec();
+            other[n] = 0x4809;
+            bench(&other).stops(20);
+            bench(&words[..n]).stops(11);
         }
     }
 }
@@ -195,9 +201,9 @@ fn by_hand() {
 /// "A rebuilt carton program had real work where 002 wants nops": the steps before are done,
 /// the stop is no step, and another call stops there again.
 #[test]
-fn real_work_after_a_system_call() {
-    let work = rri(18, 2, 2, 1);
-    let mut bench = Bench::new(&[lli(1, 5), work, plain(48, 0), work, NOP]).user();
+fn steps_before_stop_20() {
+    let addi = rri(18, 2, 2, 1);
+    let mut bench = Bench::new(&[lli(1, 5), addi, plain(48, 0), addi, NOP]).user();
     bench.requests = vec![1, 2, 4, 8];
     let answer = bench.run(100);
     assert_eq!((answer.refusal, answer.steps, answer.ending), (0, 2, 20));
@@ -205,8 +211,8 @@ fn real_work_after_a_system_call() {
     assert_eq!(bench.machine.set1[1..3], [5, 1]);
     assert_eq!(bench.machine.control[offset::INT_PEND], 3);
     bench.stops(20);
-    // With the work after the nop the program goes on.
-    let mut bench = Bench::new(&[lli(1, 5), work, plain(48, 0), NOP, work]).user();
+    // With the addition after the nop the program goes on.
+    let mut bench = Bench::new(&[lli(1, 5), addi, plain(48, 0), NOP, addi]).user();
     bench.steps(3);
     assert_eq!((bench.pc(), bench.machine.set2[31]), (0, 16));
 }
@@ -256,23 +262,23 @@ fn another_operation() {
 #[test]
 fn ignored_bits() {
     for case in cases() {
-        let (used, bits) = if case.bytes == 2 { (6, 16) } else { (6, 32) };
+        // The six bits of the operation are above the ignored ones.
+        let ignored = 8 * case.bytes - 6;
         for place in 1..=case.nops {
-            let with = |word: u32| {
+            let with = |operation: u32, bits: u32| {
                 let mut bench = case.bench(&case.nops());
                 let at = case.address(place) as usize;
-                let word = case.word(word >> (bits - used), word & ((1 << (bits - used)) - 1));
+                let word = case.word(operation, bits);
                 bench.program[at..at + case.bytes as usize].copy_from_slice(&word);
                 bench
             };
-            for bit in 0..bits {
-                if bit < bits - used {
-                    case.completes(with(1 << bit));
-                } else {
-                    with(1 << bit).stops(20);
-                }
+            for bit in 0..ignored {
+                case.completes(with(0, 1 << bit));
             }
-            case.completes(with((1 << (bits - used)) - 1));
+            case.completes(with(0, (1 << ignored) - 1));
+            for bit in 0..6 {
+                with(1 << bit, 0).stops(20);
+            }
         }
     }
 }
@@ -378,7 +384,7 @@ fn order_between_words() {
             // 00h, then stop 20 or stop 11.
             following[before] = 0;
             case.protected(&following, byte - 1, byte - 1).raises(0x00);
-            let bench = &mut case.protected(&following[..=before], byte - 1, byte - 1);
+            let mut bench = case.protected(&following[..=before], byte - 1, byte - 1);
             bench.raises(0x00);
         }
     }
@@ -400,21 +406,19 @@ fn all_orders() {
                     let byte = case.address(1) + protected;
                     let mut bench = case.protected(&following, byte, byte);
                     bench.program.truncate((case.address(1) + length) as usize);
-                    // The first place, if any, with each of the three.
-                    let none = case.nops;
-                    let closed = if case.user {
-                        protected / case.bytes
-                    } else {
-                        none
+                    // The first place with each of the three; `nops` where there is none.
+                    let by_protection = match case.user {
+                        true => protected / case.bytes,
+                        false => case.nops,
                     };
-                    let absent = length / case.bytes;
-                    let other = others.trailing_zeros().min(none);
-                    let first = closed.min(absent).min(other);
-                    if first == none {
+                    let by_absence = length / case.bytes;
+                    let by_operation = others.trailing_zeros().min(case.nops);
+                    let first = by_protection.min(by_absence).min(by_operation);
+                    if first == case.nops {
                         case.completes(bench);
-                    } else if first == closed {
+                    } else if first == by_protection {
                         bench.raises(0x00);
-                    } else if first == absent {
+                    } else if first == by_absence {
                         bench.stops(11);
                     } else {
                         bench.stops(20);
@@ -584,25 +588,19 @@ fn the_old_width() {
     let mut bench = Bench::new_16(&[h_plain(48, 0), 0, other]);
     bench.steps(1);
     assert_eq!((bench.pc(), bench.psr()), (0, 0x0E));
-    // 002, table 6.6 and case 3: the second nop as a 16-bit word, or two 16-bit nops in all,
-    // and work behind. In the old width the second word is no nop.
-    for halves in [
-        [0, 0, 0, h_ri(18, 1, 1)],
-        [0, 0, h_ri(18, 1, 1), h_rr(9, 1, 2)],
-    ] {
+    // 002, table 6.6, has a 16-bit word as the second nop: in the old width what stands in
+    // the other half is ignored, and "three old-width words later" is beyond it.
+    let mixed = |halves: [u16; 4]| {
         let mut bench = Bench::new(&[plain(54, 0)]);
+        let bytes = halves.iter().flat_map(|half| half.to_be_bytes());
+        bench.program.extend(bytes);
         bench
-            .program
-            .extend(halves.iter().flat_map(|half| half.to_be_bytes()));
-        if halves[2] == 0 {
-            // The work in the low half is ignored, and "three old-width words later" is
-            // beyond it.
-            bench.steps(1);
-            assert_eq!((bench.pc(), bench.psr()), (12, 0x06));
-        } else {
-            bench.stops(20);
-        }
-    }
+    };
+    let mut bench = mixed([0, 0, 0, other]);
+    bench.steps(1);
+    assert_eq!((bench.pc(), bench.psr()), (12, 0x06));
+    // Its case 3 has two 16-bit nops in all: in the old width the second word is no nop.
+    mixed([0, 0, other, 0]).stops(20);
 }
 
 /// The words may end with the longest program and not go beyond it. Beyond its end, bytes are
@@ -680,7 +678,7 @@ fn an_interrupt_comes_first() {
         for following in [&[][..], &[lli(1, 1)]] {
             // Source 11 is in service with priority 15, source 0 has 0 and its routine, at
             // 100h, is reti.
-            let words = [&[plain(operation, 0)], following].concat();
+            let words = [&[plain(operation, 0)][..], following].concat();
             let mut bench = ready(&words)
                 .control(offset::EXT_INT_PRI, 0xF000_0000)
                 .in_service(11, 0x40, 0x0E, 0);
@@ -729,20 +727,20 @@ fn clocks_and_requests() {
 #[test]
 fn a_program_that_keeps_the_rule() {
     let mut words = vec![
-        jump(36, 4),       // 0: jmp to 12
-        lli(24, 5),        // 4: in the slot
-        lli(24, 9),        // 8: jumped over
-        plain(54, 0),      // 12: swm to 16-bit words
-        0x03FF_FFFF,       // 16: nop with its other bits
-        NOP,               // 20
-        0x4808_D801,       // 24: addi PR24, 1; swm to 32-bit words
-        0x0000_03FF,       // 28: two 16-bit nops
+        jump(36, 4),        // 0: jmp to 12
+        lli(24, 5),         // 4: in the slot
+        lli(24, 9),         // 8: jumped over
+        plain(54, 0),       // 12: swm to 16-bit words
+        0x03FF_FFFF,        // 16: nop with its other bits
+        NOP,                // 20
+        0x4808_D801,        // 24: addi PR24, 1; swm to 32-bit words
+        0x0000_03FF,        // 28: two 16-bit nops
         rri(18, 24, 24, 1), // 32
-        plain(49, 0),      // 36: retu to 44
-        NOP,               // 40
-        rri(18, 1, 1, 7),  // 44: in user mode
-        plain(48, 0),      // 48: scall
-        NOP,               // 52
+        plain(49, 0),       // 36: retu to 44
+        NOP,                // 40
+        rri(18, 1, 1, 7),   // 44: in user mode
+        plain(48, 0),       // 48: scall
+        NOP,                // 52
     ];
     words.extend([plain(50, 0), NOP, NOP, NOP]); // 56: reti
     let mut bench = Bench::new(&words)
