@@ -197,7 +197,7 @@ pub fn build(
                 bytes.push(byte);
             }
         }
-        3..=8 if !keeps_nops => end_among_nops(random, bytes, regions),
+        3..=10 if !keeps_nops => end_among_nops(random, bytes, regions),
         _ => {}
     }
     keeps_nops
@@ -228,7 +228,7 @@ fn end_among_nops(random: &mut Random, bytes: &mut Vec<u8>, regions: &mut [Regio
     }
     if length & 3 == 0 && random.one_in(6) {
         let origin = GREATEST - length;
-        bytes.splice(0..0, std::iter::repeat(0).take(origin as usize));
+        bytes.splice(0..0, vec![0; origin as usize]);
         for region in regions {
             region.start += origin;
             region.end += origin;
@@ -303,8 +303,8 @@ fn lay_out(random: &mut Random, bytes: &mut Vec<u8>, regions: &mut Vec<Region>) 
     for index in 0..random.range(1, 5) {
         let wide = random.percent(if index == 0 { 70 } else { 55 });
         let role = match random.below(16) {
-            0..=3 => Role::Handler,
-            4..=6 => Role::System,
+            0..=4 => Role::Handler,
+            5..=7 => Role::System,
             _ => Role::Plain,
         };
         if wide && at & 2 != 0 {
@@ -364,7 +364,7 @@ impl Filler<'_> {
         let (tail, tail_word) = match region.role {
             Role::Handler => (1 + self.nops_at_end(RETI), self.plain(RETI, wide)),
             Role::System => (1 + self.nops_at_end(RETU), self.plain(RETU, wide)),
-            Role::Plain if next_width == Some(!wide) && self.random.percent(85) => {
+            Role::Plain if next_width == Some(!wide) && self.random.percent(95) => {
                 let bit = u32::from(!wide);
                 (3, self.plain(SWM, wide) & !1 | bit)
             }
@@ -447,7 +447,7 @@ impl Filler<'_> {
         } else {
             0
         };
-        if self.keeps_nops || self.random.percent(70) {
+        if self.keeps_nops || self.random.percent(60) {
             ignored
         } else if self.random.percent(50) {
             ignored | 1 << shift << self.random.below(6)

@@ -130,7 +130,7 @@ impl Look<'_> {
             operation: words::operation(word, wide),
         };
         let fetched =
-            before.pc() % words::bytes(wide) == 0 && !(before.user() && look.protected(0));
+            before.pc() & (words::bytes(wide) - 1) == 0 && !(before.user() && look.protected(0));
         (required_nops(look.operation) > 0 && fetched).then_some(look)
     }
 

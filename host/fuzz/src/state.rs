@@ -515,28 +515,29 @@ impl Builder<'_> {
             wide,
             operation,
         } = place;
-        let mut psr = self.status(wide);
-        if operation == words::RETU && self.random.percent(75) {
-            psr &= !UM;
-        }
-        self.image.set2[PSR] = psr;
+        let psr = self.status(wide);
+        let user = if operation == words::RETU { 25 } else { 80 };
+        self.image.set2[PSR] = if self.random.percent(user) {
+            psr & (IE | IL) | UM
+        } else {
+            psr & !UM
+        };
         self.image.position[PC] = at;
         let width = words::bytes(wide);
         let nops = words::required_nops(operation);
         let word = at + width * self.random.range(1, nops);
-        let point = match self.random.below(8) {
+        let point = match self.random.below(10) {
             0 | 1 => word,
             2 | 3 => word + width - 1,
-            4 | 5 => word + self.random.below(width),
-            6 => at + width - 1,
+            4..=6 => word + self.random.below(width),
+            7 => at + width - 1,
             _ => place.end(),
         };
         let (low, high) = match self.random.below(8) {
-            0..=3 => (point, point),
-            4 => (point, u32::MAX),
-            5 => (point, point + self.random.below(12)),
-            6 => self.no_bounds(),
-            _ => return,
+            0..=4 => (point, point),
+            5 => (point, u32::MAX),
+            6 => (point, point + self.random.below(12)),
+            _ => self.no_bounds(),
         };
         self.image.control[IMEM_BOUND_LO] = low;
         self.image.control[IMEM_BOUND_HI] = high;
