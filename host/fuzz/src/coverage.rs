@@ -97,6 +97,7 @@ pub struct Coverage {
     waited_for_mulhi: u64,
     timers: Timers,
     stack_top: StackTop,
+    /// Its stops are those of all calls.
     required_nops: RequiredNops,
 }
 

@@ -162,7 +162,7 @@ fn weight(theme: usize, operation: u32) -> u32 {
 }
 
 /// Replaces `bytes` and `regions` by a random program, and says whether it has nops wherever they
-/// have to follow.
+/// have to follow, but for those that its end cuts off.
 pub fn build(
     random: &mut Random,
     themes: &Themes,
@@ -226,7 +226,7 @@ fn end_among_nops(random: &mut Random, bytes: &mut Vec<u8>, regions: &mut [Regio
             random.word() as u8
         };
     }
-    if length & 3 == 0 && random.one_in(6) {
+    if length & 3 == 0 && random.one_in(4) {
         let origin = GREATEST - length;
         bytes.splice(0..0, vec![0; origin as usize]);
         for region in regions {

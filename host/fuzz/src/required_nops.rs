@@ -393,11 +393,12 @@ impl RequiredNops {
     pub fn report(&self, out: &mut String) {
         for (width, name) in WIDTH_NAMES.into_iter().enumerate() {
             for (index, &operation) in BEFORE_NOPS.iter().enumerate() {
-                let title = format!("looks after {name} {}", NAMES[operation as usize]);
+                let mnemonic = NAMES[operation as usize];
+                let title = format!("looks after {name} {mnemonic}, stops of all calls");
                 line(out, &title, self.counts(width, index));
             }
             let bits = self.bits[width].iter().enumerate();
-            let title = format!("20 by a {name} word, by operation");
+            let title = format!("20 of all calls by a {name} word, by operation");
             line(out, &title, bits.map(|(bit, count)| (1 << bit, count)));
         }
     }
