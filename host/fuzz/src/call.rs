@@ -60,13 +60,14 @@ impl Generator {
 
     /// The first call of a case: a new program, new cells and a new image.
     pub fn first(&mut self, random: &mut Random, call: &mut Call) -> Expected {
-        program::build(random, &self.themes, &mut call.program, &mut self.regions);
+        let keeps_nops = program::build(random, &self.themes, &mut call.program, &mut self.regions);
         self.program_length = call.program.len();
         self.fill_cells(random, &mut call.cells);
         state::build(
             random,
             &call.program,
             &self.regions,
+            keeps_nops,
             self.cells_length,
             &mut self.image,
         );

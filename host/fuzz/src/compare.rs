@@ -13,6 +13,9 @@ pub type Run = fn(&[u8], &mut [u32], &[u8], &[u32], u32, &mut [u8]) -> Answer;
 
 pub type Sides = series::Sides<Run>;
 
+/// The numbers of the stops.
+pub const STOPS: [u32; 6] = [11, 12, 13, 14, 15, 20];
+
 /// What the sides leave different after a call.
 #[derive(Clone, Debug, PartialEq, Eq)]
 pub enum Left {
@@ -127,7 +130,7 @@ impl Bench {
             return Ok(());
         }
         let full = answer.steps == call.limit && answer.ending == 0;
-        let stopped = answer.steps < call.limit && (11..=15).contains(&answer.ending);
+        let stopped = answer.steps < call.limit && STOPS.contains(&answer.ending);
         if !full && !stopped {
             return both("steps and ending do not fit the limit");
         }

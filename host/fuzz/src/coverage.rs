@@ -3,10 +3,11 @@
 //! clock, the kind of each step is known.
 
 use crate::call::{Call, Expected};
-use crate::compare::{Bench, Difference, Run, Sides};
+use crate::compare::{Bench, Difference, Run, Sides, STOPS};
 use crate::damage::DAMAGES;
 use crate::image::*;
 use crate::met::{line, put, Met, Unmet, WIDTH_NAMES};
+use crate::required_nops::{Outcome, RequiredNops};
 use crate::stack_top::StackTop;
 use crate::timers::{Done, Timers};
 use crate::words::{self, *};
@@ -48,7 +49,7 @@ pub struct Coverage {
     pub calls: u64,
     pub cases: u64,
     refusals: [u64; 9],
-    endings: [u64; 16],
+    endings: [u64; 21],
     steps: u64,
     damages: [u64; DAMAGES.len()],
     /// From here on: of the calls that were repeated step by step.
@@ -96,6 +97,8 @@ pub struct Coverage {
     waited_for_mulhi: u64,
     timers: Timers,
     stack_top: StackTop,
+    /// Its stops are those of all calls.
+    required_nops: RequiredNops,
 }
 
 impl Coverage {
@@ -104,7 +107,7 @@ impl Coverage {
             calls: 0,
             cases: 0,
             refusals: [0; 9],
-            endings: [0; 16],
+            endings: [0; 21],
             steps: 0,
             damages: [0; DAMAGES.len()],
             traced_calls: 0,
@@ -139,6 +142,7 @@ impl Coverage {
             waited_for_mulhi: 0,
             timers: Timers::default(),
             stack_top: StackTop::default(),
+            required_nops: RequiredNops::default(),
         }
     }
 
@@ -152,6 +156,19 @@ impl Coverage {
         }
         if let Some(damage) = expected.damage {
             self.damages[damage] += 1;
+        }
+    }
+
+    /// Counts the stop of a call, if it has one; `left` is its buffer.
+    pub fn count_stop(&mut self, call: &Call, answer: Answer, left: &[u8]) {
+        if answer.ending != 0 {
+            let requests = call.requests.get(answer.steps as usize).copied();
+            self.required_nops.count(
+                &call.program,
+                &Image::read(left),
+                Outcome::Stop(answer.ending),
+                requests.unwrap_or(0),
+            );
         }
     }
 
@@ -169,6 +186,13 @@ impl Coverage {
         self.traced_steps += 1;
         self.timers.count(unclocked.done, after);
         self.stack_top.step(before, unclocked.done);
+        let outcome = match unclocked.done {
+            Done::Instruction | Done::TimerStore(_) => Outcome::Instruction,
+            Done::Nothing => Outcome::Nothing,
+            Done::Interrupt => Outcome::Interrupt,
+            Done::Exception => Outcome::Exception(after.control[EXCEPTION_CS]),
+        };
+        self.required_nops.count(program, before, outcome, requests);
         self.status[before.psr() as usize] += 1;
         let waiting = getting_through(before, requests);
         if unclocked.done == Done::Interrupt {
@@ -336,7 +360,7 @@ impl Met for Coverage {
         for (damage, &count) in DAMAGES.iter().zip(&self.damages) {
             unmet.need(count, format!("damage {damage:?} alone"));
         }
-        for ending in [0, 11, 12, 13, 14, 15] {
+        for ending in endings() {
             unmet.need(self.endings[ending], format!("ending {ending}"));
         }
         for code in CODES {
@@ -454,6 +478,7 @@ impl Met for Coverage {
         unmet.need(self.waited_for_mulhi, "interrupt held back by mulhi".into());
         self.timers.need(&mut unmet);
         self.stack_top.need(&mut unmet);
+        self.required_nops.need(&mut unmet);
         unmet.lines()
     }
 
@@ -461,7 +486,7 @@ impl Met for Coverage {
         let mut text = String::new();
         let out = &mut text;
         line(out, "refusals", self.refusals.iter().enumerate());
-        let endings = [0, 11, 12, 13, 14, 15].map(|ending| (ending, &self.endings[ending]));
+        let endings = endings().map(|ending| (ending, &self.endings[ending]));
         line(out, "endings", endings);
         put(out, format!("steps: {}", self.steps));
         let least = self.damages.iter().min().copied().unwrap_or(0);
@@ -545,6 +570,7 @@ impl Met for Coverage {
         );
         self.timers.report(out);
         self.stack_top.report(out);
+        self.required_nops.report(out);
         let both = |operation: u32| {
             let operation = operation as usize;
             self.done[0][operation] + self.done[1][operation]
@@ -602,6 +628,11 @@ impl Default for Coverage {
     fn default() -> Coverage {
         Coverage::new()
     }
+}
+
+/// The limit reached, and the stops.
+fn endings() -> impl Iterator<Item = usize> {
+    std::iter::once(0).chain(STOPS.iter().map(|&stop| stop as usize))
 }
 
 /// The condition of a word, if it has one, and whether it is true before its step.
@@ -897,6 +928,8 @@ mod tests {
             access(LD, 6, RETI_PSR),
             access(LD, 7, RETI_CR0),
             wide_registers(RETI, 0, 0, 0),
+            NOP,
+            NOP,
             NOP,
         ];
         let store = "at depth 2 or more 1, 32-bit 1";

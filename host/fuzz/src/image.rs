@@ -196,6 +196,11 @@ impl Image {
         self.control[DMEM_BOUND_LO] <= address && address <= self.control[DMEM_BOUND_HI]
     }
 
+    /// Whether a program byte is protected.
+    pub fn code_protected(&self, address: u32) -> bool {
+        self.control[IMEM_BOUND_LO] <= address && address <= self.control[IMEM_BOUND_HI]
+    }
+
     /// The priority number of a source.
     pub fn priority(&self, source: usize) -> u32 {
         if source < 4 {

@@ -1,5 +1,6 @@
 //! Random programs: regions of 16-bit and 32-bit words, biased towards words that run.
 
+use crate::call::MEMORY_LIMIT;
 use crate::image::{
     RETI_ADDR, RETI_PSR, RETI_REGISTERS, TIMER_REGISTERS, TMR0_CNT, TMR1_MAX_CNT, TMR_CONF,
 };
@@ -17,6 +18,17 @@ pub enum Role {
     System,
 }
 
+impl Role {
+    /// How many nops a region has at its end.
+    fn nops(self) -> u32 {
+        match self {
+            Role::Plain => 0,
+            Role::Handler => required_nops(RETI),
+            Role::System => required_nops(RETU),
+        }
+    }
+}
+
 /// A part of the program whose words have one width.
 #[derive(Clone, Copy, Debug)]
 pub struct Region {
@@ -24,6 +36,13 @@ pub struct Region {
     pub end: u32,
     pub wide: bool,
     pub role: Role,
+}
+
+impl Region {
+    /// Where the nops at its end start, or its end.
+    fn nops(self) -> u32 {
+        self.end - self.role.nops() * words::bytes(self.wide)
+    }
 }
 
 /// Registers with a purpose, the same in both sets; the others hold any number. The
@@ -46,6 +65,9 @@ pub const TIMER_COUNTS: [u32; 2] = [15, 16];
 /// Registers for RETI_PSR.
 pub const STATUSES: [u32; 2] = [17, 30];
 
+/// The greatest length of a program.
+const GREATEST: u32 = MEMORY_LIMIT as u32;
+
 /// The draw of a raw random word, after the operations.
 const RAW: u32 = 64;
 
@@ -53,6 +75,8 @@ const RAW: u32 = 64;
 pub const THEMES: usize = 10;
 /// Programs that load and store the registers of the stack's top.
 const INTERRUPT_THEME: usize = 4;
+/// Programs that change the mode.
+const MODE_THEME: usize = 5;
 /// Programs that load and store timer registers.
 const TIMER_THEME: usize = 9;
 
@@ -108,7 +132,7 @@ fn weight(theme: usize, operation: u32) -> u32 {
         JMP => 4,
         JAL | JMPR | JALR => 3,
         BRANCH..=LAST_BRANCH => 3,
-        SCALL => 2,
+        SCALL => 3,
         CHRS => 3,
         EI => 4,
         SCON | RCON => 3,
@@ -122,12 +146,10 @@ fn weight(theme: usize, operation: u32) -> u32 {
         (2, LD | ST) => 6 * mixed,
         // Jumps and branches.
         (3, JMP..=LAST_BRANCH | CMP | CMPI) => 4 * mixed,
-        // Interrupts.
         (INTERRUPT_THEME, EI | RETI) => 10,
         (INTERRUPT_THEME, DI) => 3,
-        // Modes.
-        (5, SCALL | RETU | RETI | CHRS | DI | EI | TRAP) => 12,
-        (5, SWM) => 4,
+        (MODE_THEME, SCALL | RETU | RETI | CHRS | DI | EI | TRAP) => 12,
+        (MODE_THEME, SWM) => 8,
         // Multiplication.
         (6, 8..=13 | MULI) => 6 * mixed,
         (6, MULHI) => 6,
@@ -139,15 +161,26 @@ fn weight(theme: usize, operation: u32) -> u32 {
     }
 }
 
-/// Replaces `bytes` and `regions` by a random program.
-pub fn build(random: &mut Random, themes: &Themes, bytes: &mut Vec<u8>, regions: &mut Vec<Region>) {
-    let theme = random.below(THEMES as u32) as usize;
+/// Replaces `bytes` and `regions` by a random program, and says whether it has nops wherever they
+/// have to follow, but for those that its end cuts off.
+pub fn build(
+    random: &mut Random,
+    themes: &Themes,
+    bytes: &mut Vec<u8>,
+    regions: &mut Vec<Region>,
+) -> bool {
+    let mut theme = random.below(THEMES as u32) as usize;
+    let keeps_nops = random.percent(92);
+    if !keeps_nops && random.percent(60) {
+        theme = MODE_THEME;
+    }
     lay_out(random, bytes, regions);
     for index in 0..regions.len() {
         Filler {
             random,
             themes,
             theme,
+            keeps_nops,
             bytes,
             regions,
         }
@@ -164,7 +197,102 @@ pub fn build(random: &mut Random, themes: &Themes, bytes: &mut Vec<u8>, regions:
                 bytes.push(byte);
             }
         }
+        3..=10 if !keeps_nops => end_among_nops(random, bytes, regions),
         _ => {}
+    }
+    keeps_nops
+}
+
+/// Ends the program among or after the nops that have to follow a word of it; now and then moves
+/// the end to the greatest length.
+fn end_among_nops(random: &mut Random, bytes: &mut Vec<u8>, regions: &mut [Region]) {
+    let Some(place) = BeforeNops::pick(random, bytes, regions) else {
+        return;
+    };
+    let width = words::bytes(place.wide);
+    let first = place.at + width;
+    let length = random.range(first, place.end()).min(GREATEST);
+    bytes.resize(length as usize, 0);
+    // Mostly nops as far as words are there, and anything in a part of one.
+    let whole = (length - first) / width * width;
+    let (whole, part) = bytes[first as usize..].split_at_mut(whole as usize);
+    if random.percent(75) {
+        whole.fill(0);
+    }
+    for byte in part {
+        *byte = if random.percent(50) {
+            0
+        } else {
+            random.word() as u8
+        };
+    }
+    if length & 3 == 0 && random.one_in(4) {
+        let origin = GREATEST - length;
+        bytes.splice(0..0, vec![0; origin as usize]);
+        for region in regions {
+            region.start += origin;
+            region.end += origin;
+        }
+    }
+}
+
+/// A word after which nops have to follow.
+#[derive(Clone, Copy)]
+pub struct BeforeNops {
+    pub at: u32,
+    pub wide: bool,
+    pub operation: u32,
+}
+
+impl BeforeNops {
+    /// The first address after the nops.
+    pub fn end(self) -> u32 {
+        self.at + (1 + required_nops(self.operation)) * words::bytes(self.wide)
+    }
+
+    /// One of a program's, if it has one.
+    fn pick(random: &mut Random, bytes: &[u8], regions: &[Region]) -> Option<BeforeNops> {
+        let mut places = BeforeNops::all(bytes, regions);
+        let operation = random.pick(&BEFORE_NOPS);
+        if places.iter().any(|place| place.operation == operation) {
+            places.retain(|place| place.operation == operation);
+        }
+        (!places.is_empty()).then(|| random.pick(&places))
+    }
+
+    /// One of a program's, if it has one: mostly that among or after whose nops it ends.
+    pub fn last_or_other(
+        random: &mut Random,
+        bytes: &[u8],
+        regions: &[Region],
+    ) -> Option<BeforeNops> {
+        let last = BeforeNops::all(bytes, regions).last().copied();
+        match last {
+            Some(last) if last.end() as usize >= bytes.len() && random.percent(70) => Some(last),
+            _ => BeforeNops::pick(random, bytes, regions),
+        }
+    }
+
+    /// All of a program's.
+    fn all(bytes: &[u8], regions: &[Region]) -> Vec<BeforeNops> {
+        let mut all = Vec::new();
+        for region in regions {
+            let wide = region.wide;
+            for at in (region.start..region.end).step_by(words::bytes(wide) as usize) {
+                let Some(word) = words::word_at(bytes, at, wide) else {
+                    break;
+                };
+                let operation = words::operation(word, wide);
+                if required_nops(operation) > 0 {
+                    all.push(BeforeNops {
+                        at,
+                        wide,
+                        operation,
+                    });
+                }
+            }
+        }
+        all
     }
 }
 
@@ -175,8 +303,8 @@ fn lay_out(random: &mut Random, bytes: &mut Vec<u8>, regions: &mut Vec<Region>) 
     for index in 0..random.range(1, 5) {
         let wide = random.percent(if index == 0 { 70 } else { 55 });
         let role = match random.below(16) {
-            0..=3 => Role::Handler,
-            4..=6 => Role::System,
+            0..=4 => Role::Handler,
+            5..=7 => Role::System,
             _ => Role::Plain,
         };
         if wide && at & 2 != 0 {
@@ -190,7 +318,7 @@ fn lay_out(random: &mut Random, bytes: &mut Vec<u8>, regions: &mut Vec<Region>) 
         } else {
             random.range(3, 16)
         };
-        let end = at + count * words::bytes(wide);
+        let end = at + (count + role.nops()) * words::bytes(wide);
         regions.push(Region {
             start: at,
             end,
@@ -202,7 +330,7 @@ fn lay_out(random: &mut Random, bytes: &mut Vec<u8>, regions: &mut Vec<Region>) 
     // Mostly at address 0, now and then further on, or up to the greatest length.
     let origin = match random.below(1000) {
         0..=19 => 4 * random.range(1, 60),
-        20..=22 => (65_536 - at) & !3,
+        20..=22 => (GREATEST - at) & !3,
         _ => 0,
     };
     for region in regions.iter_mut() {
@@ -218,6 +346,8 @@ struct Filler<'a> {
     random: &'a mut Random,
     themes: &'a Themes,
     theme: usize,
+    /// Whether nops follow wherever they have to.
+    keeps_nops: bool,
     bytes: &'a mut Vec<u8>,
     regions: &'a [Region],
 }
@@ -232,9 +362,9 @@ impl Filler<'_> {
 
         // Where the region's planned end starts, counted from its end, and its word.
         let (tail, tail_word) = match region.role {
-            Role::Handler => (1, self.plain(RETI, wide)),
-            Role::System => (1, self.plain(RETU, wide)),
-            Role::Plain if next_width == Some(!wide) && self.random.percent(85) => {
+            Role::Handler => (1 + self.nops_at_end(RETI), self.plain(RETI, wide)),
+            Role::System => (1 + self.nops_at_end(RETU), self.plain(RETU, wide)),
+            Role::Plain if next_width == Some(!wide) && self.random.percent(95) => {
                 let bit = u32::from(!wide);
                 (3, self.plain(SWM, wide) & !1 | bit)
             }
@@ -260,16 +390,28 @@ impl Filler<'_> {
         // Whether the word before is a jump, and whether it holds its product.
         let mut slot = false;
         let mut held = false;
+        // The nops that have still to follow.
+        let mut nops: u32 = 0;
         while at < region.end {
             let word = if at == tail_at {
                 tail_word
             } else if (accesses_at..tail_at).contains(&at) {
                 let operation = if self.random.percent(75) { ST } else { LD };
                 self.register_access(operation, wide, &RETI_REGISTERS)
+            } else if nops > 0 {
+                self.required_nop(at, wide)
             } else {
-                self.word(at, wide, slot, held)
+                let planned = [accesses_at, tail_at, region.end];
+                let next = planned.into_iter().find(|&next| next > at);
+                let room = (next.unwrap_or(region.end) - at) / width - 1;
+                let mut word = self.word(at, wide, slot, held);
+                while self.keeps_nops && required_nops(operation(word, wide)) > room {
+                    word = self.word(at, wide, slot, held);
+                }
+                word
             };
             let operation = operation(word, wide);
+            nops = required_nops(operation).max(nops.saturating_sub(1));
             self.put(at, wide, word);
             slot = (JMP..=LAST_BRANCH).contains(&operation);
             held = holds_product(operation);
@@ -283,6 +425,34 @@ impl Filler<'_> {
             self.bytes[at..at + 4].copy_from_slice(&word.to_be_bytes());
         } else {
             self.bytes[at..at + 2].copy_from_slice(&(word as u16).to_be_bytes());
+        }
+    }
+
+    /// How many of the nops after an operation a region has at its end.
+    fn nops_at_end(&mut self, operation: u32) -> u32 {
+        let nops = required_nops(operation);
+        if self.keeps_nops {
+            nops
+        } else {
+            self.random.below(nops + 1)
+        }
+    }
+
+    /// A nop that has to follow, often with bits that it ignores; or, where the program does not
+    /// keep to that, another operation, often one with a single bit.
+    fn required_nop(&mut self, at: u32, wide: bool) -> u32 {
+        let shift = if wide { 26 } else { 10 };
+        let ignored = if self.random.percent(50) {
+            self.random.word() & ((1 << shift) - 1)
+        } else {
+            0
+        };
+        if self.keeps_nops || self.random.percent(60) {
+            ignored
+        } else if self.random.percent(50) {
+            ignored | 1 << shift << self.random.below(6)
+        } else {
+            self.word(at, wide, false, false)
         }
     }
 
@@ -573,11 +743,42 @@ pub fn code_address(random: &mut Random, regions: &[Region], wide: bool) -> u32 
     word_of(random, region, wide)
 }
 
-/// The address of a word of the given width in a region; often its first.
+/// The address of a word of the given width in a region, but for the nops at its end; often its
+/// first.
 pub fn word_of(random: &mut Random, region: Region, wide: bool) -> u32 {
     if random.percent(35) {
         return region.start;
     }
     let width = words::bytes(wide);
-    region.start + width * random.below((region.end - region.start) / width)
+    region.start + width * random.below((region.nops() - region.start) / width)
+}
+
+#[cfg(test)]
+mod tests {
+    use super::*;
+
+    /// Most programs have nops wherever they have to follow and are there; of the others most
+    /// have not.
+    #[test]
+    fn nops_follow() {
+        let themes = Themes::new();
+        let (mut bytes, mut regions) = (Vec::new(), Vec::new());
+        // By what build says and by what is there.
+        let mut programs = [[0; 2]; 2];
+        for case in 0..5000 {
+            let mut random = Random::of_case(3, case);
+            let keeps_nops = build(&mut random, &themes, &mut bytes, &mut regions);
+            let nops = BeforeNops::all(&bytes, &regions).iter().all(|place| {
+                let width = words::bytes(place.wide);
+                (place.at + width..place.end())
+                    .step_by(width as usize)
+                    .filter_map(|at| words::word_at(&bytes, at, place.wide))
+                    .all(|word| words::operation(word, place.wide) == NOP)
+            });
+            programs[usize::from(keeps_nops)][usize::from(nops)] += 1;
+        }
+        let [[wrong, right], [never, kept]] = programs;
+        assert_eq!(never, 0);
+        assert!(wrong > right && kept > 8 * (wrong + right));
+    }
 }

@@ -137,6 +137,8 @@ impl Session {
                 return Err((Difference::Both(what), false));
             }
             self.coverage.count(answer, expected);
+            self.coverage
+                .count_stop(&self.call, answer, &self.bench.buffer);
             if expected.damaged {
                 return Ok(());
             }

@@ -2,17 +2,19 @@
 
 use crate::image::*;
 use crate::program::{
-    self, Region, Role, AMOUNT, CODE_BASES, CONTROL_BASES, CONTROL_REACHES, DATA_BASES, FIELDS,
-    STATUSES, TIMER_CONFIGURATIONS, TIMER_COUNTS,
+    self, BeforeNops, Region, Role, AMOUNT, CODE_BASES, CONTROL_BASES, CONTROL_REACHES, DATA_BASES,
+    FIELDS, STATUSES, TIMER_CONFIGURATIONS, TIMER_COUNTS,
 };
 use crate::random::Random;
 use crate::words;
 
-/// Fills `image` with a random state for a program and a number of cells.
+/// Fills `image` with a random state for a program and a number of cells; `keeps_nops` is whether
+/// the program has nops wherever they have to follow.
 pub fn build(
     random: &mut Random,
     program: &[u8],
     regions: &[Region],
+    keeps_nops: bool,
     cells: usize,
     image: &mut Image,
 ) {
@@ -21,6 +23,7 @@ pub fn build(
         random,
         program,
         regions,
+        keeps_nops,
         cells: cells as u32,
         image,
     };
@@ -74,6 +77,7 @@ struct Builder<'a> {
     random: &'a mut Random,
     program: &'a [u8],
     regions: &'a [Region],
+    keeps_nops: bool,
     cells: u32,
     image: &'a mut Image,
 }
@@ -359,8 +363,12 @@ impl Builder<'_> {
 
     fn position(&mut self) {
         // One state in ten starts at a load or store with an address outside 32 bits, one in
-        // twenty at a store to a RETI_ register, and as many at a reti after such stores.
-        let start = self.random.below(20);
+        // twenty at a store to a RETI_ register, as many at a reti after such stores, and as
+        // many at a word after which nops have to follow; most do where nops are missing.
+        let mut start = self.random.below(20);
+        if !self.keeps_nops && self.random.percent(60) {
+            start = 4;
+        }
         let region = match start {
             2 | 3 => self.region(Role::Handler),
             _ => self.random.pick(self.regions),
@@ -376,6 +384,7 @@ impl Builder<'_> {
             0 | 1 => self.address_outside(region),
             2 => self.stack_top_store(region),
             3 => self.changed_return(region),
+            4 => self.required_nops(),
             _ => {}
         }
         if self.random.percent(12) {
@@ -492,6 +501,46 @@ impl Builder<'_> {
         self.image.stack[top].address = self.stored_address(wide);
         self.image.stack[top].psr = self.status(wide);
         self.image.show_stack();
+    }
+
+    /// Starts at a word after which nops have to follow, mostly with a bound among them or next
+    /// to them.
+    fn required_nops(&mut self) {
+        let found = BeforeNops::last_or_other(self.random, self.program, self.regions);
+        let Some(place) = found else {
+            return;
+        };
+        let BeforeNops {
+            at,
+            wide,
+            operation,
+        } = place;
+        let psr = self.status(wide);
+        let user = if operation == words::RETU { 25 } else { 80 };
+        self.image.set2[PSR] = if self.random.percent(user) {
+            psr & (IE | IL) | UM
+        } else {
+            psr & !UM
+        };
+        self.image.position[PC] = at;
+        let width = words::bytes(wide);
+        let nops = words::required_nops(operation);
+        let word = at + width * self.random.range(1, nops);
+        let point = match self.random.below(10) {
+            0 | 1 => word,
+            2 | 3 => word + width - 1,
+            4..=6 => word + self.random.below(width),
+            7 => at + width - 1,
+            _ => place.end(),
+        };
+        let (low, high) = match self.random.below(8) {
+            0..=4 => (point, point),
+            5 => (point, u32::MAX),
+            6 => (point, point + self.random.below(12)),
+            _ => self.no_bounds(),
+        };
+        self.image.control[IMEM_BOUND_LO] = low;
+        self.image.control[IMEM_BOUND_HI] = high;
     }
 
     /// Sets a register in both sets, but for PSR.

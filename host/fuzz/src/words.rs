@@ -55,6 +55,19 @@ pub fn is_transfer(operation: u32) -> bool {
     (JMP..=RETI).contains(&operation) || operation == SWM
 }
 
+/// The operations after which nops have to follow (02, wish 8).
+pub const BEFORE_NOPS: [u32; 4] = [SCALL, RETU, RETI, SWM];
+
+/// How many nops have to follow the operation.
+pub fn required_nops(operation: u32) -> u32 {
+    match operation {
+        SCALL | RETU => 1,
+        SWM => 2,
+        RETI => 3,
+        _ => 0,
+    }
+}
+
 /// Whether the operation holds its product for mulhi.
 pub fn holds_product(operation: u32) -> bool {
     matches!(operation, MULS | MULU | MULUS | MULI)

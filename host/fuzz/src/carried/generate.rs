@@ -43,7 +43,7 @@ pub struct Expected {
 /// A random image, of which one in some is damaged, and a buffer, which often is too short.
 pub fn carry(random: &mut Random, input: &mut Input) {
     let mut image = Image::new();
-    state::build(random, &PROGRAM, &REGIONS, CELLS, &mut image);
+    state::build(random, &PROGRAM, &REGIONS, true, CELLS, &mut image);
     let mut refusal = Some(0);
     let mut damage = None;
     match random.below(20) {
