@@ -13,7 +13,7 @@ use Rattle.image.specs.Image.{readImage, writeImage}
 use Rattle.image.specs.RoundTrip.{WrittenBack}
 use Rattle.image.proofs.Image.{accepted-formed, writeImage-longest, writeImage-readImage}
 use Rattle.effect.specs.Apply.{Transition}
-use Rattle.emulator.specs.Run.{Call, run, RunResult, resultOf, resultFrom, Asked, No, Start, asked, RefusedWith, RanFor, outcome, calledBy, called, runCall, stateWith}
+use Rattle.emulator.specs.Run.{Call, runBy, run, RunResult, resultOf, resultFrom, Asked, No, Start, asked, RefusedWith, RanFor, outcome, calledBy, called, runCall, stateWith}
 use Rattle.emulator.specs.Questions.{FirstNo}
 use Rattle.emulator.specs.Closure.{Unchanged, Refusals, Written, Ended, limitReached, stopped, RanAs, Completed, NoStep, LimitZero}
 use Rattle.emulator.proofs.Loop.{Runs, limit-reached, went-on, runs-by}
@@ -94,7 +94,7 @@ completed p image memory c m e = rw e (completed-by p image memory c m e)
 
 no-step-by : (p image : List ℕ) (memory : Memory) (c : Call) (m : Machine) → ((i : ℕ) → getD image i 0 < 256) → readImage image ≡ Accepted m → c .limit ≡ 0
     → NoStep image memory (calledBy p image memory c (Start m))
-unfolding calledBy run resultFrom resultOf WrittenBack
+unfolding calledBy runBy run resultFrom resultOf WrittenBack
 no-step-by p image memory c m b e z =
     rw z (record { noSteps = refl; sameImage = writeImage-readImage image m b e; sameMemory = refl })
 

@@ -7,3 +7,4 @@ pub mod Closed
 pub mod Answers
 pub mod Asked
 pub mod Running
+pub mod RequiredNops

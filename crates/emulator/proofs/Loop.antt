@@ -11,7 +11,7 @@ use Rattle.machine.specs.Machine.{State}
 use Rattle.effect.specs.Apply.{Transition, stopNumber}
 use Rattle.step.specs.Step.{isStop, unclocked, step}
 use Rattle.step.proofs.Clocks.{stop-alone, stop-kind}
-use Rattle.emulator.specs.Run.{run, RunResult, resultOf, resultFrom}
+use Rattle.emulator.specs.Run.{runBy, run, RunResult, resultOf, resultFrom}
 use Rattle.emulator.specs.Closure.{StopChangesNothing}
 
 pub stop-changes-nothing : StopChangesNothing
@@ -29,26 +29,26 @@ module _ (p requests : List ℕ) where
   -- ---- with n steps left
 
   pub result-zero : (done : ℕ) (s : State) → resultFrom p requests zero done s ≡ record { steps = done; ending = 0; after = s }
-  unfolding resultFrom resultOf run
+  unfolding resultFrom resultOf runBy run
   result-zero done s = refl
 
   pub result-stop : (n done : ℕ) (s : State) → isStop (next done s .kind) ≡ true
       → resultFrom p requests (suc n) done s ≡ record { steps = done; ending = stopNumber (next done s .kind); after = next done s .after }
-  unfolding resultFrom resultOf run if_then_else_
+  unfolding resultFrom resultOf runBy run if_then_else_
   result-stop n done s e = rw e
 
   pub result-more : (n done : ℕ) (s : State) → isStop (next done s .kind) ≡ false
       → resultFrom p requests (suc n) done s ≡ resultFrom p requests n (suc done) (next done s .after)
-  unfolding resultFrom resultOf run if_then_else_
+  unfolding resultFrom resultOf runBy run if_then_else_
   result-more n done s e = rw e
 
   pub run-stop : (n done : ℕ) (s : State) → isStop (next done s .kind) ≡ true → run p requests (suc n) done s ≡ next done s ∷ []
-  unfolding run if_then_else_
+  unfolding runBy run if_then_else_
   run-stop n done s e = rw e
 
   pub run-more : (n done : ℕ) (s : State) → isStop (next done s .kind) ≡ false
       → run p requests (suc n) done s ≡ next done s ∷ run p requests n (suc done) (next done s .after)
-  unfolding run if_then_else_
+  unfolding runBy run if_then_else_
   run-more n done s e = rw e
 
   -- ---- by the steps done, for a loop that counts them up to the limit
@@ -80,7 +80,7 @@ module _ (p requests : List ℕ) where
         → Runs (suc n) done s (next done s ∷ ts) e
 
   pub runs-by : (n done : ℕ) (s : State) → Runs n done s (run p requests n done s) (resultFrom p requests n done s)
-  unfolding run
+  unfolding runBy run
   runs-by zero done s = rw (result-zero done s) limit-reached
   runs-by (suc n) done s =
       either (isStop (next done s .kind))

@@ -23,12 +23,16 @@ pub record Call : Type 0 where
 -- ---- the steps of a call
 
 -- at most `limit` steps, or the steps before a stop and the stop; `done` steps of the call came before
-unfoldable pub run : (program requests : List ℕ) (limit done : ℕ) → State → List Transition
-run program requests zero done s = []
-run program requests (suc limit) done s =
-    let t = step program s (getD requests done 0) in
-    let ts = run program requests limit (suc done) (t .after) in
+unfoldable pub runBy : (next : State → (requests : ℕ) → Transition) (requests : List ℕ) (limit done : ℕ) → State → List Transition
+runBy next requests zero done s = []
+runBy next requests (suc limit) done s =
+    let t = next s (getD requests done 0) in
+    let ts = runBy next requests limit (suc done) (t .after) in
     t ∷ (if isStop (t .kind) then [] else ts)
+
+-- of a program
+unfoldable pub run : (program requests : List ℕ) (limit done : ℕ) → State → List Transition
+run program = runBy (step program)
 
 -- steps done; "ending (0 limit reached, or stop 11 to 15)", or 20 (02, wish 8); the state that is left
 pub record RunResult : Type 0 where
@@ -162,5 +166,5 @@ transitions program image memory (c ∷ cs) =
 
 -- to unfold all of these
 unfoldable pub running : Unit {0}
-unfolding run resultOf resultFrom answers firstNo askedBy ask asked replyOf calledBy called runCall transitions
+unfolding runBy run resultOf resultFrom answers firstNo askedBy ask asked replyOf calledBy called runCall transitions
 running = tt

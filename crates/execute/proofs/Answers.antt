@@ -12,7 +12,7 @@ use Rattle.word.proofs.Tests.{if-holds}
 use Rattle.isa.specs.Operation.{Width}
 use Rattle.isa.specs.Theorems.{between}
 use Rattle.machine.specs.Machine.{State}
-use Rattle.view.specs.View.{Attempt, Found, Raises, Stops, mapFound, byteThen, bytesAt, readAt, fetchAt, foundAt, placeAt, View, view, nopThen, nopsFrom}
+use Rattle.view.specs.View.{Attempt, Found, Raises, Stops, mapFound, foundThen, byteThen, bytesAt, readAt, fetchAt, foundAt, placeAt, View, view, nopsFrom}
 use Rattle.effect.specs.Kind.{STOPS}
 
 -- a code of an exception: of a test of an instruction, or "trap n has code 224 + n"
@@ -77,13 +77,14 @@ view-numbered program s =
 
 -- the nops that must follow
 
-nop-numbered : (width : Width) (a : Attempt ℕ) (rest : Attempt (Unit {0})) → Numbered a → Numbered rest → Numbered (nopThen width a rest)
-unfolding nopThen isAmong
-nop-numbered width (Found w) rest n h = if-holds Numbered _ (λ _. h) (λ _. refl)
-nop-numbered width (Raises c) rest n h = n
-nop-numbered width (Stops k) rest n h = n
+then-numbered : {A B : Type 0} (a : Attempt A) (f : A → Attempt B) → Numbered a → ((x : A) → Numbered (f x)) → Numbered (foundThen a f)
+unfolding foundThen
+then-numbered (Found x) f n h = h x
+then-numbered (Raises c) f n h = n
+then-numbered (Stops k) f n h = n
 
 pub nops-numbered : (width : Width) (following : ℕ → Attempt ℕ) → ((k : ℕ) → Numbered (following k)) → (k count : ℕ) → Numbered (nopsFrom width following k count)
-unfolding nopsFrom
+unfolding nopsFrom isAmong
 nops-numbered width following h k zero = tt
-nops-numbered width following h k (suc count) = nop-numbered width (following k) _ (h k) (nops-numbered width following h (suc k) count)
+nops-numbered width following h k (suc count) =
+    then-numbered (following k) _ (h k) (λ w. if-holds Numbered _ (λ _. nops-numbered width following h (suc k) count) (λ _. refl))

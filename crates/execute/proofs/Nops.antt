@@ -1,4 +1,4 @@
--- What the look at the nops that must follow an instruction makes of it: nothing, or what the first word that is none gives. Assumes nothing.
+-- What the nops that must follow an instruction make of it: nothing, or what comes of the first word that is none. Assumes nothing.
 use mathlib.Core.Path.{_≡_, refl, sym, _∙_}
 use mathlib.Core.Bool.{_&&_, true≢false}
 use mathlib.Core.Option.{Option, none, some}
@@ -15,31 +15,29 @@ use Rattle.isa.proofs.Table.{values, agree}
 use Rattle.isa.proofs.Decoded.{InRange, in-range}
 use Rattle.machine.specs.Machine.{userMode, widthOf}
 use Rattle.machine.specs.declared.Position.{Position}
-use Rattle.view.specs.View.{Attempt, Found, Raises, Stops, View, withFollowing, conditionFalse, nopThen, nopsFrom, nopsAfter}
-use Rattle.view.specs.Theorems.{NopAt, NoNopAt, protected, absent, other, Looked, nops, first}
+use Rattle.view.specs.View.{Attempt, Found, Raises, Stops, foundThen, View, withFollowing, conditionFalse, nopsFrom, nopsAfter}
+use Rattle.view.specs.Theorems.{NopAt, NotNopAt, protected, absent, other, FirstOther, Checked, allNops, notAll}
 use Rattle.effect.specs.Effect.{Effect, Stopped, Raised}
 use Rattle.operation.specs.Execute.{onFound, afterThis, targetBy, jumped, branch, execute}
 use Rattle.execute.specs.Decide.{perform, ifAvailable, instruction, fetchedThen, Passes}
 
 -- words 0 are nops
 all-nops : (width : Width) (k n : ℕ) → nopsFrom width (λ j. Found 0) k n ≡ Found tt
-unfolding nopsFrom nopThen instructions if_then_else_
+unfolding nopsFrom foundThen instructions if_then_else_
 all-nops width k zero = refl
 all-nops w16 k (suc n) = all-nops w16 (suc k) n
 all-nops w32 k (suc n) = all-nops w32 (suc k) n
 
--- the exception or the stop that a look gives
+-- the exception or the stop that comes of it
 abbrev pub Refuses : Attempt (Unit {0}) → Effect → Type 0
 Refuses (Found x) e = ⊥
 Refuses (Raises c) e = e ≡ Raised c
 Refuses (Stops n) e = e ≡ Stopped n
 
--- the effect of an instruction in place of another: the same, and then the nops follow, if it comes to the look at them; or what the first word that is
--- no nop gives
+-- the effect of an instruction in place of another: the same, and then the nops follow, if it comes to them; or what comes of the first word that is none
 pub data Effects (v : View) (i : Instruction) (count : ℕ) (now before : Effect) : Type 0 where
   alike : (Passes v i → (k : ℕ) → 1 ≤ k → k < 1 + count → NopAt v k) → now ≡ before → Effects v i count now before
-  denied : Passes v i → (k : ℕ) → 1 ≤ k → k < 1 + count → ((j : ℕ) → 1 ≤ j → j < k → NopAt v j) → (a : Attempt (Unit {0})) → NoNopAt v k a → Refuses a now
-      → Effects v i count now before
+  denied : Passes v i → (a : Attempt (Unit {0})) → FirstOther v 1 count a → Refuses a now → Effects v i count now before
 
 module _ (v : View) where
   -- the same view with nops after the instruction
@@ -51,17 +49,21 @@ module _ (v : View) where
   unfolding instructions values withFollowing perform execute jumped branch targetBy afterThis
   performed-same i h = agree (λ n. perform v i (operationOf n)) (λ n. perform u i (operationOf n)) 0 64 refl (i .opcode) (omega arith) h
 
-  module _ (looked : (count : ℕ) → Looked v 1 count (nopsAfter v count)) where
+  module _ (checked : (count : ℕ) → Checked v 1 count (nopsAfter v count)) where
     module _ (i : Instruction) (h : i .opcode < 64) where
       abbrev count : ℕ
       count = properties (operationOf (i .opcode)) .nops
 
-      looked-effects : Passes v i → (e : Effect) (a : Attempt (Unit {0})) → Looked v 1 count a → Effects v i count (onFound (λ _. e) a) e
+      refuses : {k : ℕ} (e : Effect) (a : Attempt (Unit {0})) → NotNopAt v k a → Refuses a (onFound (λ _. e) a)
       unfolding onFound
-      looked-effects p e a (nops f q) = alike (λ _. f) (rw q)
-      looked-effects p e a (first k l m f (protected q)) = denied p k l m f _ (protected q) refl
-      looked-effects p e a (first k l m f (absent q)) = denied p k l m f _ (absent q) refl
-      looked-effects p e a (first k l m f (other w q d)) = denied p k l m f _ (other w q d) refl
+      refuses e a (protected p) = refl
+      refuses e a (absent p) = refl
+      refuses e a (other w p d) = refl
+
+      checked-effects : Passes v i → (e : Effect) (a : Attempt (Unit {0})) → Checked v 1 count a → Effects v i count (onFound (λ _. e) a) e
+      unfolding onFound
+      checked-effects p e a (allNops f q) = alike (λ _. f) (rw q)
+      checked-effects p e a (notAll x) = denied p a x (refuses e a (x .other))
 
       available-effects : (o : Option ℕ) → unavailable (properties (operationOf (i .opcode)) .availability) (widthOf (v .status)) (userMode (v .status)) ≡ o
           → Effects v i count (ifAvailable v i (operationOf (i .opcode)) o) (ifAvailable u i (operationOf (i .opcode)) o)
@@ -75,7 +77,7 @@ module _ (v : View) where
           (λ c. alike (λ p. absurd (true≢false (sym c ∙ p .holds))) (rw (t, c)))
           (λ c.
           rw (t, c, all-nops (widthOf (v .status)) 1 count, ← (performed-same i h))
-          (looked-effects (record { available = o; inNoSlot = t; holds = c }) (perform v i (operationOf (i .opcode))) _ (looked count))))
+          (checked-effects (record { available = o; inNoSlot = t; holds = c }) (perform v i (operationOf (i .opcode))) _ (checked count))))
 
     -- an instruction word
     pub word-effects : (w : ℕ) → let i = decode (widthOf (v .status)) w in

@@ -63,12 +63,12 @@ module _ (v : View) (i : Instruction) where
       skipped c = free ∙ rw (t, c)
 
       -- by the nops that must follow
-      pub looked : conditionFalse v i ≡ false → (a : Attempt (Unit {0})) → a ≡ nopsAfter v (properties (operationOf (i .opcode)) .nops)
+      pub nops-decide : conditionFalse v i ≡ false → (a : Attempt (Unit {0})) → a ≡ nopsAfter v (properties (operationOf (i .opcode)) .nops)
           → instruction v i ≡ onFound (λ _. perform v i (operationOf (i .opcode))) a
       unfolding ifAvailable if_then_else_
-      looked c a e = free ∙ rw (t, c, ← e)
+      nops-decide c a e = free ∙ rw (t, c, ← e)
 
       -- its own effect, where there are none
       pub performed : conditionFalse v i ≡ false → properties (operationOf (i .opcode)) .nops ≡ 0 → instruction v i ≡ perform v i (operationOf (i .opcode))
       unfolding nopsFrom onFound
-      performed c n = looked c (Found tt) (rw n)
+      performed c n = nops-decide c (Found tt) (rw n)

@@ -21,7 +21,7 @@ use Rattle.view.specs.View.{Attempt, Found, View, view, viewOf, conditionFalse,
 use Rattle.effect.specs.Effect.{Effect, Stopped, Raised, Next}
 use Rattle.operation.specs.Execute.{onFound, execute}
 use Rattle.execute.specs.Decide.{perform, fetchedThen}
-use Rattle.execute.proofs.Order.{codeFor, transferInSlot, barred, in-slot, skipped, looked, performed}
+use Rattle.execute.proofs.Order.{codeFor, transferInSlot, barred, in-slot, skipped, nops-decide, performed}
 use Rattle.effect.specs.Apply.{Report, reportOn}
 use Rattle.isa.proofs.Table.{values, agree}
 use Rattle.isa.proofs.Groups.{usable-low, usable-jump, no-transfer, transfers, no-nops}
@@ -100,13 +100,13 @@ module _ (p w : List ℕ) (memory : Memory) {word op : ℕ} {i : Instruction} (d
       word-skipped c = by Next (rw (← (d .same)) (skipped v i (same-code ∙ usable) (same-transfer ∙ t) c))
 
       -- by the nops that must follow; its own effect is on its two sources
-      pub word-looked : conditionFalse v i ≡ false → (x y : ℕ) → x ≡ v .source (i .sreg1) → y ≡ v .source (i .sreg2)
+      pub word-checked : conditionFalse v i ≡ false → (x y : ℕ) → x ≡ v .source (i .sreg1) → y ≡ v .source (i .sreg2)
           → (r : Attempt (Unit {0})) → r ≡ nopsAfter v (properties (operationOf op) .nops)
           → done ≡ reportOn (onFound (λ _. execute (operationOf (i .opcode)) v i x y) r) w memory
       unfolding view onFound fetchedThen perform
-      word-looked c x y a b r e =
+      word-checked c x y a b r e =
           by (onFound (λ _. execute (operationOf (i .opcode)) v i x y) r)
-          (rw (← (d .same), a, b) (looked v i (same-code ∙ usable) (same-transfer ∙ t) c r (rw (d .number) e)))
+          (rw (← (d .same), a, b) (nops-decide v i (same-code ∙ usable) (same-transfer ∙ t) c r (rw (d .number) e)))
 
       -- its own effect, where there are none
       pub word-performed : properties (operationOf op) .nops ≡ 0 → conditionFalse v i ≡ false → (x y : ℕ) → x ≡ v .source (i .sreg1) → y ≡ v .source (i .sreg2)

@@ -132,7 +132,7 @@ fn branch_word(w: &mut [u32], word: u32, op: u32) -> u32
     branches(w, i)
 }
 
-// Words of operations 48 to 57: scall to rcon. Four of them have nops after them.
+// Words of operations 48 to 57: scall to rcon. After four of them nops must follow.
 fn system_word(program: &[u8], w: &mut [u32], word: u32, op: u32) -> u32
     requires { ⌜ MachineWords (now w) × (machineOf (now w) .position .pc < MOST-MEMORY) × StackShown (machineOf (now w)) × (op ≡ opcodeOf (widthOf (psr (machineOf (now w)))) word) × (48 ≤ op) × (op ≤ 57) ⌝ }
     ensures { λ r. ⌜ PerformsIn (now (program .entry)) (λ v. fetchedThen v (Found word)) r (now (w .entry)) (now (w .exit)) ⌝ }

@@ -73,7 +73,7 @@ pub fn is_transfer(op: u32) -> bool
     (36 <= op) & (op <= 50) | (op == 54)
 }
 
-// How many nops must follow an operation.
+// How many nops must follow an operation. With reti's asked first, a step of interrupts takes fewest instructions.
 pub fn nops_after(op: u32) -> u32
     ensures { λ r. ⌜ r ≡ properties (operationOf op) .nops ⌝ }
 {

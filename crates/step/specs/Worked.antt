@@ -202,16 +202,16 @@ WorkedReturn =
 
 -- ---- the nops that must follow (02, wish 8)
 
--- one step from 0, with this PSR, in a slot or not, program bytes from low to high protected, EXCEPTION_PC 99, PR31 77 and all else as at reset: what
--- it was; PC, PR31 and EXCEPTION_PC after it
-unfoldable pub stepped : (psr low high slot : ℕ) (program : List ℕ) → Seen
-stepped q low high slot program =
+-- one step from an address, with this PSR, in a slot or not, program bytes from low to high protected, EXCEPTION_PC 99, PR31 77 and all else as at
+-- reset: what it was; PC, PR31 and EXCEPTION_PC after it
+unfoldable pub stepped : (psr low high slot pc : ℕ) (program : List ℕ) → Seen
+stepped q low high slot pc program =
     let m : Machine = record {
       set1 = reset .set1;
       set2 = set (set (reset .set2) PSR q) LINK 77;
       conditions = reset .conditions;
       control = set (set (set (reset .control) EXCEPTION-PC 99) IMEM-BOUND-LO low) IMEM-BOUND-HI high;
-      position = record { pc = 0; slot = slot; target = 0; held = 0; high = 0; low = 0 };
+      position = record { pc = pc; slot = slot; target = 0; held = 0; high = 0; low = 0 };
       stack = [];
       dividers = ZEROS;
     } in
@@ -220,12 +220,12 @@ stepped q low high slot program =
     let after = t .after .machine in
     record { kind = t .kind; shown = after .position .pc ∷ getD (after .set2) LINK 0 ∷ controlAt after EXCEPTION-PC ∷ [] }
 
--- in user mode with 32-bit words and nothing protected; in super user mode
+-- from 0 in user mode with 32-bit words and nothing protected; in super user mode
 abbrev user : List ℕ → Seen
-user words = stepped 0x09 1 0 0 (bytesOf words)
+user words = stepped 0x09 1 0 0 0 (bytesOf words)
 
 abbrev super : List ℕ → Seen
-super words = stepped 0x0E 1 0 0 (bytesOf words)
+super words = stepped 0x0E 1 0 0 0 (bytesOf words)
 
 abbrev seen : Kind → (pc link exceptionPc : ℕ) → Seen
 seen kind pc link e = record { kind = kind; shown = pc ∷ link ∷ e ∷ [] }
@@ -234,9 +234,9 @@ seen kind pc link e = record { kind = kind; shown = pc ∷ link ∷ e ∷ [] }
 abbrev stop : ℕ → Seen
 stop n = seen (Stop n) 0 77 99
 
--- 4807883Fh is addi R2, R1, −1
-abbrev work : ℕ
-work = 0x4807_883F
+-- addi R2, R1, −1
+abbrev addition : ℕ
+addition = 0x4807_883F
 
 -- what the definitions give, and what they must
 unfoldable pub nopCases : List (Seen × Seen)
@@ -244,27 +244,28 @@ nopCases =
     -- swm: no word; two nops; the second another operation; the first, and no second; the second not wholly there
     (user (0xD800_0000 ∷ []), stop 11) ∷
     (user (0xD800_0000 ∷ 0 ∷ 0 ∷ []), seen Ordinary 12 77 99) ∷
-    (user (0xD800_0000 ∷ 0 ∷ work ∷ []), stop 20) ∷
-    (user (0xD800_0000 ∷ work ∷ []), stop 20) ∷
-    (stepped 0x09 1 0 0 (bytesOf (0xD800_0000 ∷ 0 ∷ []) ++ 0 ∷ 0 ∷ []), stop 11) ∷
-    -- the last byte of its second protected, and another operation there; the same absent; in super user mode; the first another operation
-    (stepped 0x09 11 11 0 (bytesOf (0xD800_0000 ∷ 0 ∷ work ∷ [])), seen (Exception 0x00) 0 77 0) ∷
-    (stepped 0x09 11 11 0 (bytesOf (0xD800_0000 ∷ 0 ∷ [])), seen (Exception 0x00) 0 77 0) ∷
-    (stepped 0x0E 11 11 0 (bytesOf (0xD800_0000 ∷ 0 ∷ 0 ∷ [])), seen Ordinary 12 77 99) ∷
-    (stepped 0x09 11 11 0 (bytesOf (0xD800_0000 ∷ work ∷ 0 ∷ [])), stop 20) ∷
+    (user (0xD800_0000 ∷ 0 ∷ addition ∷ []), stop 20) ∷
+    (user (0xD800_0000 ∷ addition ∷ []), stop 20) ∷
+    (stepped 0x09 1 0 0 0 (bytesOf (0xD800_0000 ∷ 0 ∷ []) ++ 0 ∷ 0 ∷ []), stop 11) ∷
+    -- the last byte of its second protected, and another operation there; the same at 4, and absent; in super user mode; the first another operation
+    (stepped 0x09 11 11 0 0 (bytesOf (0xD800_0000 ∷ 0 ∷ addition ∷ [])), seen (Exception 0x00) 0 77 0) ∷
+    (stepped 0x09 15 15 0 4 (bytesOf (addition ∷ 0xD800_0000 ∷ 0 ∷ addition ∷ [])), seen (Exception 0x00) 0 77 4) ∷
+    (stepped 0x09 15 15 0 4 (bytesOf (addition ∷ 0xD800_0000 ∷ 0 ∷ [])), seen (Exception 0x00) 0 77 4) ∷
+    (stepped 0x0E 11 11 0 0 (bytesOf (0xD800_0000 ∷ 0 ∷ 0 ∷ [])), seen Ordinary 12 77 99) ∷
+    (stepped 0x09 11 11 0 0 (bytesOf (0xD800_0000 ∷ addition ∷ 0 ∷ [])), stop 20) ∷
     -- reti with an empty stack: three nops; the third another operation
     (user (0xC800_0000 ∷ 0 ∷ 0 ∷ 0 ∷ []), stop 15) ∷
-    (user (0xC800_0000 ∷ 0 ∷ 0 ∷ work ∷ []), stop 20) ∷
+    (user (0xC800_0000 ∷ 0 ∷ 0 ∷ addition ∷ []), stop 20) ∷
     -- retu: in user mode with no nop; in super user mode with one, and with another operation
     (user (0xC400_0000 ∷ []), seen (Exception 0x02) 0 77 0) ∷
     (super (0xC400_0000 ∷ 0 ∷ []), seen Ordinary 77 77 99) ∷
-    (super (0xC400_0000 ∷ work ∷ []), stop 20) ∷
+    (super (0xC400_0000 ∷ addition ∷ []), stop 20) ∷
     -- scall: a nop with all other bits 1; another operation; the same, eq C0, and C0 is 0; in a slot with no nop; 16-bit words
     (user (0xC000_0000 ∷ 0x03FF_FFFF ∷ []), seen SystemCall 0 8 99) ∷
-    (user (0xC000_0000 ∷ work ∷ []), stop 20) ∷
-    (user (0xC218_0000 ∷ work ∷ []), seen Ordinary 4 77 99) ∷
-    (stepped 0x09 1 0 1 (bytesOf (0xC000_0000 ∷ [])), stop 13) ∷
-    (stepped 0x01 1 0 0 (0xC0 ∷ 0x00 ∷ 0x00 ∷ 0x01 ∷ []), seen SystemCall 0 4 99) ∷
+    (user (0xC000_0000 ∷ addition ∷ []), stop 20) ∷
+    (user (0xC218_0000 ∷ addition ∷ []), seen Ordinary 4 77 99) ∷
+    (stepped 0x09 1 0 1 0 (bytesOf (0xC000_0000 ∷ [])), stop 13) ∷
+    (stepped 0x01 1 0 0 0 (0xC0 ∷ 0x00 ∷ 0x00 ∷ 0x01 ∷ []), seen SystemCall 0 4 99) ∷
     []
 
 -- the definitions give what they must, at each case

@@ -1,4 +1,4 @@
--- The nops that must follow an instruction: what the look at them gives. Assumes nothing.
+-- The nops that must follow an instruction: one after another, and what comes of the first word that is none. Assumes nothing.
 use mathlib.Core.Path.{_≡_, refl}
 use mathlib.Core.Bool.{Bool}
 use mathlib.Core.List.{List}
@@ -14,32 +14,26 @@ use Rattle.word.proofs.Tests.{either, if-holds}
 use Rattle.isa.specs.Operation.{Width}
 use Rattle.isa.specs.Decode.{opcodeOf}
 use Rattle.machine.specs.Machine.{widthOf}
-use Rattle.view.specs.View.{Attempt, Found, Raises, Stops, byteThen, bytesAt, readAt, View, view, nopThen, nopsFrom}
-use Rattle.view.specs.Theorems.{NopAt, NoNopAt, protected, absent, other, Looked, nops, first, LookedAt}
+use Rattle.view.specs.View.{Attempt, Found, Raises, Stops, foundThen, byteThen, bytesAt, readAt, View, view, nopsFrom}
+use Rattle.view.specs.Theorems.{NopAt, NotNopAt, protected, absent, other, FirstOther, Checked, allNops, notAll, CheckedInOrder}
 
 -- ---- one of them, and then the rest
 
--- the look at one decides, unless it is a nop
-unfoldable pub thenRest : Attempt (Unit {0}) → (rest : Attempt (Unit {0})) → Attempt (Unit {0})
-thenRest (Found x) rest = rest
-thenRest (Raises c) rest = Raises c
-thenRest (Stops n) rest = Stops n
+module _ (width : Width) (following : ℕ → Attempt ℕ) where
+  one-then : (k n : ℕ) (a : Attempt ℕ) → following k ≡ a
+      → nopsFrom width following k (suc n) ≡ foundThen (nopsFrom width following k 1) (λ _. nopsFrom width following (suc k) n)
+  unfolding nopsFrom foundThen if_then_else_
+  one-then k n (Found w) e = either (eqb (opcodeOf width w) 0) (λ t. rw (e, t)) (λ t. rw (e, t))
+  one-then k n (Raises c) e = rw e
+  one-then k n (Stops m) e = rw e
 
-module _ (width : Width) where
-  nop-then : (a : Attempt ℕ) (rest : Attempt (Unit {0})) → nopThen width a rest ≡ thenRest (nopThen width a (Found tt)) rest
-  unfolding nopThen thenRest if_then_else_
-  nop-then (Found w) rest = either (eqb (opcodeOf width w) 0) (λ t. rw t) (λ t. rw t)
-  nop-then (Raises c) rest = refl
-  nop-then (Stops n) rest = refl
-
-  -- r is what the look at the k-th gives
-  pub nops-on : (following : ℕ → Attempt ℕ) (k count : ℕ) (r : Attempt (Unit {0})) → k ≤ count → r ≡ nopThen width (following k) (Found tt)
-      → nopsFrom width following k (count + 1 - k) ≡ thenRest r (nopsFrom width following (k + 1) (count + 1 - (k + 1)))
-  unfolding nopsFrom
-  nops-on following k count r h e =
+  -- r is what comes of the k-th
+  pub nops-on : (k count : ℕ) (r : Attempt (Unit {0})) → k ≤ count → r ≡ nopsFrom width following k 1
+      → nopsFrom width following k (count + 1 - k) ≡ foundThen r (λ _. nopsFrom width following (k + 1) (count + 1 - (k + 1)))
+  nops-on k count r h e =
       let here : count + 1 - k ≡ suc (count - k) = omega arith in
       let next : count + 1 - (k + 1) ≡ count - k = omega arith in
-      rw (here, next, add-one k, e) (nop-then (following k) (nopsFrom width following (suc k) (count - k)))
+      rw (here, next, add-one k, e) (one-then k (count - k) (following k) refl)
 
 -- ---- all of them
 
@@ -70,30 +64,33 @@ module _ (v : View) where
     from-here end f j l h =
         either (eqb j k) (λ t. rw (eqb-true j k t) here) (λ t. let d = eqb-false j k t in f j (omega arith) h)
 
-    after-nop : (a : Attempt (Unit {0})) → Looked v (suc k) n a → Looked v k (suc n) a
-    after-nop a (nops f e) = nops (from-here (k + suc n) (λ j l h. f j l (omega arith))) e
-    after-nop a (first j l h f x) = first j (omega arith) (omega arith) (from-here j f) x
+    after-nop : (a : Attempt (Unit {0})) → Checked v (suc k) n a → Checked v k (suc n) a
+    after-nop a (allNops f e) = allNops (from-here (k + suc n) (λ j l h. f j l (omega arith))) e
+    after-nop a (notAll x) =
+        let l = x .least in
+        let h = x .most in
+        notAll (record { k = x .k; least = omega arith; most = omega arith; earlier = from-here (x .k) (x .earlier); other = x .other })
 
-  -- the one looked at is none
-  decided : (k n : ℕ) (a : Attempt (Unit {0})) → NoNopAt v k a → Looked v k (suc n) a
-  decided k n a x = first k (omega arith) (omega arith) (λ j l h. absurd (omega arith)) x
+  -- the k-th is none
+  decided : (k n : ℕ) (a : Attempt (Unit {0})) → NotNopAt v k a → Checked v k (suc n) a
+  decided k n a x = notAll (record { k = k; least = omega arith; most = omega arith; earlier = λ j l h. absurd (omega arith); other = x })
 
   -- the k-th, and then the rest
-  look : (k n : ℕ) (rest : Attempt (Unit {0})) → Looked v (suc k) n rest → (a : Attempt ℕ) → v .following k ≡ a → Read a
-      → Looked v k (suc n) (nopThen (widthOf (v .status)) a rest)
-  unfolding nopThen
-  look k n rest r (Found w) e h =
-      if-holds (Looked v k (suc n)) (eqb (opcodeOf (widthOf (v .status)) w) 0)
+  check : (k n : ℕ) (rest : Attempt (Unit {0})) → Checked v (suc k) n rest → (a : Attempt ℕ) → v .following k ≡ a → Read a
+      → Checked v k (suc n) (foundThen a (λ w. if eqb (opcodeOf (widthOf (v .status)) w) 0 then rest else Stops 20))
+  unfolding foundThen
+  check k n rest r (Found w) e h =
+      if-holds (Checked v k (suc n)) (eqb (opcodeOf (widthOf (v .status)) w) 0)
       (λ t. after-nop k n (record { word = w; there = e; nop = eqb-true _ 0 t }) rest r)
       (λ t. decided k n _ (other w e (eqb-false _ 0 t)))
-  look k n rest r (Raises c) e closed = decided k n _ (protected e)
-  look k n rest r (Stops c) e missing = decided k n _ (absent e)
+  check k n rest r (Raises c) e closed = decided k n _ (protected e)
+  check k n rest r (Stops c) e missing = decided k n _ (absent e)
 
-  looks : ((k : ℕ) → Read (v .following k)) → (k n : ℕ) → Looked v k n (nopsFrom (widthOf (v .status)) (v .following) k n)
+  checks : ((k : ℕ) → Read (v .following k)) → (k n : ℕ) → Checked v k n (nopsFrom (widthOf (v .status)) (v .following) k n)
   unfolding nopsFrom
-  looks h k zero = nops (λ j l m. absurd (omega arith)) refl
-  looks h k (suc n) = look k n _ (looks h (suc k) n) (v .following k) refl (h k)
+  checks h k zero = allNops (λ j l m. absurd (omega arith)) refl
+  checks h k (suc n) = check k n _ (checks h (suc k) n) (v .following k) refl (h k)
 
-pub looked-at : LookedAt
+pub checked-in-order : CheckedInOrder
 unfolding view
-looked-at program s count = looks (view program s) (λ k. word-read program _ _ _ _ _) 1 count
+checked-in-order program s count = checks (view program s) (λ k. word-read program _ _ _ _ _) 1 count

@@ -21,17 +21,25 @@ pub record NopAt (v : View) (k : ℕ) : Type 0 where
   pub there : v .following k ≡ Found word
   pub nop : opcodeOf (widthOf (v .status)) word ≡ 0
 
--- it is not, and what the look at it gives: "In user mode a protected byte among them raises 00h ..; an absent byte is stop 11 .. 20, a stop, when
--- one of them has another operation than 0"
-pub data NoNopAt (v : View) (k : ℕ) : Attempt (Unit {0}) → Type 0 where
-  protected : v .following k ≡ Raises 0x00 → NoNopAt v k (Raises 0x00)
-  absent : v .following k ≡ Stops 11 → NoNopAt v k (Stops 11)
-  other : (w : ℕ) → v .following k ≡ Found w → opcodeOf (widthOf (v .status)) w ≢ 0 → NoNopAt v k (Stops 20)
+-- it is not, and this comes of it: "In user mode a protected byte among them raises 00h ..; an absent byte is stop 11 .. 20, a stop, when one of them
+-- has another operation than 0"
+pub data NotNopAt (v : View) (k : ℕ) : Attempt (Unit {0}) → Type 0 where
+  protected : v .following k ≡ Raises 0x00 → NotNopAt v k (Raises 0x00)
+  absent : v .following k ≡ Stops 11 → NotNopAt v k (Stops 11)
+  other : (w : ℕ) → v .following k ≡ Found w → opcodeOf (widthOf (v .status)) w ≢ 0 → NotNopAt v k (Stops 20)
 
--- "looked at one after another", so many from one on: all of them are nops, or the first that is not decides
-pub data Looked (v : View) (from count : ℕ) (a : Attempt (Unit {0})) : Type 0 where
-  nops : ((k : ℕ) → from ≤ k → k < from + count → NopAt v k) → a ≡ Found tt → Looked v from count a
-  first : (k : ℕ) → from ≤ k → k < from + count → ((j : ℕ) → from ≤ j → j < k → NopAt v j) → NoNopAt v k a → Looked v from count a
+-- the first of so many words that is no nop, and what comes of it
+pub record FirstOther (v : View) (from count : ℕ) (a : Attempt (Unit {0})) : Type 0 where
+  pub k : ℕ
+  pub least : from ≤ k
+  pub most : k < from + count
+  pub earlier : (j : ℕ) → from ≤ j → j < k → NopAt v j
+  pub other : NotNopAt v k a
 
-abbrev pub LookedAt : Type 0
-LookedAt = (program : List ℕ) (s : State) (count : ℕ) → let v = view program s in Looked v 1 count (nopsAfter v count)
+-- "looked at one after another": all of so many words are nops, or the first that is none decides
+pub data Checked (v : View) (from count : ℕ) (a : Attempt (Unit {0})) : Type 0 where
+  allNops : ((k : ℕ) → from ≤ k → k < from + count → NopAt v k) → a ≡ Found tt → Checked v from count a
+  notAll : FirstOther v from count a → Checked v from count a
+
+abbrev pub CheckedInOrder : Type 0
+CheckedInOrder = (program : List ℕ) (s : State) (count : ℕ) → let v = view program s in Checked v 1 count (nopsAfter v count)

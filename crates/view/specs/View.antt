@@ -26,7 +26,7 @@ use Rattle.view.specs.declared.Place.the-variants as place
 
 -- ---- what the memories give
 
--- what is found, the code of an exception, or the number of a stop, as 01 numbers them
+-- what is found, the code of an exception, or the number of a stop, as 01 and 02 number them
 pub data Attempt (A : Type 0) : Type 0 where
   Found : A → Attempt A
   Raises : (code : ℕ) → Attempt A
@@ -37,6 +37,12 @@ unfoldable pub mapFound : {A B : Type 0} → (A → B) → Attempt A → Attempt
 mapFound f (Found x) = Found (f x)
 mapFound f (Raises c) = Raises c
 mapFound f (Stops n) = Stops n
+
+-- what f gives of what is found
+unfoldable pub foundThen : {A B : Type 0} → Attempt A → (A → Attempt B) → Attempt B
+foundThen (Found x) f = f x
+foundThen (Raises c) f = Raises c
+foundThen (Stops n) f = Stops n
 
 -- ---- program memory
 
@@ -202,16 +208,11 @@ conditionFalse v i = i .conditional && not (holds (conditionOf (i .condition)) (
 
 -- ---- the nops that must follow some instructions (02, wish 8)
 
--- one of them, looked at, and then the rest: "20, a stop, when one of them has another operation than 0"
-unfoldable pub nopThen : Width → Attempt ℕ → (rest : Attempt (Unit {0})) → Attempt (Unit {0})
-nopThen width (Found w) rest = if eqb (opcodeOf width w) 0 then rest else Stops 20
-nopThen width (Raises c) rest = Raises c
-nopThen width (Stops n) rest = Stops n
-
--- so many of them, from the k-th of these words on: "looked at one after another"
+-- so many of these words, from the k-th on, "looked at one after another": "20, a stop, when one of them has another operation than 0"
 unfoldable pub nopsFrom : Width → (following : ℕ → Attempt ℕ) → (k count : ℕ) → Attempt (Unit {0})
 nopsFrom width following k zero = Found tt
-nopsFrom width following k (suc count) = nopThen width (following k) (nopsFrom width following (suc k) count)
+nopsFrom width following k (suc count) =
+    foundThen (following k) (λ w. if eqb (opcodeOf width w) 0 then nopsFrom width following (suc k) count else Stops 20)
 
 -- those that must follow the instruction, "in the old width"
 abbrev pub nopsAfter : View → (count : ℕ) → Attempt (Unit {0})
@@ -225,5 +226,5 @@ nopCheckAs (check.Stop n) = Stops n
 
 -- to unfold all of these
 unfoldable pub seeing : Unit {0}
-unfolding mapFound anyWithin byteThen bytesAt readAt fetchAt fetchedAs inBlock foundAt placeAt placeAs heldAt nestedBy view withPlaces withFollowing conditionFalse nopThen nopsFrom nopCheckAs
+unfolding mapFound foundThen anyWithin byteThen bytesAt readAt fetchAt fetchedAs inBlock foundAt placeAt placeAs heldAt nestedBy view withPlaces withFollowing conditionFalse nopsFrom nopCheckAs
 seeing = tt

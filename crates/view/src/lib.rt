@@ -1,4 +1,4 @@
-// What the next instruction may see: the instruction word, its sources, what a data address names, whether its condition holds.
+// What the next instruction may see: the instruction word and those after it, its sources, what a data address names, whether its condition holds.
 ghost use Prim.Native.Nat.{_<_};
 ghost use Rattle.machine.specs.Words.{MachineWords};
 ghost use Rattle.view.specs.View.{View, Shows, conditionFalse};
@@ -14,7 +14,7 @@ pub use program::closed;
 pub use program::fetch;
 pub use program::misaligned;
 
-// What a fetch gives.
+// What the reading of a word of program memory gives.
 pub enum Fetched {
     // An instruction word.
     Word(u32),
@@ -24,9 +24,9 @@ pub enum Fetched {
     Absent,
 }
 
-// What the look at the nops that must follow an instruction gives.
+// Whether the nops that must follow an instruction do.
 pub enum NopCheck {
-    // They are there.
+    // They do.
     Pass,
     // An exception with its code.
     Fault(u32),

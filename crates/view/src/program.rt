@@ -1,4 +1,4 @@
-// Program memory: its protection, and the fetch of an instruction word.
+// Program memory: its protection, the fetch of an instruction word, and the nops that must follow it.
 ghost use mathlib.Core.Path.{_≡_};
 ghost use mathlib.Core.Bool.{not, _&&_};
 ghost use Prim.Native.Nat.{_+_, _%_, _^_, _≤_, _<_};
@@ -7,7 +7,7 @@ ghost use Rattle.isa.specs.Operation.{widthBy};
 ghost use Rattle.isa.specs.Decode.{wordBytes};
 ghost use Rattle.machine.specs.Control.{controlAt, IMEM-BOUND-LO, IMEM-BOUND-HI};
 ghost use Rattle.machine.specs.Words.{MachineWords, machineOf};
-ghost use Rattle.view.specs.View.{Found, View, anyWithin, bytesAt, readAt, fetchedAs, viewOf, nopThen, nopsAfter, nopCheckAs};
+ghost use Rattle.view.specs.View.{View, anyWithin, bytesAt, readAt, fetchedAs, viewOf, nopsFrom, nopsAfter, nopCheckAs};
 ghost use Rattle.machine.specs.Machine.{MOST-MEMORY, Memory, psr, userMode, widthOf};
 use crate::Fetched;
 use crate::NopCheck;
@@ -86,10 +86,10 @@ fn following(program: &[u8], w: &[u32], k: u32) -> Fetched
     read_at(program, w, wide, machine::pc(w) + k * isa::word_bytes(wide))
 }
 
-// Whether a nop stands there.
+// Whether the k-th word after the next instruction is a nop.
 fn check_nop(program: &[u8], w: &[u32], k: u32) -> NopCheck
     requires { ⌜ MachineWords (now w) × (machineOf (now w) .position .pc < MOST-MEMORY) × (k < 4) ⌝ }
-    ensures { λ r. ⌜ ((memory : Memory) → let v = viewOf (now (program .entry)) (now (w .entry)) memory in nopCheckAs r ≡ nopThen (widthOf (v .status)) (v .following k) (Found tt)) ⌝ }
+    ensures { λ r. ⌜ ((memory : Memory) → let v = viewOf (now (program .entry)) (now (w .entry)) memory in nopCheckAs r ≡ nopsFrom (widthOf (v .status)) (v .following) k 1) ⌝ }
 {
     let fetched = following(program, w, k);
     match fetched {
@@ -105,7 +105,7 @@ fn check_nop(program: &[u8], w: &[u32], k: u32) -> NopCheck
     }
 }
 
-// The nops that must follow the next instruction, so many of them, one after another.
+// Whether so many nops follow the next instruction: one word after another.
 pub fn check_nops(program: &[u8], w: &[u32], count: u32) -> NopCheck
     requires { ⌜ MachineWords (now w) × (machineOf (now w) .position .pc < MOST-MEMORY) × (count < 4) ⌝ }
     ensures { λ r. ⌜ ((memory : Memory) → nopCheckAs r ≡ nopsAfter (viewOf (now (program .entry)) (now (w .entry)) memory) count) ⌝ }

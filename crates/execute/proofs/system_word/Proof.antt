@@ -16,7 +16,7 @@ use Rattle.view.specs.declared.NopCheck.{NopCheck}
 use Rattle.effect.specs.Apply.{reportOn, applying}
 use Rattle.operation.specs.Execute.{onFound, execute}
 use Rattle.execute.specs.Decide.{fetchedThen}
-use Rattle.execute.proofs.Tests.{Decoded, decoded, decoded-word, word-barred, word-in-slot, word-skipped, word-looked}
+use Rattle.execute.proofs.Tests.{Decoded, decoded, decoded-word, word-barred, word-in-slot, word-skipped, word-checked}
 use Rattle.execute.proofs.system_word.Statement.{statement}
 use Rattle.execute.proofs.system_word.Tie as tie
 
@@ -73,19 +73,19 @@ check-nops-requires c κs = (search needs, search needs, rw (c .nops-after .ensu
 abbrev decoding : tie.After-check-nops → tie.After-decode-system
 decoding c = c .before .before .before .before .before .before
 
--- the look at them decides
-looked : (c : tie.After-check-nops) (r : NopCheck) → c .check-nops .result ≡ r → (memory : Memory) (x : ℕ)
+-- they decide
+checked : (c : tie.After-check-nops) (r : NopCheck) → c .check-nops .result ≡ r → (memory : Memory) (x : ℕ)
     → let s = entry (decoding c) in
     let v = viewOf (now (s .args .program)) (now (s .args .w)) memory in
     let i = decoding c .decode-system .result in
     x ≡ v .source (i .sreg1)
     → reportOn (fetchedThen v (Found (s .args .word))) (now (s .args .w)) memory
     ≡ reportOn (onFound (λ _. execute (operationOf (i .opcode)) v i x (v .source (i .sreg2))) (nopCheckAs r)) (now (s .args .w)) memory
-looked c r e memory x a =
+checked c r e memory x a =
     let d = decoding c in
     let s = entry d in
     let v = viewOf (now (s .args .program)) (now (s .args .w)) memory in
-    word-looked _ _ memory (given d) (usable d) (stays d) (sym (c .before .before .before .before .condition-false .ensures _ memory) ∙ c .before .before .before .if3 .left)
+    word-checked _ _ memory (given d) (usable d) (stays d) (sym (c .before .before .before .before .condition-false .ensures _ memory) ∙ c .before .before .before .if3 .left)
     x _ a refl (nopCheckAs r) (ap nopCheckAs (sym e) ∙ c .check-nops .ensures memory ∙ ap (nopsAfter v) (c .before .nops-after .ensures))
 
 source-requires : tie.Need-source-requires
@@ -101,15 +101,15 @@ returns-4 : tie.Need-returns-4
 unfolding onFound nopCheckAs
 returns-4 c memory =
     c .before .before .system .ensures _ _ memory
-    ∙ sym (looked (c .before .before .before .before .before .before .before .before) _ (c .before .before .before .before .before .before .enum-told .given .1) memory _ (c .before .before .before .before .source .ensures _ memory))
+    ∙ sym (checked (c .before .before .before .before .before .before .before .before) _ (c .before .before .before .before .before .before .enum-told .given .1) memory _ (c .before .before .before .before .source .ensures _ memory))
 
 returns-5 : tie.Need-returns-5
 unfolding onFound nopCheckAs
-returns-5 c memory = c .before .before .raise2 .ensures memory ∙ sym (looked (c .before .before .before .before .before .before .before) _ (c .before .before .before .before .before .nops .given .1) memory _ refl)
+returns-5 c memory = c .before .before .raise2 .ensures memory ∙ sym (checked (c .before .before .before .before .before .before .before) _ (c .before .before .before .before .before .nops .given .1) memory _ refl)
 
 returns-6 : tie.Need-returns-6
 unfolding onFound nopCheckAs applying
-returns-6 c memory = sym (looked (c .before .before .before) _ (c .before .nops2 .given .1) memory _ refl)
+returns-6 c memory = sym (checked (c .before .before .before) _ (c .before .nops2 .given .1) memory _ refl)
 
 pub system-word-spec : {M : Type 1} → statement M
 system-word-spec =

@@ -1,13 +1,13 @@
--- `view::program::check_nops` meets its contract: before each turn all words before the k-th are nops, and the look at the others decides. Assumes nothing.
+-- `view::program::check_nops` meets its contract: before each turn all words before the k-th are nops, and the others decide. Assumes nothing.
 use mathlib.Core.Path.{_≡_, sym, ap, _∙_}
 use Prim.Native.Nat.{ℕ, _+_, _-_, _≤_}
 use native.Mathlib.Omega.{arith}
 use denote.Ref.{now}
 use borrow.Author.Needs.{needs}
 use Rattle.machine.specs.Machine.{Memory, widthOf}
-use Rattle.view.specs.View.{View, viewOf, nopsFrom, nopsAfter, nopCheckAs}
+use Rattle.view.specs.View.{foundThen, View, viewOf, nopsFrom, nopsAfter, nopCheckAs}
 use Rattle.view.specs.declared.NopCheck.{NopCheck}
-use Rattle.view.proofs.Nops.{thenRest, nops-on}
+use Rattle.view.proofs.Nops.{nops-on}
 use Rattle.view.proofs.program.check_nops.Statement.{statement}
 use Rattle.view.proofs.program.check_nops.Tie as tie
 
@@ -24,12 +24,12 @@ loop-holds c =
     let all : a .count ≡ a .count + 1 - 1 = omega arith in
     (omega arith, omega arith, λ memory. let v = viewOf (now (a .program)) (now (a .w)) memory in ap (λ (n : ℕ). nopsFrom (widthOf (v .status)) (v .following) 1 n) all)
 
--- one turn more, by what its look gives
+-- one turn more, by what comes of its word
 turn : (c : tie.After-check-nop Inv-loop μ-loop) (r : NopCheck) → c .check-nop .result ≡ r → (memory : Memory)
     → let l = c .before .before .loop in
     let a = c .before .before .before .before .before .args in
     let v = viewOf (now (a .program)) (now (a .w)) memory in
-    nopsAfter v (a .count) ≡ thenRest (nopCheckAs r) (nopsFrom (widthOf (v .status)) (v .following) (l .k + 1) (a .count + 1 - (l .k + 1)))
+    nopsAfter v (a .count) ≡ foundThen (nopCheckAs r) (λ _. nopsFrom (widthOf (v .status)) (v .following) (l .k + 1) (a .count + 1 - (l .k + 1)))
 turn c r e memory =
     let l = c .before .before .loop in
     let a = c .before .before .before .before .before .args in
@@ -40,15 +40,15 @@ check-nop-requires : tie.Need-check-nop-requires Inv-loop μ-loop
 check-nop-requires c κs = (search needs, search needs, omega arith)
 
 returns : tie.Need-returns Inv-loop μ-loop
-unfolding thenRest nopCheckAs
+unfolding foundThen nopCheckAs
 returns c memory = sym (turn (c .before .before .before) _ (c .before .checked .given .1) memory)
 
 returns-2 : tie.Need-returns-2 Inv-loop μ-loop
-unfolding thenRest nopCheckAs
+unfolding foundThen nopCheckAs
 returns-2 c memory = sym (turn (c .before .before .before) _ (c .before .checked2 .given .1) memory)
 
 loop-again : tie.Need-loop-again Inv-loop μ-loop
-unfolding thenRest nopCheckAs
+unfolding foundThen nopCheckAs
 loop-again c = (omega arith, omega arith, turn (c .before .before) _ (c .enum-told .given .1))
 
 returns-3 : tie.Need-returns-3 Inv-loop μ-loop
