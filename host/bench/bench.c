@@ -48,7 +48,7 @@ static void lend(const struct scene *s, struct lent *l)
 static struct coffee_answer run(int side, const struct scene *s, uint32_t limit, struct lent *l)
 {
     return sides[side](
-        s->program, PROGRAM_ROOM, l->cells, CELLS, s->image, IMAGE_LENGTH, s->requests,
+        s->program, s->program_len, l->cells, CELLS, s->image, IMAGE_LENGTH, s->requests,
         s->requests_len, limit, l->buffer, BUFFER);
 }
 
@@ -67,8 +67,9 @@ static bool same_answer(struct coffee_answer a, struct coffee_answer b)
     return a.refusal == b.refusal && a.steps == b.steps && a.ending == b.ending;
 }
 
-// Both sides give the same answer, cells and buffer, and do all of the steps.
-static void check(const struct scene *s, uint32_t limit)
+// Both sides give the same answer, cells and buffer, and do all of the steps, or all but a last one that is a
+// stop. Gives back the new image.
+static const uint8_t *check(const struct scene *s, uint32_t limit, uint32_t ending)
 {
     static struct lent lents[SIDES];
     struct coffee_answer answers[SIDES];
@@ -82,8 +83,9 @@ static void check(const struct scene *s, uint32_t limit)
         fail(s, limit, "the cells differ");
     if (memcmp(lents[LIBRARY].buffer, lents[BASELINE].buffer, BUFFER) != 0)
         fail(s, limit, "the buffers differ");
-    if (!same_answer(answers[LIBRARY], (struct coffee_answer){ 0, limit, 0 }))
-        fail(s, limit, "not all of the steps are done");
+    if (!same_answer(answers[LIBRARY], (struct coffee_answer){ 0, ending ? limit - 1 : limit, ending }))
+        fail(s, limit, ending ? "not the stop that is due" : "not all of the steps are done");
+    return lents[LIBRARY].buffer;
 }
 
 // A watchdog resets the core at this step: both sides then have the machine of coffee_reset, and go on.
@@ -96,7 +98,7 @@ static void check_watchdog(const struct scene *counting)
     s.image[4 * (76 + 0x27) + 2] |= 0x10; // TMR_CONF: WDOG of timer 0
     static const uint32_t limits[] = { AT - 1, AT, AT + 1, STEPS };
     for (size_t i = 0; i < sizeof limits / sizeof *limits; i++)
-        check(&s, limits[i]);
+        check(&s, limits[i], 0);
 
     lend(&s, &at_reset);
     coffee_reset(at_reset.buffer, BUFFER);
@@ -121,6 +123,79 @@ static void check_timer_interrupts(const struct scene *s)
     if (l.cells[COUNT_CELL] - s->cells[COUNT_CELL] != (STEPS - 1) / EVERY ||
         second != 6 * ((STEPS - 1) / SECOND_EVERY))
         fail(s, STEPS, "not all of the timers' interrupts are accepted");
+}
+
+// A program with or without the nops that must follow swm (two), scall, retu (one) and reti (three). It is at
+// 0: at the start, in a slot, or as the routine of an interrupt that the first step accepts. One byte is
+// protected; 0: none. The ending and PC are what comes of it.
+struct look {
+    const char *name;
+    enum { START, SLOT, SERVICE } where;
+    uint32_t psr, protected, ending, pc, length, words[4];
+};
+
+enum { USER_16 = 0x01, SUPER_16 = 0x06, USER = 0x09, SUPER = 0x0E };
+enum { SYSTEM = 0x40, EXCEPTION = 0x80, RETURN = 0xC0 };
+enum { WORK = 0x4807883F };
+
+static const struct look looks[] = {
+    { "swm, nothing", START, SUPER, 0, 11, 0, 4, { 0xD8000000 } },
+    { "swm, nop and half a word", START, SUPER, 0, 11, 0, 10, { 0xD8000000 } },
+    { "swm, work and nothing", START, SUPER, 0, 20, 0, 8, { 0xD8000000, WORK } },
+    { "swm, nop and work", START, SUPER, 0, 20, 0, 12, { 0xD8000000, 0, WORK } },
+    { "swm, nop and protected work", START, USER, 11, 0, EXCEPTION, 12, { 0xD8000000, 0, WORK } },
+    { "swm, protected nop", START, SUPER, 11, 0, 12, 12, { 0xD8000000 } },
+    { "swm, nop, nothing protected", START, USER, 8, 0, EXCEPTION, 8, { 0xD8000000 } },
+    { "swm, work and protected nop", START, USER, 8, 20, 0, 12, { 0xD8000000, WORK } },
+    { "swm, nops, protected after", START, USER, 12, 0, 12, 16, { 0xD8000000, 0, 0, WORK } },
+    { "16-bit swm, nops and work", START, SUPER_16, 0, 0, 6, 8, { 0xD8010000, 0x4807 } },
+    { "scall, nothing", START, USER, 0, 11, 0, 4, { 0xC0000000 } },
+    { "scall, nop of ones and work", START, USER, 0, 0, SYSTEM, 12, { 0xC0000000, 0x03FFFFFF, WORK } },
+    { "scall, protected nop", START, USER, 7, 0, EXCEPTION, 8, { 0xC0000000 } },
+    { "scall if eq, work", START, USER, 5, 0, 4, 8, { 0xC2180000, WORK } },
+    { "scall if ne, work", START, USER, 0, 20, 0, 8, { 0xC2300000, WORK } },
+    { "scall in a slot, work", SLOT, SUPER, 0, 13, 0, 8, { 0xC0000000, WORK } },
+    { "16-bit scall, nop of ones", START, USER_16, 0, 0, SYSTEM, 4, { 0xC00003FF } },
+    { "16-bit scall, protected nop", START, USER_16, 3, 0, EXCEPTION, 4, { 0xC0000000 } },
+    { "retu, nothing", START, SUPER, 0, 11, 0, 4, { 0xC4000000 } },
+    { "retu, nop and work", START, SUPER, 4, 0, RETURN, 12, { 0xC4000000, 0, WORK } },
+    { "retu, work", START, SUPER, 0, 20, 0, 8, { 0xC4000000, WORK } },
+    { "retu, protected work", START, USER, 4, 0, EXCEPTION, 8, { 0xC4000000, WORK } },
+    { "reti, empty stack, nops", START, SUPER, 0, 15, 0, 16, { 0xC8000000 } },
+    { "reti, empty stack, work third", START, USER, 0, 20, 0, 16, { 0xC8000000, 0, 0, WORK } },
+    { "reti, nops", SERVICE, SUPER, 15, 0, RETURN, 16, { 0xC8000000 } },
+    { "reti, nops and half a word", SERVICE, SUPER, 0, 11, 0, 14, { 0xC8000000 } },
+    { "reti, work first", SERVICE, SUPER, 0, 20, 0, 16, { 0xC8000000, WORK } },
+    { "reti, work second", SERVICE, USER, 0, 20, 0, 16, { 0xC8000000, 0, WORK } },
+    { "reti, protected nop third", SERVICE, USER, 15, 0, EXCEPTION, 16, { 0xC8000000 } },
+    { "16-bit reti, nops and work", SERVICE, USER_16, 0, 0, RETURN, 12, { 0xC8000000, 0, WORK } },
+};
+
+// Both sides agree on such a program, and have its ending and PC.
+static void check_look(const struct scene *counting, const struct look *k)
+{
+    static struct scene s;
+    static uint32_t request = 1;
+    const uint32_t limit = k->where == SERVICE ? 2 : 1;
+    const uint32_t numbers[][2] = {
+        { 63, k->psr | 0x10 }, { 65, RETURN }, // PSR with IE, PR31
+        { 76 + 0x10, k->psr >> 3 }, { 76 + 0x11, k->psr & 1 }, { 76 + 0x12, 1 }, // source 0: IL, UM, mask
+        { 76 + 0x1C, k->protected ? k->protected : 1 }, { 76 + 0x1D, k->protected }, // IMEM_BOUND_LO, _HI
+        { 76 + 0x1F, SYSTEM }, { 76 + 0x20, EXCEPTION }, // SYSTEM_ADDR, EXCEP_ADDR
+        { 122, k->where == SERVICE ? RETURN : 0 }, { 123, k->where == SLOT }, // PC, slot
+    };
+    s = *counting;
+    s.name = k->name;
+    s.mode = k->psr & 1 ? "user" : "super user";
+    s.program_len = k->length;
+    s.requests = &request;
+    s.requests_len = limit - 1;
+    for (uint32_t i = 0; i < 4; i++)
+        set(s.program, i, k->words[i]);
+    for (size_t i = 0; i < sizeof numbers / sizeof *numbers; i++)
+        set(s.image, numbers[i][0], numbers[i][1]);
+    if (check(&s, limit, k->ending)[4 * 122 + 3] != k->pc)
+        fail(&s, limit, "not the PC that is due");
 }
 
 // Calls that are refused: the number, and a byte of the image that is changed. The first byte is 0 as it
@@ -317,12 +392,14 @@ int main(int argc, char **argv)
     for (int n = 0; n < SCENES; n++) {
         scenes[n] = make_scene(n);
         for (size_t i = 0; i < sizeof limits / sizeof *limits; i++)
-            check(scenes[n], limits[i]);
+            check(scenes[n], limits[i], 0);
     }
     check_watchdog(scenes[2 * TIMERS]);
     check_watchdog(scenes[2 * TIMERS + 1]);
     check_timer_interrupts(scenes[2 * TIMER_INTERRUPTS]);
     check_timer_interrupts(scenes[2 * TIMER_INTERRUPTS + 1]);
+    for (size_t i = 0; i < sizeof looks / sizeof *looks; i++)
+        check_look(scenes[2 * TIMERS], &looks[i]);
     for (size_t i = 0; i < sizeof refused / sizeof *refused; i++)
         check_refusal(scenes[0], &refused[i]);
 

@@ -143,8 +143,7 @@ enum {
     RETI_ADDR = 0x28, RETI_PSR = 0x29, CORE_VER_ID = 0x2C,
 };
 
-// Sets number n of an image.
-static void set(uint8_t *image, uint32_t n, uint32_t value)
+void set(uint8_t *image, uint32_t n, uint32_t value)
 {
     struct code c = { image, 0 };
     put(&c, 4 * n, value);
@@ -541,6 +540,7 @@ struct scene *make_scene(int n)
     int kind = n / 2;
     s->name = names[kind];
     s->mode = user ? "user" : "super user";
+    s->program_len = PROGRAM_ROOM;
 
     uint32_t psr = user ? 0x09 : 0x0E;
     bool interrupted = kind == INTERRUPTS || kind == TIMER_INTERRUPTS;

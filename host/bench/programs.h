@@ -18,6 +18,7 @@ struct scene {
     uint8_t image[IMAGE_LENGTH];
     uint32_t *requests;
     size_t requests_len;
+    size_t program_len;
 };
 
 // Where the service routines of the timers' interrupts count: that of timer 0 in a cell, that of timer 1, by
@@ -31,5 +32,8 @@ enum {
 
 // Makes scene n, of 0 to SCENES - 1. Requests, if it has any, stay allocated.
 struct scene *make_scene(int n);
+
+// Sets number n of an image, or word n of a program.
+void set(uint8_t *image, uint32_t n, uint32_t value);
 
 #endif
