@@ -1,11 +1,10 @@
 -- A call whose program has the nops that must follow has the steps that it had. Assumes nothing.
-use mathlib.Core.Path.{_≡_, refl, ap, _∙_}
+use mathlib.Core.Path.{refl, ap, _∙_}
 use mathlib.Core.List.{List, [], _∷_}
-use Prim.Native.Nat.{ℕ, zero, suc}
+use Prim.Native.Nat.{zero, suc}
 use lib.ListN.{getD}
 use Rattle.word.specs.Choice.{if_then_else_}
 use Rattle.word.proofs.Tests.{if-else}
-use Rattle.machine.specs.Machine.{State}
 use Rattle.effect.specs.Apply.{Transition}
 use Rattle.step.specs.Step.{isStop, step}
 use Rattle.step.specs.RequiredNops.{stepUnchecked}
