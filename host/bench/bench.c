@@ -128,7 +128,7 @@ static void check_timer_interrupts(const struct scene *s)
 // A program with or without the nops that must follow swm (two), scall, retu (one) and reti (three). It is at
 // 0: at the start, in a slot, or as the routine of an interrupt that the first step accepts. One byte is
 // protected; 0: none. The ending and PC are what comes of it.
-struct look {
+struct nop_case {
     const char *name;
     enum { START, SLOT, SERVICE } where;
     uint32_t psr, protected, ending, pc, length, words[4];
@@ -136,43 +136,43 @@ struct look {
 
 enum { USER_16 = 0x01, SUPER_16 = 0x06, USER = 0x09, SUPER = 0x0E };
 enum { SYSTEM = 0x40, EXCEPTION = 0x80, RETURN = 0xC0 };
-enum { WORK = 0x4807883F };
+enum { ADDI = 0x4807883F };
 
-static const struct look looks[] = {
+static const struct nop_case nop_cases[] = {
     { "swm, nothing", START, SUPER, 0, 11, 0, 4, { 0xD8000000 } },
     { "swm, nop and half a word", START, SUPER, 0, 11, 0, 10, { 0xD8000000 } },
-    { "swm, work and nothing", START, SUPER, 0, 20, 0, 8, { 0xD8000000, WORK } },
-    { "swm, nop and work", START, SUPER, 0, 20, 0, 12, { 0xD8000000, 0, WORK } },
-    { "swm, nop and protected work", START, USER, 11, 0, EXCEPTION, 12, { 0xD8000000, 0, WORK } },
+    { "swm, addi and nothing", START, SUPER, 0, 20, 0, 8, { 0xD8000000, ADDI } },
+    { "swm, nop and addi", START, SUPER, 0, 20, 0, 12, { 0xD8000000, 0, ADDI } },
+    { "swm, nop and protected addi", START, USER, 11, 0, EXCEPTION, 12, { 0xD8000000, 0, ADDI } },
     { "swm, protected nop", START, SUPER, 11, 0, 12, 12, { 0xD8000000 } },
     { "swm, nop, nothing protected", START, USER, 8, 0, EXCEPTION, 8, { 0xD8000000 } },
-    { "swm, work and protected nop", START, USER, 8, 20, 0, 12, { 0xD8000000, WORK } },
-    { "swm, nops, protected after", START, USER, 12, 0, 12, 16, { 0xD8000000, 0, 0, WORK } },
-    { "16-bit swm, nops and work", START, SUPER_16, 0, 0, 6, 8, { 0xD8010000, 0x4807 } },
+    { "swm, addi and protected nop", START, USER, 8, 20, 0, 12, { 0xD8000000, ADDI } },
+    { "swm, nops, protected after", START, USER, 12, 0, 12, 16, { 0xD8000000, 0, 0, ADDI } },
+    { "16-bit swm, nops and addi", START, SUPER_16, 0, 0, 6, 8, { 0xD8010000, 0x4807 } },
     { "scall, nothing", START, USER, 0, 11, 0, 4, { 0xC0000000 } },
-    { "scall, nop of ones and work", START, USER, 0, 0, SYSTEM, 12, { 0xC0000000, 0x03FFFFFF, WORK } },
+    { "scall, nop of ones and addi", START, USER, 0, 0, SYSTEM, 12, { 0xC0000000, 0x03FFFFFF, ADDI } },
     { "scall, protected nop", START, USER, 7, 0, EXCEPTION, 8, { 0xC0000000 } },
-    { "scall if eq, work", START, USER, 5, 0, 4, 8, { 0xC2180000, WORK } },
-    { "scall if ne, work", START, USER, 0, 20, 0, 8, { 0xC2300000, WORK } },
-    { "scall in a slot, work", SLOT, SUPER, 0, 13, 0, 8, { 0xC0000000, WORK } },
+    { "scall if eq, addi", START, USER, 5, 0, 4, 8, { 0xC2180000, ADDI } },
+    { "scall if ne, addi", START, USER, 0, 20, 0, 8, { 0xC2300000, ADDI } },
+    { "scall in a slot, addi", SLOT, SUPER, 0, 13, 0, 8, { 0xC0000000, ADDI } },
     { "16-bit scall, nop of ones", START, USER_16, 0, 0, SYSTEM, 4, { 0xC00003FF } },
     { "16-bit scall, protected nop", START, USER_16, 3, 0, EXCEPTION, 4, { 0xC0000000 } },
     { "retu, nothing", START, SUPER, 0, 11, 0, 4, { 0xC4000000 } },
-    { "retu, nop and work", START, SUPER, 4, 0, RETURN, 12, { 0xC4000000, 0, WORK } },
-    { "retu, work", START, SUPER, 0, 20, 0, 8, { 0xC4000000, WORK } },
-    { "retu, protected work", START, USER, 4, 0, EXCEPTION, 8, { 0xC4000000, WORK } },
+    { "retu, nop and addi", START, SUPER, 4, 0, RETURN, 12, { 0xC4000000, 0, ADDI } },
+    { "retu, addi", START, SUPER, 0, 20, 0, 8, { 0xC4000000, ADDI } },
+    { "retu, protected addi", START, USER, 4, 0, EXCEPTION, 8, { 0xC4000000, ADDI } },
     { "reti, empty stack, nops", START, SUPER, 0, 15, 0, 16, { 0xC8000000 } },
-    { "reti, empty stack, work third", START, USER, 0, 20, 0, 16, { 0xC8000000, 0, 0, WORK } },
+    { "reti, empty stack, addi third", START, USER, 0, 20, 0, 16, { 0xC8000000, 0, 0, ADDI } },
     { "reti, nops", SERVICE, SUPER, 15, 0, RETURN, 16, { 0xC8000000 } },
     { "reti, nops and half a word", SERVICE, SUPER, 0, 11, 0, 14, { 0xC8000000 } },
-    { "reti, work first", SERVICE, SUPER, 0, 20, 0, 16, { 0xC8000000, WORK } },
-    { "reti, work second", SERVICE, USER, 0, 20, 0, 16, { 0xC8000000, 0, WORK } },
+    { "reti, addi first", SERVICE, SUPER, 0, 20, 0, 16, { 0xC8000000, ADDI } },
+    { "reti, addi second", SERVICE, USER, 0, 20, 0, 16, { 0xC8000000, 0, ADDI } },
     { "reti, protected nop third", SERVICE, USER, 15, 0, EXCEPTION, 16, { 0xC8000000 } },
-    { "16-bit reti, nops and work", SERVICE, USER_16, 0, 0, RETURN, 12, { 0xC8000000, 0, WORK } },
+    { "16-bit reti, nops and addi", SERVICE, USER_16, 0, 0, RETURN, 12, { 0xC8000000, 0, ADDI } },
 };
 
 // Both sides agree on such a program, and have its ending and PC.
-static void check_look(const struct scene *counting, const struct look *k)
+static void check_nops(const struct scene *counting, const struct nop_case *k)
 {
     static struct scene s;
     static uint32_t request = 1;
@@ -398,8 +398,8 @@ int main(int argc, char **argv)
     check_watchdog(scenes[2 * TIMERS + 1]);
     check_timer_interrupts(scenes[2 * TIMER_INTERRUPTS]);
     check_timer_interrupts(scenes[2 * TIMER_INTERRUPTS + 1]);
-    for (size_t i = 0; i < sizeof looks / sizeof *looks; i++)
-        check_look(scenes[2 * TIMERS], &looks[i]);
+    for (size_t i = 0; i < sizeof nop_cases / sizeof *nop_cases; i++)
+        check_nops(scenes[2 * TIMERS], &nop_cases[i]);
     for (size_t i = 0; i < sizeof refused / sizeof *refused; i++)
         check_refusal(scenes[0], &refused[i]);
 
