@@ -1,18 +1,17 @@
 -- The exceptions and stops that a view shows: codes and numbers of those that are listed. Assumes nothing.
 use mathlib.Core.Path.{_≡_, refl}
 use mathlib.Core.List.{List}
-use mathlib.Core.Option.{Option, none, some}
-use Prim.Native.Nat.{ℕ, zero, suc, _*_, _+_, _<_}
+use Prim.Native.Nat.{ℕ, zero, suc, _+_, _<_}
 use lib.Dec.{eqb}
 use lib.IntN.{ℤ}
-use lib.ListN.{getElem?}
 use mathlib.Core.Bool.{Bool, true, _||_}
 use Rattle.word.specs.Flags.{isAmong}
 use Rattle.word.proofs.Tests.{if-holds}
 use Rattle.isa.specs.Operation.{Width}
 use Rattle.isa.specs.Theorems.{between}
 use Rattle.machine.specs.Machine.{State}
-use Rattle.view.specs.View.{Attempt, Found, Raises, Stops, mapFound, foundThen, byteThen, bytesAt, readAt, fetchAt, foundAt, placeAt, View, view, nopsFrom}
+use Rattle.view.specs.View.{Attempt, Found, Raises, Stops, mapFound, foundThen, fetchAt, foundAt, placeAt, View, view, nopsFrom}
+use Rattle.view.proofs.Bytes.{Read, word, closed, missing, word-read}
 use Rattle.effect.specs.Kind.{STOPS}
 
 -- a code of an exception: of a test of an instruction, or "trap n has code 224 + n"
@@ -33,23 +32,15 @@ pub record AnswersNumbered (v : View) : Type 0 where
   pub access : (z : ℤ) → Numbered (v .place z)
   pub loading : (z : ℤ) → Numbered (v .load z)
 
-byte-numbered : (b : Option ℕ) (f : ℕ → Attempt ℕ) → ((x : ℕ) → Numbered (f x)) → Numbered (byteThen b f)
-unfolding byteThen isAmong
-byte-numbered none f h = refl
-byte-numbered (some x) f h = h x
-
-bytes-numbered : (program : List ℕ) (n a w : ℕ) → Numbered (bytesAt program n a w)
-unfolding bytesAt
-bytes-numbered program zero a w = tt
-bytes-numbered program (suc n) a w = byte-numbered (getElem? program a) _ (λ x. bytes-numbered program n (suc a) (w * 256 + x))
-
-read-numbered : (program : List ℕ) (low high : ℕ) (user : Bool) (n a : ℕ) → Numbered (readAt program low high user n a)
-unfolding readAt
-read-numbered program low high user n a = if-holds Numbered _ (λ _. tests refl) (λ _. bytes-numbered program n a 0)
+read-numbered : {a : Attempt ℕ} → Read a → Numbered a
+unfolding isAmong
+read-numbered (word w) = tt
+read-numbered closed = tests refl
+read-numbered missing = refl
 
 fetch-numbered : (program : List ℕ) (low high : ℕ) (user : Bool) (n pc : ℕ) → Numbered (fetchAt program low high user n pc)
 unfolding fetchAt
-fetch-numbered program low high user n pc = if-holds Numbered _ (λ _. tests refl) (λ _. read-numbered program low high user n pc)
+fetch-numbered program low high user n pc = if-holds Numbered _ (λ _. tests refl) (λ _. read-numbered (word-read program low high user n pc))
 
 place-numbered : (s : State) (z : ℤ) → Numbered (placeAt s z)
 unfolding placeAt foundAt isAmong
@@ -70,7 +61,7 @@ unfolding view
 view-numbered program s =
     record {
       fetch = fetch-numbered program _ _ _ _ _;
-      after = λ k. read-numbered program _ _ _ _ _;
+      after = λ k. read-numbered (word-read program _ _ _ _ _);
       access = place-numbered s;
       loading = λ z. map-numbered _ (placeAt s z) (place-numbered s z);
     }

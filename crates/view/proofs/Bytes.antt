@@ -2,7 +2,7 @@
 use mathlib.Core.Path.{_≡_, refl, sym, ap, _∙_}
 use mathlib.Core.Bool.{Bool, true, false, not, _&&_, _||_, and-true, and-false, and-assoc, and-comm, true≢false}
 use mathlib.Core.List.{List, [], _∷_}
-use mathlib.Core.Option.{none, some}
+use mathlib.Core.Option.{Option, none, some}
 use Prim.Native.Nat.{ℕ, zero, suc, _+_, _-_, _*_, _/_, _%_, _^_, _≤_, _<_}
 use native.Mathlib.Nat.{zero-mul, zero-add}
 use native.Mathlib.Numerals.{towards-suc}
@@ -11,7 +11,7 @@ use lib.Dec.{leb, ltb, eqb}
 use lib.ListN.{length, getD, getElem?}
 use borrow.Author.Tests.{leb-true, leb-false, le-leb, lt-leb, ltb-true, ltb-false, eqb-true, eqb-false, eq-eqb, ne-eqb}
 use Rattle.word.specs.Choice.{if_then_else_}
-use Rattle.word.proofs.Tests.{either, and-parts, both-bounds, false-unless}
+use Rattle.word.proofs.Tests.{either, and-parts, both-bounds, false-unless, if-holds}
 use Rattle.isa.specs.Operation.{Width, w16, w32, widthBy}
 use Rattle.isa.specs.Decode.{wordBytes, wordAt}
 use Rattle.machine.specs.Control.{within}
@@ -136,6 +136,28 @@ pub fetched-word : FetchedWord
 unfolding wordBytes wordAt bytesFrom
 fetched-word w16 program a h = rw (bytes-there program 2 a 0 h) (simp (zero-mul, zero-add, towards-suc))
 fetched-word w32 program a h = rw (bytes-there program 4 a 0 h) (simp (zero-mul, zero-add, towards-suc))
+
+-- ---- reading
+
+-- what a word read may be
+pub data Read : Attempt ℕ → Type 0 where
+  word : (w : ℕ) → Read (Found w)
+  closed : Read (Raises 0x00)
+  missing : Read (Stops 11)
+
+byte-read : (b : Option ℕ) (f : ℕ → Attempt ℕ) → ((x : ℕ) → Read (f x)) → Read (byteThen b f)
+unfolding byteThen
+byte-read none f h = missing
+byte-read (some x) f h = h x
+
+bytes-read : (program : List ℕ) (n a w : ℕ) → Read (bytesAt program n a w)
+unfolding bytesAt
+bytes-read program zero a w = word w
+bytes-read program (suc n) a w = byte-read (getElem? program a) _ (λ x. bytes-read program n (suc a) (w * 256 + x))
+
+pub word-read : (program : List ℕ) (low high : ℕ) (user : Bool) (n a : ℕ) → Read (readAt program low high user n a)
+unfolding readAt
+word-read program low high user n a = if-holds Read _ (λ _. closed) (λ _. bytes-read program n a 0)
 
 -- ---- lengths
 

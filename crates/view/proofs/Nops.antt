@@ -1,20 +1,17 @@
 -- The nops that must follow an instruction: one after another, and what comes of the first word that is none. Assumes nothing.
 use mathlib.Core.Path.{_≡_, refl}
-use mathlib.Core.Bool.{Bool}
-use mathlib.Core.List.{List}
-use mathlib.Core.Option.{Option, none, some}
-use Prim.Native.Nat.{ℕ, zero, suc, _+_, _-_, _*_, _≤_, _<_}
+use Prim.Native.Nat.{ℕ, zero, suc, _+_, _-_, _≤_, _<_}
 use native.Mathlib.Numerals.{add-one}
 use native.Mathlib.Omega.{arith}
 use lib.Dec.{eqb}
-use lib.ListN.{getElem?}
 use borrow.Author.Tests.{eqb-true, eqb-false}
 use Rattle.word.specs.Choice.{if_then_else_}
 use Rattle.word.proofs.Tests.{either, if-holds}
 use Rattle.isa.specs.Operation.{Width}
 use Rattle.isa.specs.Decode.{opcodeOf}
 use Rattle.machine.specs.Machine.{widthOf}
-use Rattle.view.specs.View.{Attempt, Found, Raises, Stops, foundThen, byteThen, bytesAt, readAt, View, view, nopsFrom}
+use Rattle.view.specs.View.{Attempt, Found, Raises, Stops, foundThen, View, view, nopsFrom}
+use Rattle.view.proofs.Bytes.{Read, closed, missing, word-read}
 use Rattle.view.specs.Theorems.{NopAt, NotNopAt, protected, absent, other, FirstOther, Checked, allNops, notAll, CheckedInOrder}
 
 -- ---- one of them, and then the rest
@@ -36,26 +33,6 @@ module _ (width : Width) (following : ℕ → Attempt ℕ) where
       rw (here, next, add-one k, e) (one-then k (count - k) (following k) refl)
 
 -- ---- all of them
-
--- what a word read may be
-data Read : Attempt ℕ → Type 0 where
-  word : (w : ℕ) → Read (Found w)
-  closed : Read (Raises 0x00)
-  missing : Read (Stops 11)
-
-byte-read : (b : Option ℕ) (f : ℕ → Attempt ℕ) → ((x : ℕ) → Read (f x)) → Read (byteThen b f)
-unfolding byteThen
-byte-read none f h = missing
-byte-read (some x) f h = h x
-
-bytes-read : (program : List ℕ) (n a w : ℕ) → Read (bytesAt program n a w)
-unfolding bytesAt
-bytes-read program zero a w = word w
-bytes-read program (suc n) a w = byte-read (getElem? program a) _ (λ x. bytes-read program n (suc a) (w * 256 + x))
-
-word-read : (program : List ℕ) (low high : ℕ) (user : Bool) (n a : ℕ) → Read (readAt program low high user n a)
-unfolding readAt
-word-read program low high user n a = if-holds Read _ (λ _. closed) (λ _. bytes-read program n a 0)
 
 module _ (v : View) where
   -- one nop more in front
