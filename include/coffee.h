@@ -2,7 +2,7 @@
  *
  * Link with libcoffee.a, which `rt staticlib coffee` proves and writes to target/staticlib. Each function is proved equal to a definition:
  * crates/emulator/specs/Run.antt (runCall), crates/emulator/specs/Reset.antt (resetCall), crates/emulator/specs/CarryOver.antt (carryOverCall),
- * crates/listing/specs/Listing.antt (listingCall) and crates/encoder/specs/Encode.antt (encodeOf).
+ * crates/listing/specs/Listing.antt (listingCall), crates/encoder/specs/Encode.antt (encodeOf) and crates/reach/specs/Call.antt (reachCall).
  *
  * A slice is a pointer and then a count of elements; a slice of 0 elements may have a null pointer. A slice that is written (not const) must
  * overlap no other slice of the same call. Nothing is kept between calls, no memory is allocated, and nothing else is read or written, so
@@ -22,7 +22,7 @@ extern "C" {
 
 /* The version of this header and of the library that goes with it. The first number is that of the shared library's name: it changes when a
  * program has to be compiled anew. */
-#define COFFEE_VERSION "2.1.0"
+#define COFFEE_VERSION "2.2.0"
 
 /* Most bytes of program memory, and most cells of data memory. */
 #define COFFEE_MEMORY_MAX 65536
@@ -160,6 +160,31 @@ uint64_t coffee_encode(
     uint32_t operation, uint32_t wide,
     uint32_t conditional, uint32_t creg, uint32_t condition,
     int32_t a, int32_t b, int32_t c, int32_t d);
+
+/* Maps the words of a program that can be reached from a start address in one width: over the program's length, the map's byte at the address
+ * of each such word becomes 1 and every other one 0; its further bytes stay as they are.
+ *
+ * program   bytes, high byte of a word first; bytes after the last whole word belong to none
+ * wide      0: 16-bit words; any other number: 32-bit words
+ * start     the address of the first word
+ * map       at least as many bytes as the program has
+ *
+ * A word that is reached leads to the next one, unless it is jmp, jal, retu, reti, swm or trap, or jmpr, jalr or scall without a condition. jmp,
+ * jal and branches lead to their target; jal, jalr and scall to the word two on, and a swm that keeps the width to the word three on. A word is
+ * also reached, but leads nowhere, as a slot: the one after jmp, jal, jmpr, jalr, scall and retu, the two after swm, the three after reti. Only
+ * aligned words wholly in the program are reached. What a register, a vector or the hardware stack says is not followed.
+ *
+ * Takes up to 140 KB of stack.
+ *
+ * Answers 0, or the refusal, asked in this order:
+ *   1   program longer than 65,536 bytes
+ *   28  map shorter than the program
+ *   27  start misaligned, or a byte of its word outside the program
+ */
+uint32_t coffee_reach(
+    const uint8_t *program, size_t program_bytes,
+    uint32_t wide, uint32_t start,
+    uint8_t *map, size_t map_bytes);
 
 #ifdef __cplusplus
 }

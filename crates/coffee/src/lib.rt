@@ -1,10 +1,11 @@
-// The C interface: the calls of the emulator, the listing and the encoder with numbers and slices only. include/coffee.h declares them for C.
+// The C interface: the calls of the emulator, the listing, the encoder and the search for reachable code with numbers and slices only. include/coffee.h declares them for C.
 ghost use mathlib.Core.Path.{_≡_};
 ghost use mathlib.Core.Bool.{not};
 ghost use lib.Dec.{eqb};
 ghost use Rattle.isa.specs.Operation.{widthBy};
 ghost use Rattle.listing.specs.Listing.{listed, listingCall};
 ghost use Rattle.encoder.specs.Encode.{chosen, encodingOf, encodeOf};
+ghost use Rattle.reach.specs.Call.{mapped, reachCall};
 ghost use Rattle.emulator.specs.Run.{replyOf, runCall};
 ghost use Rattle.emulator.specs.Outcome.{imageOutcome};
 ghost use Rattle.emulator.specs.Reset.{resetCall};
@@ -117,4 +118,13 @@ pub extern "C" fn coffee_encode(
         c,
         d,
     ))
+}
+
+// Writes 1 to a map's byte at the address of each word that can be reached from a start address, and 0 to the others over the program's length;
+// wide 0 is 16-bit words, any other number 32-bit.
+#[no_mangle]
+pub extern "C" fn coffee_reach(program: &[u8], wide: u32, start: u32, map: &mut [u8]) -> u32
+    ensures { λ r. ⌜ mapped r (now (map .exit)) ≡ reachCall (widthBy (not (eqb wide 0))) (now (program .entry)) start (now (map .entry)) ⌝ }
+{
+    reach::reach(program, wide != 0, start, map)
 }

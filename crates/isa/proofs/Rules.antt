@@ -9,9 +9,9 @@ use lib.Dec.{leb, ltb, eqb}
 use lib.ListN.{length}
 use borrow.Author.Tests.{leb-true, ltb-true, le-leb, lt-leb, ne-eqb}
 use Rattle.word.specs.Choice.{if_then_else_}
-use Rattle.isa.specs.Operation.{operationOf, Width, w16, w32, widthBy, Availability, anywhere, wideOnly, superOnly, unavailable, codeOf, properties}
+use Rattle.isa.specs.Operation.{operationOf, Width, w16, w32, widthBy, Availability, anywhere, wideOnly, superOnly, unavailable, codeOf, Straight, properties}
 use Rattle.isa.specs.Computed.{instructions}
-use Rattle.isa.specs.Theorems.{Numbered, between, ConditionalIs, TransferIs, nopsBy, NopsAre, codeAt, codeBy, UnavailableIs}
+use Rattle.isa.specs.Theorems.{Numbered, between, ConditionalIs, TransferIs, nopsBy, NopsAre, flowBy, FlowIs, codeAt, codeBy, UnavailableIs}
 use Rattle.isa.proofs.Table.{values, agree, by-number}
 
 -- no number past high is one of low to high
@@ -48,6 +48,15 @@ nops-are = by-number (λ o. properties o .nops) nopsBy refl high
   where
     high : (n : ℕ) → 64 ≤ n → nopsBy n ≡ 0
     high n h = rw (ne-eqb n 48 (λ e. omega arith), ne-eqb n 49 (λ e. omega arith), ne-eqb n 50 (λ e. omega arith), ne-eqb n 54 (λ e. omega arith))
+
+pub flow-is : FlowIs
+unfolding instructions values if_then_else_
+flow-is = by-number (λ o. properties o .flow) flowBy refl high
+  where
+    high : (n : ℕ) → 64 ≤ n → flowBy n ≡ Straight
+    high n h =
+        rw (ne-eqb n 36 (λ e. omega arith), ne-eqb n 37 (λ e. omega arith), ne-eqb n 38 (λ e. omega arith), ne-eqb n 39 (λ e. omega arith), not-between 40 47 n (omega arith),
+        ne-eqb n 48 (λ e. omega arith), ne-eqb n 49 (λ e. omega arith), ne-eqb n 50 (λ e. omega arith), ne-eqb n 54 (λ e. omega arith), ne-eqb n 55 (λ e. omega arith))
 
 -- at most three
 pub nops-few : (n : ℕ) → properties (operationOf n) .nops < 4

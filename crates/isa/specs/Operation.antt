@@ -1,4 +1,4 @@
--- The operations, one row for each (01 "Operations", "Never conditional", "Super user only", stop 13; 02 wishes 1 and 8; mnemonics: 002 section 6.2).
+-- The operations, one row for each (01 "Operations", "Never conditional", "Super user only", stop 13; 02 wishes 1, 8 and 13; mnemonics: 002 section 6.2).
 -- Assumes nothing.
 use mathlib.Core.Bool.{Bool, true, false}
 use mathlib.Core.List.{List, [], _∷_}
@@ -83,6 +83,13 @@ unfoldable pub codeOf : Option ℕ → ℕ
 codeOf none = 0
 codeOf (some code) = code
 
+-- how an operation goes on (02, wish 13, which says where from each)
+pub data Flow : Type 0 where
+  Straight : Flow  -- with the next word
+  ImmediateJump ImmediateLink RegisterJump RegisterLink : Flow  -- jmp, jal, jmpr, jalr
+  ConditionalBranch : Flow  -- 40 to 47
+  SystemCall UserReturn InterruptReturn WidthSwitch ExceptionEntry : Flow  -- scall, retu, reti, swm, trap
+
 pub record Properties : Type 0 where
   pub number : ℕ
   pub mnemonic : List ℕ  -- its bytes
@@ -91,27 +98,33 @@ pub record Properties : Type 0 where
   pub availability : Availability
   pub transfer : Bool  -- a control transfer, which stops with 13 in a branch slot
   pub nops : ℕ  -- how many nops must follow it (002 section 6.2)
+  pub flow : Flow
 
 -- rows of the table: of operations that may be conditional, that never are, and of control transfers of both kinds
 abbrev optional : ℕ → String → Form → Properties
-optional n m f = record { number = n; mnemonic = bytes m; form = f; conditional = true; availability = anywhere; transfer = false; nops = 0 }
+optional n m f = record { number = n; mnemonic = bytes m; form = f; conditional = true; availability = anywhere; transfer = false; nops = 0; flow = Straight }
 
 abbrev always : ℕ → String → Form → Availability → Properties
-always n m f a = record { number = n; mnemonic = bytes m; form = f; conditional = false; availability = a; transfer = false; nops = 0 }
+always n m f a = record { number = n; mnemonic = bytes m; form = f; conditional = false; availability = a; transfer = false; nops = 0; flow = Straight }
 
-abbrev optionalTransfer : ℕ → String → Form → Properties
-optionalTransfer n m f = record { number = n; mnemonic = bytes m; form = f; conditional = true; availability = anywhere; transfer = true; nops = 0 }
+abbrev optionalTransfer : ℕ → String → Form → Flow → Properties
+optionalTransfer n m f to = record { number = n; mnemonic = bytes m; form = f; conditional = true; availability = anywhere; transfer = true; nops = 0; flow = to }
 
-abbrev alwaysTransfer : ℕ → String → Form → Availability → Properties
-alwaysTransfer n m f a = record { number = n; mnemonic = bytes m; form = f; conditional = false; availability = a; transfer = true; nops = 0 }
+abbrev alwaysTransfer : ℕ → String → Form → Availability → Flow → Properties
+alwaysTransfer n m f a to = record { number = n; mnemonic = bytes m; form = f; conditional = false; availability = a; transfer = true; nops = 0; flow = to }
 
 -- a row with so many nops
 abbrev followedBy : ℕ → Properties → Properties
 followedBy n p =
-    record { number = p .number; mnemonic = p .mnemonic; form = p .form; conditional = p .conditional; availability = p .availability; transfer = p .transfer; nops = n }
+    record { number = p .number; mnemonic = p .mnemonic; form = p .form; conditional = p .conditional; availability = p .availability; transfer = p .transfer; nops = n; flow = p .flow }
+
+-- a row with this flow, of an operation that is no control transfer
+abbrev leadingTo : Flow → Properties → Properties
+leadingTo to p =
+    record { number = p .number; mnemonic = p .mnemonic; form = p .form; conditional = p .conditional; availability = p .availability; transfer = p .transfer; nops = p .nops; flow = to }
 
 -- the table: each operation's number, mnemonic, operands, whether it may be conditional, where it is available, whether it is a control transfer,
--- and how many nops must follow it: "the nops after swm, scall, retu and reti" (02, wish 8), "two, one, one, three"
+-- how many nops must follow it: "the nops after swm, scall, retu and reti" (02, wish 8), "two, one, one, three"; and how it goes on
 unfoldable pub properties : Operation → Properties
 properties nop = always 0 "nop" NoOperands anywhere
 properties add = optional 1 "add" ThreeRegisters
@@ -149,26 +162,26 @@ properties cmp = always 32 "cmp" CompareRegisters anywhere
 properties cmpi = always 33 "cmpi" CompareImmediate anywhere
 properties lli = always 34 "lli" Halfword wideOnly
 properties lui = always 35 "lui" Halfword wideOnly
-properties jmp = alwaysTransfer 36 "jmp" Jump anywhere
-properties jal = alwaysTransfer 37 "jal" Jump anywhere
-properties jmpr = optionalTransfer 38 "jmpr" Source
-properties jalr = optionalTransfer 39 "jalr" Source
-properties bc = alwaysTransfer 40 "bc" Branch anywhere
-properties begt = alwaysTransfer 41 "begt" Branch anywhere
-properties belt = alwaysTransfer 42 "belt" Branch anywhere
-properties beq = alwaysTransfer 43 "beq" Branch anywhere
-properties bgt = alwaysTransfer 44 "bgt" Branch anywhere
-properties blt = alwaysTransfer 45 "blt" Branch anywhere
-properties bne = alwaysTransfer 46 "bne" Branch anywhere
-properties bnc = alwaysTransfer 47 "bnc" Branch anywhere
-properties scall = followedBy 1 (optionalTransfer 48 "scall" NoOperands)
-properties retu = followedBy 1 (alwaysTransfer 49 "retu" NoOperands superOnly)
-properties reti = followedBy 3 (alwaysTransfer 50 "reti" NoOperands anywhere)
+properties jmp = alwaysTransfer 36 "jmp" Jump anywhere ImmediateJump
+properties jal = alwaysTransfer 37 "jal" Jump anywhere ImmediateLink
+properties jmpr = optionalTransfer 38 "jmpr" Source RegisterJump
+properties jalr = optionalTransfer 39 "jalr" Source RegisterLink
+properties bc = alwaysTransfer 40 "bc" Branch anywhere ConditionalBranch
+properties begt = alwaysTransfer 41 "begt" Branch anywhere ConditionalBranch
+properties belt = alwaysTransfer 42 "belt" Branch anywhere ConditionalBranch
+properties beq = alwaysTransfer 43 "beq" Branch anywhere ConditionalBranch
+properties bgt = alwaysTransfer 44 "bgt" Branch anywhere ConditionalBranch
+properties blt = alwaysTransfer 45 "blt" Branch anywhere ConditionalBranch
+properties bne = alwaysTransfer 46 "bne" Branch anywhere ConditionalBranch
+properties bnc = alwaysTransfer 47 "bnc" Branch anywhere ConditionalBranch
+properties scall = followedBy 1 (optionalTransfer 48 "scall" NoOperands SystemCall)
+properties retu = followedBy 1 (alwaysTransfer 49 "retu" NoOperands superOnly UserReturn)
+properties reti = followedBy 3 (alwaysTransfer 50 "reti" NoOperands anywhere InterruptReturn)
 properties chrs = always 51 "chrs" (LowBits 2) superOnly
 properties di = always 52 "di" NoOperands anywhere
 properties ei = always 53 "ei" NoOperands anywhere
-properties swm = followedBy 2 (alwaysTransfer 54 "swm" (LowBits 1) anywhere)
-properties trap = always 55 "trap" (LowBits 5) anywhere
+properties swm = followedBy 2 (alwaysTransfer 54 "swm" (LowBits 1) anywhere WidthSwitch)
+properties trap = leadingTo ExceptionEntry (always 55 "trap" (LowBits 5) anywhere)
 properties scon = always 56 "scon" Destination anywhere
 properties rcon = always 57 "rcon" Source anywhere
 properties conb = optional 58 "conb" ThreeRegisters

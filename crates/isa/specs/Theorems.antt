@@ -8,7 +8,7 @@ use lib.Dec.{leb, eqb}
 use lib.IntN.{pos}
 use Rattle.word.specs.Choice.{if_then_else_}
 use Rattle.word.specs.Word.{bits_to_, fieldOf, bitAt}
-use Rattle.isa.specs.Operation.{operationOf, Width, w16, w32, widthBy, unavailable, codeOf, properties}
+use Rattle.isa.specs.Operation.{operationOf, Width, w16, w32, widthBy, unavailable, codeOf, Flow, Straight, ImmediateJump, ImmediateLink, RegisterJump, RegisterLink, ConditionalBranch, SystemCall, UserReturn, InterruptReturn, WidthSwitch, ExceptionEntry, properties}
 use Rattle.isa.specs.Text.{bytes}
 use Rattle.isa.specs.Condition.{conditionOf, nameOf}
 use Rattle.isa.specs.Format.{hasBit, Role, Dreg, Sreg1, Sreg2, Creg, Imm, Length, Position, layoutOf}
@@ -41,6 +41,24 @@ nopsBy n = if eqb n 50 then 3 else if eqb n 54 then 2 else if eqb n 48 || eqb n 
 
 abbrev pub NopsAre : Type 0
 NopsAre = (n : ℕ) → properties (operationOf n) .nops ≡ nopsBy n
+
+-- "jmp and jal, jmpr, jalr and scall .., retu, reti, swm, trap", "Jumps 36 to 39", "branches" (02, wish 13), by their numbers
+abbrev pub flowBy : (n : ℕ) → Flow
+flowBy n =
+    if eqb n 36 then ImmediateJump
+    else if eqb n 37 then ImmediateLink
+    else if eqb n 38 then RegisterJump
+    else if eqb n 39 then RegisterLink
+    else if between 40 47 n then ConditionalBranch
+    else if eqb n 48 then SystemCall
+    else if eqb n 49 then UserReturn
+    else if eqb n 50 then InterruptReturn
+    else if eqb n 54 then WidthSwitch
+    else if eqb n 55 then ExceptionEntry
+    else Straight
+
+abbrev pub FlowIs : Type 0
+FlowIs = (n : ℕ) → properties (operationOf n) .flow ≡ flowBy n
 
 -- the code of the exception where an operation may not be used, 0 where it may
 abbrev pub codeAt : Width → (user : Bool) (n : ℕ) → ℕ

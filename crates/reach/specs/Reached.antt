@@ -1,0 +1,27 @@
+-- The words that can be reached (02 wish 13): what a reader has to believe of them, whatever way they are found. Assumes nothing.
+use mathlib.Core.Path.{_≡_}
+use mathlib.Core.Logic.{_⊎_}
+use mathlib.Core.List.{List, [], _∷_}
+use Prim.Native.Nat.{ℕ}
+use Rattle.isa.specs.Operation.{Width}
+use Rattle.reach.specs.Leads.{leads, slots}
+
+-- b is an element of a list
+abbrev pub Among : (b : ℕ) → List ℕ → Type 0
+Among b [] = ⊥
+Among b (a ∷ as) = (b ≡ a) ⊎ Among b as
+
+-- b is reached in full: it is the start, or a word that is reached in full leads to it
+pub data Reached (leads : ℕ → List ℕ) (start : ℕ) : ℕ → Type 0 where
+  first : Reached leads start start
+  further : {a b : ℕ} → Reached leads start a → Among b (leads a) → Reached leads start b
+
+-- b is a slot of a word that is reached in full; "a word reached only as a slot leads nowhere"
+pub record SlotReached (leads slots : ℕ → List ℕ) (start b : ℕ) : Type 0 where
+  pub word : ℕ
+  pub reached : Reached leads start word
+  pub slot : Among b (slots word)
+
+-- "the words reachable from a start address in one width"
+abbrev pub Reachable : Width → (program : List ℕ) (start b : ℕ) → Type 0
+Reachable width program start b = Reached (leads width program) start b ⊎ SlotReached (leads width program) (slots width program) start b
