@@ -166,13 +166,14 @@ uint64_t coffee_encode(
  *
  * program   bytes, high byte of a word first; bytes after the last whole word belong to none
  * wide      0: 16-bit words; any other number: 32-bit words
- * start     the address of the first word
+ * start     the address of the word to start from
  * map       at least as many bytes as the program has
  *
  * A word that is reached leads to the next one, unless it is jmp, jal, retu, reti, swm or trap, or jmpr, jalr or scall without a condition. jmp,
- * jal and branches lead to their target; jal, jalr and scall to the word two on, and a swm that keeps the width to the word three on. A word is
- * also reached, but leads nowhere, as a slot: the one after jmp, jal, jmpr, jalr, scall and retu, the two after swm, the three after reti. Only
- * aligned words wholly in the program are reached. What a register, a vector or the hardware stack says is not followed.
+ * jal and branches lead to their target, the next word's address plus twice the immediate; jal, jalr and scall to the word two on, and a swm that
+ * keeps the width to the word three on. A word is reached as a slot, too: the one after jmp, jal, jmpr, jalr, scall and retu, the two after swm,
+ * the three after reti; a word reached only so leads nowhere. Only aligned words wholly in the program are reached. What a register, a vector or
+ * the hardware stack says is not followed.
  *
  * Takes up to 140 KB of stack.
  *

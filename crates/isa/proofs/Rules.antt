@@ -55,8 +55,18 @@ flow-is = by-number (λ o. properties o .flow) flowBy refl high
   where
     high : (n : ℕ) → 64 ≤ n → flowBy n ≡ Straight
     high n h =
-        rw (ne-eqb n 36 (λ e. omega arith), ne-eqb n 37 (λ e. omega arith), ne-eqb n 38 (λ e. omega arith), ne-eqb n 39 (λ e. omega arith), not-between 40 47 n (omega arith),
-        ne-eqb n 48 (λ e. omega arith), ne-eqb n 49 (λ e. omega arith), ne-eqb n 50 (λ e. omega arith), ne-eqb n 54 (λ e. omega arith), ne-eqb n 55 (λ e. omega arith))
+        rw (
+          ne-eqb n 36 (λ e. omega arith),
+          ne-eqb n 37 (λ e. omega arith),
+          ne-eqb n 38 (λ e. omega arith),
+          ne-eqb n 39 (λ e. omega arith),
+          not-between 40 47 n (omega arith),
+          ne-eqb n 48 (λ e. omega arith),
+          ne-eqb n 49 (λ e. omega arith),
+          ne-eqb n 50 (λ e. omega arith),
+          ne-eqb n 54 (λ e. omega arith),
+          ne-eqb n 55 (λ e. omega arith),
+        )
 
 -- at most three
 pub nops-few : (n : ℕ) → properties (operationOf n) .nops < 4

@@ -9,6 +9,7 @@ use Rattle.word.specs.Choice.{if_then_else_}
 use Rattle.word.specs.Word.{wordOf}
 use Rattle.isa.specs.Operation.{operationOf, Width, w16, w32, Flow, Straight, ImmediateJump, ImmediateLink, RegisterJump, RegisterLink, ConditionalBranch, SystemCall, UserReturn, InterruptReturn, WidthSwitch, ExceptionEntry, properties}
 use Rattle.isa.specs.Decode.{wordBytes, wordAt, opcodeOf, decode}
+use Rattle.isa.specs.declared.Instruction.{Instruction}
 
 -- ---- words
 
@@ -19,8 +20,8 @@ isWord width size a = eqb (a % wordBytes width) 0 && leb (a + wordBytes width) s
 -- those of a list of addresses at which there is a word; at one below 0 there is none
 unfoldable pub wordsAmong : Width → (size : ℕ) → List ℤ → List ℕ
 wordsAmong width size [] = []
-wordsAmong width size (pos a ∷ as) = if isWord width size a then a ∷ wordsAmong width size as else wordsAmong width size as
-wordsAmong width size (negsuc n ∷ as) = wordsAmong width size as
+wordsAmong width size (pos a ∷ zs) = if isWord width size a then a ∷ wordsAmong width size zs else wordsAmong width size zs
+wordsAmong width size (negsuc n ∷ zs) = wordsAmong width size zs
 
 -- ---- by the flow of a word's operation
 
@@ -94,18 +95,25 @@ unfoldable pub given : Bool → ℤ → List ℤ
 given true a = a ∷ []
 given false a = []
 
--- the words to which the word at an address leads in full: the next one, its target, "the slot's address plus twice the signed immediate" (01),
--- and the one at which it goes on later
+-- the next word, if the instruction at an address leads there
+unfoldable pub nextOf : Width → Instruction → (address : ℕ) → List ℤ
+nextOf width i a = given (goesOn (properties (operationOf (i .opcode)) .flow) (i .conditional)) (pos (a + wordBytes width))
+
+-- its target: "the slot's address plus twice the signed immediate" (01)
+unfoldable pub targetOf : Width → Instruction → (address : ℕ) → List ℤ
+targetOf width i a = given (hasTarget (properties (operationOf (i .opcode)) .flow)) (pos (a + wordBytes width) +ℤ i .immediate *ℤ pos 2)
+
+-- where it goes on later
+unfoldable pub returnOf : Width → Instruction → (address : ℕ) → List ℤ
+returnOf width i a =
+    let words = returnWords (properties (operationOf (i .opcode)) .flow) (keepsWidth width (i .immediate)) in
+    given (not (eqb words 0)) (pos (a + words * wordBytes width))
+
+-- the words to which the word at an address leads in full
 unfoldable pub leads : Width → (program : List ℕ) (address : ℕ) → List ℕ
 leads width program a =
     let i = decode width (wordAt width program a) in
-    let flow = properties (operationOf (i .opcode)) .flow in
-    let next = a + wordBytes width in
-    let words = returnWords flow (keepsWidth width (i .immediate)) in
-    wordsAmong width (length program)
-    (given (goesOn flow (i .conditional)) (pos next)
-    ++ given (hasTarget flow) (pos next +ℤ i .immediate *ℤ pos 2)
-    ++ given (not (eqb words 0)) (pos (a + words * wordBytes width)))
+    wordsAmong width (length program) (nextOf width i a ++ targetOf width i a ++ returnOf width i a)
 
 -- the next `count` addresses of words, after one
 unfoldable pub nextAddresses : Width → (address count : ℕ) → List ℤ
@@ -120,5 +128,5 @@ slots width program a =
 
 -- to unfold all of these
 unfoldable pub leading : Unit {0}
-unfolding isWord wordsAmong goesOn hasTarget returnWords slotWords keepsWidth given leads nextAddresses slots
+unfolding isWord wordsAmong goesOn hasTarget returnWords slotWords keepsWidth given nextOf targetOf returnOf leads nextAddresses slots
 leading = tt

@@ -3,4 +3,5 @@ pub mod Leads
 pub mod Reached
 pub mod Search
 pub mod Call
+pub mod Theorems
 pub mod Computed

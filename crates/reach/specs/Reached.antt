@@ -9,7 +9,7 @@ use Rattle.reach.specs.Leads.{leads, slots}
 -- b is an element of a list
 abbrev pub Among : (b : ℕ) → List ℕ → Type 0
 Among b [] = ⊥
-Among b (a ∷ as) = (b ≡ a) ⊎ Among b as
+Among b (a ∷ s) = (b ≡ a) ⊎ Among b s
 
 -- b is reached in full: it is the start, or a word that is reached in full leads to it
 pub data Reached (leads : ℕ → List ℕ) (start : ℕ) : ℕ → Type 0 where

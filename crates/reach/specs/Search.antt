@@ -1,9 +1,13 @@
 -- A search that finds what is reached in full, and a pass that adds the slots. Assumes nothing.
+use mathlib.Core.Path.{_≡_}
+use mathlib.Core.Bool.{true}
 use mathlib.Core.List.{List, [], _∷_, _++_}
 use Prim.Native.Nat.{ℕ, zero, suc}
 use lib.Dec.{ltb, eqb}
 use lib.ListN.{length, getD, set, replicate, take}
 use Rattle.word.specs.Choice.{if_then_else_}
+use Rattle.isa.specs.Operation.{Width}
+use Rattle.reach.specs.Leads.{isWord}
 
 -- ---- what is reached in full
 
@@ -51,6 +55,10 @@ withSlotsOf slots a m = if eqb (getD m a 0) 1 then markAll (slots a) m else m
 unfoldable pub withSlots : (slots : ℕ → List ℕ) (count : ℕ) (marks : List ℕ) → List ℕ
 withSlots slots zero m = m
 withSlots slots (suc a) m = withSlots slots a (withSlotsOf slots a m)
+
+-- every mark is that of a word
+abbrev pub MarksWords : Width → (size : ℕ) (marks : List ℕ) → Type 0
+MarksWords width size m = (a : ℕ) → getD m a 0 ≡ 1 → isWord width size a ≡ true
 
 -- to unfold all of these
 unfoldable pub searching : Unit {0}

@@ -1,14 +1,17 @@
 // The words of a program that can be reached from a start address, in one width.
 ghost use mathlib.Core.Path.{_≡_};
 ghost use mathlib.Core.Bool.{true};
+ghost use mathlib.Core.List.{[], _∷_};
 ghost use Prim.Native.Nat.{_+_, _≤_, _<_};
+ghost use lib.IntN.{pos};
 ghost use lib.ListN.{length, replicate};
 ghost use Rattle.isa.specs.Operation.{operationOf, widthBy, properties};
 ghost use Rattle.isa.specs.Decode.{wordBytes};
 ghost use Rattle.machine.specs.Machine.{MOST-MEMORY};
-ghost use Rattle.reach.specs.Leads.{isWord, wordsAmong, given, goesOn, hasTarget, keepsWidth, returnWords, slotWords, leads, slots};
-ghost use Rattle.reach.specs.Search.{visit, visitAll, searched, searchBy, markAll, withSlots};
+ghost use Rattle.reach.specs.Leads.{isWord, wordsAmong, goesOn, hasTarget, returnWords, slotWords, keepsWidth, given, nextOf, targetOf, returnOf, leads, nextAddresses, slots};
+ghost use Rattle.reach.specs.Search.{visit, visitAll, searched, searchBy, markAll, withSlotsOf, withSlots, MarksWords};
 ghost use Rattle.reach.specs.Call.{reachedMap, mapped, reachCall};
+use isa::Instruction;
 
 // Room for every address of a program, and for those that one word leads to besides.
 const QUEUE: usize = 65_540;
@@ -60,14 +63,18 @@ fn return_words(op: u32, keeps: bool) -> u32
     }
 }
 
-// How many of the words after an instruction are its slots.
+// How many of the words after an instruction are its slots. To call `isa::nops_after` here would change the code of a step.
 fn slot_words(op: u32) -> u32
     ensures { λ r. ⌜ r ≡ slotWords (properties (operationOf op) .flow) (properties (operationOf op) .nops) ⌝ }
 {
-    if (36 <= op) & (op <= 39) {
+    if (36 <= op) & (op <= 39) | (48 <= op) & (op <= 49) {
         1
+    } else if op == 54 {
+        2
+    } else if op == 50 {
+        3
     } else {
-        isa::nops_after(op)
+        0
     }
 }
 
@@ -101,6 +108,58 @@ fn lead(map: &mut [u8], queue: &mut [u16], wide: bool, count: usize, leads: bool
     count
 }
 
+// Visits the word after an instruction at an address, if it leads there.
+fn lead_next(
+    map: &mut [u8],
+    queue: &mut [u16],
+    wide: bool,
+    count: usize,
+    i: Instruction,
+    a: u32,
+) -> usize
+    requires { ⌜ (length (now map) ≤ MOST-MEMORY) × (count < length (now queue)) × (a ≤ MOST-MEMORY) ⌝ }
+    ensures { λ r. ⌜ searchBy r (now (map .exit)) (now (queue .exit)) ≡ visitAll (wordsAmong (widthBy wide) (length (now (map .entry))) (nextOf (widthBy wide) i a)) (searchBy count (now (map .entry)) (now (queue .entry))) ⌝ }
+{
+    let next = a + isa::word_bytes(wide);
+    let leads = goes_on(i.opcode, i.conditional);
+    lead(map, queue, wide, count, leads, next as i64)
+}
+
+// Visits its target.
+fn lead_target(
+    map: &mut [u8],
+    queue: &mut [u16],
+    wide: bool,
+    count: usize,
+    i: Instruction,
+    a: u32,
+) -> usize
+    requires { ⌜ (length (now map) ≤ MOST-MEMORY) × (count < length (now queue)) × (a ≤ MOST-MEMORY) ⌝ }
+    ensures { λ r. ⌜ searchBy r (now (map .exit)) (now (queue .exit)) ≡ visitAll (wordsAmong (widthBy wide) (length (now (map .entry))) (targetOf (widthBy wide) i a)) (searchBy count (now (map .entry)) (now (queue .entry))) ⌝ }
+{
+    let next = a + isa::word_bytes(wide);
+    let target = word::jump_target(next, i.immediate);
+    let leads = has_target(i.opcode);
+    lead(map, queue, wide, count, leads, target)
+}
+
+// Visits the word at which it goes on later.
+fn lead_return(
+    map: &mut [u8],
+    queue: &mut [u16],
+    wide: bool,
+    count: usize,
+    i: Instruction,
+    a: u32,
+) -> usize
+    requires { ⌜ (length (now map) ≤ MOST-MEMORY) × (count < length (now queue)) × (a ≤ MOST-MEMORY) ⌝ }
+    ensures { λ r. ⌜ searchBy r (now (map .exit)) (now (queue .exit)) ≡ visitAll (wordsAmong (widthBy wide) (length (now (map .entry))) (returnOf (widthBy wide) i a)) (searchBy count (now (map .entry)) (now (queue .entry))) ⌝ }
+{
+    let words = return_words(i.opcode, keeps_width(wide, i.immediate));
+    let later = a + words * isa::word_bytes(wide);
+    lead(map, queue, wide, count, words != 0, later as i64)
+}
+
 // Visits what the word at an address leads to.
 fn expand(
     program: &[u8],
@@ -114,12 +173,9 @@ fn expand(
     ensures { λ r. ⌜ searchBy r (now (map .exit)) (now (queue .exit)) ≡ visitAll (leads (widthBy wide) (now (program .entry)) a) (searchBy count (now (map .entry)) (now (queue .entry))) ⌝ }
 {
     let i = isa::decode(isa::word_at(program, wide, a), wide);
-    let bytes = isa::word_bytes(wide);
-    let next = a as u32 + bytes;
-    let words = return_words(i.opcode, keeps_width(wide, i.immediate));
-    let n = lead(map, queue, wide, count, goes_on(i.opcode, i.conditional), next as i64);
-    let m = lead(map, queue, wide, n, has_target(i.opcode), word::jump_target(next, i.immediate));
-    lead(map, queue, wide, m, words != 0, (a as u32 + words * bytes) as i64)
+    let n = lead_next(map, queue, wide, count, i, a as u32);
+    let m = lead_target(map, queue, wide, n, i, a as u32);
+    lead_return(map, queue, wide, m, i, a as u32)
 }
 
 // Marks what is reached in full from a start address, in a map of zeros.
@@ -140,27 +196,43 @@ fn search(program: &[u8], wide: bool, start: u32, map: &mut [u8])
 // ---- slots
 
 // Marks an address where there is a word.
-fn mark(map: &mut [u8], wide: bool, b: u32) {
+fn mark(map: &mut [u8], wide: bool, b: u32)
+    ensures { λ _. ⌜ now (map .exit) ≡ markAll (wordsAmong (widthBy wide) (length (now (map .entry))) (pos b ∷ [])) (now (map .entry)) ⌝ }
+{
     if is_word(wide, map.len(), b) {
         map[b as usize] = 1;
     }
 }
 
+// Marks the next words after an address, `count` of them, where they are words.
+fn mark_next(map: &mut [u8], wide: bool, a: u32, count: u32)
+    requires { ⌜ (a ≤ MOST-MEMORY) × (count < 4) ⌝ }
+    ensures { λ _. ⌜ now (map .exit) ≡ markAll (wordsAmong (widthBy wide) (length (now (map .entry))) (nextAddresses (widthBy wide) a count)) (now (map .entry)) ⌝ }
+{
+    let bytes = isa::word_bytes(wide);
+    let mut b = a;
+    for k in 0..count {
+        b += bytes;
+        mark(map, wide, b);
+    }
+}
+
 // Marks the slots of the word at an address, if it is marked.
-fn mark_slots_at(program: &[u8], wide: bool, map: &mut [u8], a: usize) {
+fn mark_slots_at(program: &[u8], wide: bool, map: &mut [u8], a: usize)
+    requires { ⌜ (a < length (now map)) × (length (now map) ≡ length (now program)) × (length (now program) ≤ MOST-MEMORY) × MarksWords (widthBy wide) (length (now program)) (now map) ⌝ }
+    ensures { λ _. ⌜ now (map .exit) ≡ withSlotsOf (slots (widthBy wide) (now (program .entry))) a (now (map .entry)) ⌝ }
+{
     if map[a] == 1 {
-        let bytes = isa::word_bytes(wide);
-        let count = slot_words(isa::opcode(isa::word_at(program, wide, a), wide));
-        let mut b = a as u32;
-        for _k in 0..count {
-            b += bytes;
-            mark(map, wide, b);
-        }
+        let op = isa::opcode(isa::word_at(program, wide, a), wide);
+        mark_next(map, wide, a as u32, slot_words(op));
     }
 }
 
 // Marks the slots of what is marked, from the highest address down, so that a mark made here is never looked at.
-fn mark_slots(program: &[u8], wide: bool, map: &mut [u8]) {
+fn mark_slots(program: &[u8], wide: bool, map: &mut [u8])
+    requires { ⌜ (length (now map) ≡ length (now program)) × (length (now program) ≤ MOST-MEMORY) × MarksWords (widthBy wide) (length (now program)) (now map) ⌝ }
+    ensures { λ _. ⌜ now (map .exit) ≡ withSlots (slots (widthBy wide) (now (program .entry))) (length (now (map .entry))) (now (map .entry)) ⌝ }
+{
     let mut a = map.len();
     while 0 < a {
         a -= 1;

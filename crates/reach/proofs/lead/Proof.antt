@@ -1,0 +1,72 @@
+-- `reach::lead` meets its contract: by whether the word leads there, and there is a word. Assumes nothing.
+use mathlib.Core.Path.{_≡_, sym, ap, _∙_}
+use mathlib.Core.Bool.{Bool, true, false, _&&_}
+use Prim.Native.Nat.{ℕ}
+use native.Mathlib.Omega.{arith}
+use lib.ListN.{length}
+use borrow.Author.Needs.{needs}
+use mir.Facts.{toZ-ofZ}
+use Rattle.word.specs.Word.{wordOf, isAddress}
+use Rattle.isa.specs.Operation.{widthBy}
+use Rattle.reach.specs.Leads.{isWord}
+use Rattle.reach.specs.Search.{Search, visit, searchBy}
+use Rattle.reach.proofs.Words.{inside}
+use Rattle.reach.proofs.Queue.{lead-visit, lead-absent, lead-outside}
+use Rattle.reach.proofs.lead.Statement.{statement}
+use Rattle.reach.proofs.lead.Tie as tie
+
+-- the test, of the address itself
+tested : (c : tie.After-is-address) → let args = c .before .before .before .args in args .leads && c .is-address .result ≡ args .leads && isAddress (args .to)
+tested c =
+    let start = c .before .before .before in
+    ap (λ (t : Bool). start .args .leads && t) (rw (toZ-ofZ (start .fits .to)) at (c .is-address .ensures))
+
+-- the address as a word, and whether there is one
+low : (c : tie.After-is-word) → c .before .low-word .result ≡ wordOf 32 (c .before .before .before .before .before .before .args .to)
+low c = rw (toZ-ofZ (c .before .before .before .before .before .before .fits .to)) at (c .before .low-word .ensures)
+
+there : (c : tie.After-is-word) → let args = c .before .before .before .before .before .before .args in
+    c .is-word .result ≡ isWord (widthBy (args .wide)) (length (args .map .now)) (wordOf 32 (args .to))
+there c =
+    let args = c .before .before .before .before .before .before .args in
+    c .is-word .ensures ∙ ap (isWord (widthBy (args .wide)) (length (args .map .now))) (low c)
+
+visit-requires : tie.Need-visit-requires
+visit-requires c κs =
+    let asked = c .before .before .before in
+    let args = asked .before .before .before .before .before .before .args in
+    (inside (widthBy (args .wide)) (length (args .map .now)) (asked .before .low-word .result) (sym (asked .is-word .ensures) ∙ c .before .before .if2 .taken), search needs, search needs)
+
+returns : tie.Need-returns
+returns c =
+    let asked = c .before .before .before .before .before .before .before .before in
+    let args = asked .before .before .before .before .before .before .args in
+    let addressed = asked .before .before .before in
+    let s = searchBy (args .count) (args .map .now) (args .queue .now) in
+    c .before .before .before .before .visit .ensures
+    ∙ ap (λ (b : ℕ). visit b s) (low asked)
+    ∙ lead-visit (widthBy (args .wide)) (length (args .map .now)) s (args .leads) (args .to) (sym (tested addressed) ∙ asked .before .before .if1 .taken) (sym (there asked) ∙ c .before .before .before .before .before .before .before .if2 .taken)
+
+returns-2 : tie.Need-returns-2
+returns-2 c =
+    let asked = c .before in
+    let args = asked .before .before .before .before .before .before .args in
+    let addressed = asked .before .before .before in
+    lead-absent (widthBy (args .wide)) (length (args .map .now)) (searchBy (args .count) (args .map .now) (args .queue .now)) (args .leads) (args .to) (sym (tested addressed) ∙ asked .before .before .if1 .taken) (sym (there asked) ∙ c .if2 .left)
+
+returns-3 : tie.Need-returns-3
+returns-3 c =
+    let start = c .before .before .before .before in
+    let args = start .args in
+    lead-outside (widthBy (args .wide)) (length (args .map .now)) (searchBy (args .count) (args .map .now) (args .queue .now)) (args .leads) (args .to) (start .pre .0) (sym (tested (c .before)) ∙ c .if1 .left)
+
+pub lead-spec : {M : Type 1} → statement M
+lead-spec =
+    tie.close
+    (tie.spec
+    (λ c κs. search needs) (λ c κs. search needs) (λ c κs. search needs) (λ c. search needs)
+    visit-requires
+    (λ c. search needs) (λ c. search needs)
+    returns
+    returns-2
+    returns-3)
