@@ -3,6 +3,9 @@
 //     bench                     checks that both agree, then prints nanoseconds per step of each
 //     bench scenes              prints the names of the scenes, in their order from 0
 //     bench listing             prints the library's milliseconds for a listing of the longest program
+//     bench encode              prints the library's nanoseconds for a word
+//     bench reach               prints the library's milliseconds for a map of what can be reached in the longest
+//                               program
 //     bench SIDE N              one call of scene N on one side, library or baseline, for a profiler;
 //                               SCENES is a call with limit 0
 //
@@ -291,15 +294,21 @@ static void measure_short(const struct scene *s, double best[SIDES])
     }
 }
 
+// Fills a program with random bytes.
+static void fill_random(uint8_t *program, size_t len)
+{
+    uint32_t random = 1;
+    for (size_t i = 0; i < len; i++) {
+        random = random * 1664525 + 1013904223;
+        program[i] = (uint8_t)(random >> 24);
+    }
+}
+
 // Times listings of random words, as many as there can be, in each width: the best milliseconds.
 static int measure_listing(void)
 {
     static uint8_t program[COFFEE_MEMORY_MAX], text[COFFEE_MEMORY_MAX / 2 * COFFEE_LINE];
-    uint32_t random = 1;
-    for (size_t i = 0; i < sizeof program; i++) {
-        random = random * 1664525 + 1013904223;
-        program[i] = (uint8_t)(random >> 24);
-    }
+    fill_random(program, sizeof program);
     for (uint32_t wide = 0; wide <= 1; wide++) {
         double best = 1e30;
         for (int turn = 0; turn < ROUNDS; turn++) {
@@ -333,6 +342,59 @@ static int measure_encode(void)
     return 0;
 }
 
+// Programs in which reachable words are searched: nops; random bytes; branches, each to one of the 256 words
+// around it; and calls, each of the word in its slot (jal 0), so that a word leads to the next one as target and
+// as slot, and to the one after it. From 0 every word of them is reached, but for random bytes.
+enum { NOPS, RANDOM_BYTES, BRANCHES, CALLS, SEARCHES };
+
+static const char *const search_names[SEARCHES] = { "nops", "random bytes", "branches", "calls" };
+
+// Makes such a program, in words of so many bytes.
+static void make_search(int kind, size_t bytes, uint8_t *program, size_t len)
+{
+    fill_random(program, len);
+    if (kind == RANDOM_BYTES)
+        return;
+    for (size_t at = 0; at < len; at += bytes) {
+        // An immediate counts in halves of a 32-bit word.
+        uint32_t immediate = ((uint32_t)program[at] - 128) * (uint32_t)(bytes / 2);
+        uint32_t branch = bytes == 4 ? 0xA0000000 | (immediate & 0x3FFFFF) : 0xA000 | (immediate & 0x3FF);
+        uint32_t call = bytes == 4 ? 0x94000000 : 0x9400;
+        uint32_t word = kind == BRANCHES ? branch : kind == CALLS ? call : 0;
+        for (size_t i = 0; i < bytes; i++)
+            program[at + i] = (uint8_t)(word >> 8 * (bytes - 1 - i));
+    }
+}
+
+// Times maps of what can be reached from 0 in programs as long as there can be, in each width: the best
+// milliseconds.
+static int measure_reach(void)
+{
+    static uint8_t program[COFFEE_MEMORY_MAX], map[COFFEE_MEMORY_MAX];
+    for (int search = 0; search < 2 * SEARCHES; search++) {
+        int kind = search / 2;
+        uint32_t wide = search % 2;
+        size_t bytes = wide ? 4 : 2, reached = 0;
+        double best = 1e30;
+        make_search(kind, bytes, program, sizeof program);
+        for (int turn = 0; turn < ROUNDS; turn++) {
+            double start = now();
+            if (coffee_reach(program, sizeof program, wide, 0, map, sizeof map) != 0)
+                return 1;
+            double time = now() - start;
+            if (time < best)
+                best = time;
+        }
+        for (size_t at = 0; at < sizeof map; at++)
+            reached += map[at];
+        if (kind != RANDOM_BYTES && reached != sizeof program / bytes)
+            return 1;
+        printf("reach in 65,536 bytes of %s, %s-bit words: %.3f ms, %zu words\n", search_names[kind],
+            wide ? "32" : "16", best / 1e6, reached);
+    }
+    return 0;
+}
+
 // Prints a line of the table.
 static void show(const char *name, const char *mode, const double best[SIDES])
 {
@@ -346,7 +408,7 @@ static void show(const char *name, const char *mode, const double best[SIDES])
 // Says what the program is called with.
 static int usage(void)
 {
-    fprintf(stderr, "bench [scenes | listing | encode | library|baseline 0..%d]\n", SCENES);
+    fprintf(stderr, "bench [scenes | listing | encode | reach | library|baseline 0..%d]\n", SCENES);
     return 2;
 }
 
@@ -384,6 +446,8 @@ int main(int argc, char **argv)
         return measure_listing();
     if (argc == 2 && strcmp(argv[1], "encode") == 0)
         return measure_encode();
+    if (argc == 2 && strcmp(argv[1], "reach") == 0)
+        return measure_reach();
     if (argc != 1)
         return usage();
 

@@ -28,6 +28,7 @@ enum status carry_over_command(const struct arguments *arguments);
 enum status show_command(const struct arguments *arguments);
 enum status cells_command(const struct arguments *arguments);
 enum status list_command(const struct arguments *arguments);
+enum status reach_command(const struct arguments *arguments);
 enum status encode_command(const struct arguments *arguments);
 
 #endif

@@ -44,7 +44,7 @@ enum status encode_command(const struct arguments *arguments)
     bool done;
 
     if (bytes == 0)
-        return misused(width, "WIDTH is neither 16 nor 32");
+        return misused_width(width);
     text = join_words(arguments);
     done = text == NULL ? complain_of_errno("encode")
                         : encode_instruction(text, bytes == 4, &word) && print_word(word, bytes);

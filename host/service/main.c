@@ -25,6 +25,9 @@ static const struct command {
     {"cells", "[--plain] ", "MACHINE [FIRST [COUNT]]", "prints cells of the data memory", 1, 3, 3,
      cells_command},
     {"list", "", "PROGRAM WIDTH", "prints a program, a line for each word", 2, 2, 2, list_command},
+    {"reach", "", "PROGRAM WIDTH START",
+     "prints those lines of list whose words can be reached from an address", 3, 3, 3,
+     reach_command},
     {"encode", "", "WIDTH [CONDITION Cn] NAME OPERAND..",
      "prints the word of an instruction, typed as list prints it", 2, MOST_WORDS, 1,
      encode_command},
@@ -56,6 +59,7 @@ static enum status help(void)
          "OLD        a machine file or a plain image from before version 2.0.0\n"
          "STEPS      decimal, at most 1,000,000,000,000\n"
          "WIDTH      bits of a word: 16 or 32\n"
+         "START      the address of a word, hexadecimal as list prints it\n"
          "REQUESTS   a text: line n has the requests of step n in hexadecimal, or 'N: HEX'\n"
          "\n"
          "status: 0 done; 1 refused, nothing changed; 2 wrong command line;\n"

@@ -23,6 +23,8 @@ static const char *const reasons[] = {
     [16] = "a program that is no whole number of words",
     [17] = "a buffer too short for a listing",
     [19] = "an operand or a condition register that does not fit its bits",
+    [27] = "a start address at which there is no word",
+    [28] = "a map shorter than the program",
 };
 
 /* Prints a text; names in it may hold line ends, and a complaint stays one line. */
@@ -68,6 +70,11 @@ enum status misused(const char *name, const char *text)
 {
     complain(name, "%s; 'service --help' tells more", text);
     return USAGE;
+}
+
+enum status misused_width(const char *width)
+{
+    return misused(width, "WIDTH is neither 16 nor 32");
 }
 
 bool end_output(void)

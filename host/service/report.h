@@ -29,6 +29,9 @@ bool complain_of_refusal(const char *name, uint32_t refusal);
 /* Complains of what is wrong with the command line; gives USAGE. */
 enum status misused(const char *name, const char *text);
 
+/* Complains of a WIDTH that there is not; gives USAGE. */
+enum status misused_width(const char *width);
+
 /* Sees that all that was printed went out, or complains. */
 bool end_output(void);
 

@@ -9,7 +9,7 @@
 #include <stdlib.h>
 #include <string.h>
 
-enum { LONGEST_TEXT = 10000000, MOST_DIGITS = 8 };
+enum { LONGEST_TEXT = 10000000 };
 
 /* Splits a line `N: HEX`; gives the length of N, or 0 when there is no colon. */
 static size_t number_length(const char *line, size_t len)
@@ -23,7 +23,6 @@ static size_t number_length(const char *line, size_t len)
 static bool read_line(const char *line, size_t len, uint64_t *step, uint32_t *flags)
 {
     size_t digits = number_length(line, len);
-    uint64_t number;
 
     if (digits > 0) {
         if (!read_digits(line, digits, 10, step))
@@ -33,10 +32,7 @@ static bool read_line(const char *line, size_t len, uint64_t *step, uint32_t *fl
         for (; len > 0 && *line == ' '; len--)
             line++;
     }
-    if (len > MOST_DIGITS || !read_digits(line, len, 16, &number))
-        return false;
-    *flags = (uint32_t)number;
-    return true;
+    return read_hexadecimal(line, len, flags);
 }
 
 /* Adds the requests of a step. */

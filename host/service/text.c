@@ -3,6 +3,9 @@
 
 #include <string.h>
 
+/* Hexadecimal digits of 32 bits. */
+enum { MOST_DIGITS = 8 };
+
 /* The value of a digit, or 16 for any other byte. */
 static unsigned digit_value(char byte)
 {
@@ -42,6 +45,16 @@ bool read_number(const char *text, uint64_t *number)
     if (len > 2 && text[0] == '0' && text[1] == 'x')
         return read_digits(text + 2, len - 2, 16, number);
     return read_decimal(text, number);
+}
+
+bool read_hexadecimal(const char *text, size_t len, uint32_t *number)
+{
+    uint64_t digits;
+
+    if (len > MOST_DIGITS || !read_digits(text, len, 16, &digits))
+        return false;
+    *number = (uint32_t)digits;
+    return true;
 }
 
 size_t bytes_of_word(const char *width)

@@ -1,5 +1,5 @@
-// Runs and lists the examples of examples.txt, which says how it is read, and makes their words from the listing; prints a line for each run, and
-// for each word that is listed or made.
+// Runs and lists the examples of examples.txt, which says how it is read, makes their words from the listing, and finds which of them can be reached;
+// prints a line for each run, for each word that is listed or made, and for each search.
 mod lines;
 mod show;
 
@@ -73,6 +73,10 @@ fn examples(text: &[u8], names: &[u8]) {
         }
         if kind == b'<' {
             show::print_written(&program, size, number(&text[start..end]) == 0x32);
+            continue;
+        }
+        if kind == b'*' {
+            show::print_reached(&text[start..end], &program, size);
             continue;
         }
         if kind == b'@' {

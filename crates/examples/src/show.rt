@@ -1,5 +1,7 @@
-// Runs an example from reset, and prints a line of it; prints the listing of a program, and the words made from what it shows.
+// Runs an example from reset, and prints a line of it; prints the listing of a program, the words made from what it shows, and the addresses that can be
+// reached.
 use crate::lines::end_of;
+use crate::lines::number;
 use emulator::Answer;
 use encoder::Encoded;
 use libc::STDOUT_FILENO;
@@ -190,14 +192,17 @@ fn written(word: u32, wide: bool) -> Encoded {
     )
 }
 
+// Prints the number of a refusal.
+fn print_refusal(n: u32) {
+    io::write_all(STDOUT_FILENO, b"refusal ");
+    runner::print(console::refusal_line(n));
+}
+
 // Prints a word that was made, or the number of the refusal.
 fn print_encoded(e: Encoded) {
     match e {
         Encoded::Word(w) => print_value(w, b'\n'),
-        Encoded::Refusal(n) => {
-            io::write_all(STDOUT_FILENO, b"refusal ");
-            runner::print(console::refusal_line(n));
-        }
+        Encoded::Refusal(n) => print_refusal(n),
     }
 }
 
@@ -211,5 +216,36 @@ pub fn print_written(program: &[u8; 256], size: usize, wide: bool)
     while at + bytes <= size {
         print_encoded(written(isa::word_at(memory, wide, at), wide));
         at += bytes;
+    }
+}
+
+// Prints the addresses at which a map has 1, below `size`.
+fn print_marked(map: &[u8; 256], size: usize)
+    requires { ⌜ size ≤ 256 ⌝ }
+{
+    for at in 0..size {
+        if map[at] == 1 {
+            print_value(at as u32, b' ');
+        }
+    }
+    io::write_all(STDOUT_FILENO, b"\n");
+}
+
+// Prints the addresses of the words of a program of `size` bytes that can be reached from the address that a line says, in words of the width that
+// it says, or the number of the refusal.
+pub fn print_reached(line: &[u8], program: &[u8; 256], size: usize)
+    requires { ⌜ size ≤ 256 ⌝ }
+{
+    if line.len() < 5 {
+        return;
+    }
+    let memory = &program[..];
+    let mut map = [0u8; 256];
+    let wide = number(&line[2..4]) == 0x32;
+    let refusal = reach::reach(&memory[0..size], wide, number(&line[5..]), &mut map);
+    if refusal == 0 {
+        print_marked(&map, size);
+    } else {
+        print_refusal(refusal);
     }
 }

@@ -802,7 +802,7 @@ static void test_help(void)
     check("carry-over --help",
           outcome.status == 0 &&
               strstr(outcome.out, "service carry-over [--replace] [--machine] OLD NEW\n") != NULL);
-    ACCEPTED("--version", "service 2.1.0\n", "--version");
+    ACCEPTED("--version", "service 2.2.0\n", "--version");
 }
 
 /* Names with blanks, in other folders, through links. */

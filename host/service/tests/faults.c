@@ -39,6 +39,8 @@ uint32_t __real_coffee_listing(const uint8_t *program, size_t program_bytes, uin
 uint64_t __real_coffee_encode(uint32_t operation, uint32_t wide, uint32_t conditional,
                               uint32_t creg, uint32_t condition, int32_t a, int32_t b, int32_t c,
                               int32_t d);
+uint32_t __real_coffee_reach(const uint8_t *program, size_t program_bytes, uint32_t wide,
+                             uint32_t start, uint8_t *map, size_t map_bytes);
 
 struct fault_setting fault_setting;
 
@@ -139,6 +141,14 @@ static bool goes_wrong(const char *call)
     return true;
 }
 
+/* Whether the library refuses a call: as every one, or as the one that fails. */
+static bool is_refused(const char *call)
+{
+    bool wrong = goes_wrong(call);
+
+    return in_child && fault_setting.refusal != 0 && (wrong || fault_setting.kind == NONE);
+}
+
 int __wrap_openat(int folder, const char *path, int flags, ...)
 {
     va_list rest;
@@ -236,11 +246,8 @@ struct coffee_answer __wrap_coffee_run(const uint8_t *program, size_t program_by
                                        size_t request_count, uint32_t limit, uint8_t *buffer,
                                        size_t buffer_bytes)
 {
-    struct coffee_answer refused = {fault_setting.refusal, 0, 0};
-    bool wrong = goes_wrong("coffee_run");
-
-    if (in_child && refused.refusal != 0 && (wrong || fault_setting.kind == NONE))
-        return refused;
+    if (is_refused("coffee_run"))
+        return (struct coffee_answer){fault_setting.refusal, 0, 0};
     return __real_coffee_run(program, program_bytes, cells, cell_count, image, image_bytes,
                              requests, request_count, limit, buffer, buffer_bytes);
 }
@@ -263,9 +270,17 @@ uint32_t __wrap_coffee_carry_over(const uint8_t *image, size_t image_bytes, uint
 uint32_t __wrap_coffee_listing(const uint8_t *program, size_t program_bytes, uint32_t wide,
                                uint8_t *text, size_t text_bytes)
 {
-    if (in_child && fault_setting.refusal != 0)
+    if (is_refused("coffee_listing"))
         return fault_setting.refusal;
     return __real_coffee_listing(program, program_bytes, wide, text, text_bytes);
+}
+
+uint32_t __wrap_coffee_reach(const uint8_t *program, size_t program_bytes, uint32_t wide,
+                             uint32_t start, uint8_t *map, size_t map_bytes)
+{
+    if (is_refused("coffee_reach"))
+        return fault_setting.refusal;
+    return __real_coffee_reach(program, program_bytes, wide, start, map, map_bytes);
 }
 
 uint64_t __wrap_coffee_encode(uint32_t operation, uint32_t wide, uint32_t conditional,

@@ -21,7 +21,7 @@ extern struct fault_setting {
     unsigned at;      /* counted from 1 */
     int error;        /* of FAIL and DEAD; 0 is EIO */
     void (*hook)(void);
-    uint32_t refusal; /* with which the library refuses: every call, or the coffee_run that fails */
+    uint32_t refusal; /* with which the library refuses: every call, or the one that fails */
     uint32_t word;    /* in place of which coffee_encode answers `encoded` */
     uint64_t encoded; /* that answer, or 0 */
     long file_system; /* the kind that a folder is on, or 0 */

@@ -618,8 +618,8 @@ static const struct {
     void (*test)(void);
 } parts[] = {
     {"commands", test_commands}, {"messages", test_messages}, {"encode", test_encode},
-    {"carry", test_carry},       {"saving", test_saving},     {"kills", test_kills},
-    {"pairs", test_pairs},       {"check", test_check},
+    {"reach", test_reach},       {"carry", test_carry},       {"saving", test_saving},
+    {"kills", test_kills},       {"pairs", test_pairs},       {"check", test_check},
 };
 
 /* tests FOLDER PART..: runs parts of the tests; the last line is 'N passed, N failed'. */

@@ -132,6 +132,7 @@ void refused_words(const char *name, int status, const char *err, char *const *w
 void test_commands(void);
 void test_messages(void);
 void test_encode(void);
+void test_reach(void);
 void test_carry(void);
 void test_saving(void);
 void test_kills(void);

@@ -438,6 +438,7 @@ static void test_files(void)
     bad_file("MACHINE", 2, WORDS("show", ""));
     bad_file("MACHINE", 2, WORDS("cells", ""));
     bad_file("PROGRAM", 2, WORDS("list", "", "32"));
+    bad_file("PROGRAM", 2, WORDS("reach", "", "32", "0"));
     REFUSED("list of /dev/null", "/dev/null: not a plain file", "list", "/dev/null", "16");
     bad_file("IMAGE", 2, WORDS("import", "", "data", "x"));
     bad_file("DATA", 3, WORDS("import", "image", "", "x"));

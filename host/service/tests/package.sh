@@ -57,26 +57,28 @@ same "example as C++: output" "3 0 00000000" "$place/example"
 
 root=$place/root
 try "install" bash -c "make -s install PREFIX=/opt/coffee DESTDIR='$root' LIBRARY='$library' >'$place/log' 2>&1 || cat '$place/log'"
-same "what is installed" "bin bin/service include include/coffee.h lib lib/libcoffee.a lib/libcoffee.so lib/libcoffee.so.2 lib/libcoffee.so.2.1.0 lib/pkgconfig lib/pkgconfig/coffee.pc" \
+same "what is installed" "bin bin/service include include/coffee.h lib lib/libcoffee.a lib/libcoffee.so lib/libcoffee.so.2 lib/libcoffee.so.2.2.0 lib/pkgconfig lib/pkgconfig/coffee.pc" \
     bash -c "cd '$root/opt/coffee' && find . -mindepth 1 | sed 's,^\./,,' | LC_ALL=C sort | xargs"
 same "soname" "libcoffee.so.2" bash -c "objdump -p '$root/opt/coffee/lib/libcoffee.so' | sed -n 's/^ *SONAME *//p'"
-same "functions" "coffee_carry_over coffee_encode coffee_listing coffee_reset coffee_run" bash -c "nm -D --defined-only '$root/opt/coffee/lib/libcoffee.so' | sed 's/.* //' | LC_ALL=C sort | xargs"
+same "functions" "coffee_carry_over coffee_encode coffee_listing coffee_reach coffee_reset coffee_run" bash -c "nm -D --defined-only '$root/opt/coffee/lib/libcoffee.so' | sed 's/.* //' | LC_ALL=C sort | xargs"
 export PKG_CONFIG_PATH=$root/opt/coffee/lib/pkgconfig PKG_CONFIG_SYSROOT_DIR=$root
 export LD_LIBRARY_PATH=$root/opt/coffee/lib
-same "version" "2.1.0" pkg-config --modversion coffee
+same "version" "2.2.0" pkg-config --modversion coffee
 # shellcheck disable=SC2046,SC2086
 try "example, by pkg-config" gcc $WARN examples/run.c $(pkg-config --cflags --libs coffee) -o "$place/example"
 same "example, the shared library: output" "3 0 00000000" "$place/example"
 same "it is the installed one that runs" "$root/opt/coffee/lib/libcoffee.so.2" bash -c "ldd '$place/example' | sed -n 's/^[[:space:]]*libcoffee.so.2 => \(.*\) (.*/\1/p'"
 same "example in Python: output" "3 0 00000000" python3 examples/coffee.py
-same "example in Python, a named library" "3 0 00000000" python3 examples/coffee.py "$root/opt/coffee/lib/libcoffee.so.2.1.0"
+same "example in Python, a named library" "3 0 00000000" python3 examples/coffee.py "$root/opt/coffee/lib/libcoffee.so.2.2.0"
 cp examples/run.c "$place"
-same "the installed program" "service 2.1.0" "$root/opt/coffee/bin/service" --version
+same "the installed program" "service 2.2.0" "$root/opt/coffee/bin/service" --version
 printf '\x88\x01\x00\x05\x48\x07\x88\x3f\xdc\x00\x00\x03' >"$place/code.bin"
 try "the installed program: new" "$root/opt/coffee/bin/service" new "$place/m.card"
 same "the installed program: run" "3 0 00000000" "$root/opt/coffee/bin/service" run "$place/code.bin" "$place/m.card" 3
 same "the installed program: list" $'00000000 88010005        lli      R1 5         \n00000004 4807883F        addi     R2 R1 -1     \n00000008 DC000003        trap     3            ' \
     "$root/opt/coffee/bin/service" list "$place/code.bin" 32
+same "the installed program: reach" "00000008 DC000003        trap     3            " \
+    "$root/opt/coffee/bin/service" reach "$place/code.bin" 32 8
 same "the installed program: encode" "07C87FDD" "$root/opt/coffee/bin/service" encode 32 egt C7 add R31 R30 R29
 try "uninstall" make -s --no-print-directory uninstall PREFIX=/opt/coffee DESTDIR="$root"
 try "nothing is left" find "$root" ! -type d

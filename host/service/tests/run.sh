@@ -9,7 +9,7 @@ trap 'rm -rf "$log"' EXIT
 
 "$1" "$here" kills >"$log/2" 2>&1 &
 {
-    "$1" "$here" commands messages encode carry saving check
+    "$1" "$here" commands messages encode reach carry saving check
     "$1" "$here" pairs
     "$here/package.sh" "$2" "$3"
 } >"$log/1" 2>&1

@@ -9,12 +9,13 @@
 
 enum { THREADS = 8, PROGRAM = 32, CELLS = 64, STEPS = 1000 };
 
-/* A machine, the answers of its calls added up, its program's lines, and its image carried over. */
+/* A machine, the answers of its calls added up, its program's lines, the map of its reached words,
+   and its image carried over. */
 struct job {
     pthread_t thread;
     long calls;
     uint8_t program[PROGRAM], images[2][COFFEE_IMAGE_MAX], lines[PROGRAM / 4 * COFFEE_LINE];
-    uint8_t carried[COFFEE_IMAGE_MAX];
+    uint8_t map[PROGRAM], carried[COFFEE_IMAGE_MAX];
     uint32_t cells[CELLS], requests[STEPS];
     uint64_t steps;
     long not_carried;
@@ -64,6 +65,7 @@ static void *work(void *argument)
 
         job->steps += answer.steps;
         coffee_listing(job->program, PROGRAM, 1, job->lines, sizeof job->lines);
+        coffee_reach(job->program, PROGRAM, 1, 4 * (uint32_t)(i % 8), job->map, sizeof job->map);
         coffee_reset(image, COFFEE_IMAGE_MAX);
         job->not_carried += !carries_over(job, left);
     }
