@@ -138,6 +138,17 @@ pub fn add<const N: usize>(counts: &mut [u64; N], met: [bool; N]) {
     }
 }
 
+/// The sums of rows of counts.
+pub fn sums<'a, const N: usize>(rows: impl IntoIterator<Item = &'a [u64; N]>) -> [u64; N] {
+    let mut sums = [0; N];
+    for row in rows {
+        for (sum, count) in sums.iter_mut().zip(row) {
+            *sum += count;
+        }
+    }
+    sums
+}
+
 /// The place of a number in YES.
 pub fn yes_place(number: u32) -> usize {
     let place = YES.iter().position(|&(other, _)| other == number);
