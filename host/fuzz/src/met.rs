@@ -1,5 +1,6 @@
-//! What the sessions of calls, of listings, of written words and of carry-overs need to say
-//! what they met: lines of counts, lines for what is missing, and the words and conditions met.
+//! What the sessions of calls, of listings, of written words, of carry-overs and of reachable
+//! words need to say what they met: lines of counts, lines for what is missing, and the words
+//! and conditions met.
 
 use crate::words::{self, NAMES, SHORT_WORDS};
 use std::fmt::{Display, Write};
