@@ -55,15 +55,19 @@ fn copy_with_faults(crate_root: &Path) {
         };
         // What each copy needs of the modules, and of lib.rs.
         let takes_module = |name: &str| match fault.shown_by {
-            ShownBy::Calls | ShownBy::Carried => !matches!(name, "listing" | "encode" | "operands"),
+            ShownBy::Calls | ShownBy::Carried => {
+                !matches!(name, "listing" | "encode" | "operands" | "reach")
+            }
             ShownBy::Listings => matches!(name, "listing" | "operands" | "decode"),
             ShownBy::Choices => matches!(name, "encode" | "operands" | "decode"),
+            ShownBy::Programs => matches!(name, "reach" | "decode"),
             ShownBy::All => true,
         };
         let takes_line = |line: &str| match fault.shown_by {
             ShownBy::Calls | ShownBy::Carried => !line.starts_with("pub use "),
             ShownBy::Listings => line.starts_with("const ") || line.starts_with("pub use listing"),
             ShownBy::Choices => line.starts_with("pub use encode"),
+            ShownBy::Programs => line.starts_with("const ") || line.starts_with("pub use reach"),
             ShownBy::All => true,
         };
         for change in fault.changes {
@@ -103,10 +107,15 @@ fn copy_with_faults(crate_root: &Path) {
         if matches!(fault.shown_by, ShownBy::Carried | ShownBy::All) {
             carry_over = format!("Some(fault_{index}::carry_over)");
         }
+        let mut reach = String::from("None");
+        if matches!(fault.shown_by, ShownBy::Programs | ShownBy::All) {
+            text += MAP;
+            reach = format!("Some(fault_{index}::map)");
+        }
         text += "}\n";
         table += &format!(
             "    Faulty {{ name: {:?}, run: {run}, listing: {listing}, encode: {encode}, \
-             carry_over: {carry_over} }},\n",
+             carry_over: {carry_over}, reach: {reach} }},\n",
             fault.name
         );
     }
@@ -145,5 +154,12 @@ pub fn choose(choice: &coffee_reference::Choice) -> u64 {
         condition: choice.condition,
         operands: choice.operands,
     })
+}
+";
+
+/// The map of a copy, with the width as a number.
+const MAP: &str = "
+pub fn map(program: &[u8], wide: u32, start: u32, map: &mut [u8]) -> u32 {
+    reach(program, wide != 0, start, map)
 }
 ";

@@ -1,5 +1,5 @@
-//! What differs after both sides did the same: for calls, listings, written words and
-//! carry-overs.
+//! What differs after both sides did the same: for calls, listings, written words, carry-overs
+//! and maps of reachable words.
 
 use crate::image;
 use std::fmt::{self, Display};

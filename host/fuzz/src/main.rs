@@ -1,16 +1,19 @@
-//! `fuzz [--seed N] [--calls N] [--seconds N] [--words N] [--choices N] [--carried N]`, and
-//! `[--case N]`, `[--listing N]`, `[--choice N]` or `[--carry N]` to repeat one: compares the
-//! COFFEE library with the reference emulator on every 16-bit word and on random 32-bit words,
-//! listed; on words written from every 16-bit word, from random 32-bit words and from random
-//! choices; on images of the earlier layout carried over; and on seeded random calls.
+//! `fuzz [--seed N] [--calls N] [--seconds N] [--words N] [--choices N] [--carried N]
+//! [--programs N]`, and `[--case N]`, `[--listing N]`, `[--choice N]`, `[--carry N]` or
+//! `[--program N]` to repeat one: compares the COFFEE library with the reference emulator on
+//! every 16-bit word and on random 32-bit words, listed; on words written from every 16-bit
+//! word, from random 32-bit words and from random choices; on images of the earlier layout
+//! carried over; on the words of random programs that can be reached; and on seeded random
+//! calls.
 //!
-//! Prints what each of the four met, `fuzz: N 32-bit words and N 16-bit words listed, no
+//! Prints what each of the five met, `fuzz: N 32-bit words and N 16-bit words listed, no
 //! difference`, `fuzz: N choices compared, N 32-bit words and N 16-bit words among them, no
-//! difference`, `fuzz: N carry-overs compared, N images carried over, no difference`, and at
+//! difference`, `fuzz: N carry-overs compared, N images carried over, no difference`, `fuzz: N
+//! programs compared, N words reached in them, N of these only as slots, no difference`, and at
 //! the end `fuzz: N calls, no difference`; or the first difference, with everything that is
 //! needed to repeat it, and ends with 1. It ends with 1 too where 200,000 32-bit words or more,
-//! 2,000,000 choices or more, 200,000 carry-overs or more, or 2,000,000 calls or more, did not
-//! meet all that they should.
+//! 2,000,000 choices or more, 200,000 carry-overs or more, 2,000,000 programs or more, or
+//! 2,000,000 calls or more, did not meet all that they should.
 
 use coffee_fuzz::carried;
 use coffee_fuzz::compare::Sides;
@@ -19,6 +22,7 @@ use coffee_fuzz::encode;
 use coffee_fuzz::image::LONGEST;
 use coffee_fuzz::listing;
 use coffee_fuzz::met::Met;
+use coffee_fuzz::reach;
 use coffee_fuzz::series::{noted, Outcome};
 use coffee_fuzz::session::{self, Options};
 use std::process::ExitCode;
@@ -31,9 +35,11 @@ const CALLS: u64 = 2_000_000;
 const WORDS: u64 = 200_000;
 const CHOICES: u64 = 2_000_000;
 const CARRIED: u64 = 200_000;
+const PROGRAMS: u64 = 2_000_000;
 
 const USAGE: &str = "fuzz [--seed N] [--calls N] [--seconds N] [--words N] [--choices N] \
-                     [--carried N] [--case N] [--listing N] [--choice N] [--carry N]";
+                     [--carried N] [--programs N] [--case N] [--listing N] [--choice N] \
+                     [--carry N] [--program N]";
 
 mod library {
     //! The C interface of libcoffee.a.
@@ -86,6 +92,14 @@ mod library {
             c: i32,
             d: i32,
         ) -> u64;
+        fn coffee_reach(
+            program: *const u8,
+            program_bytes: usize,
+            wide: u32,
+            start: u32,
+            map: *mut u8,
+            map_bytes: usize,
+        ) -> u32;
     }
 
     pub fn run(
@@ -173,6 +187,22 @@ mod library {
             )
         }
     }
+
+    pub fn reach(program: &[u8], wide: u32, first: u32, map: &mut [u8]) -> u32 {
+        // Each pointer comes with the length of the slice that it is of; one of no bytes may
+        // be null.
+        let (program_start, map_start) = (start(program), start_mut(map));
+        unsafe {
+            coffee_reach(
+                program_start,
+                program.len(),
+                wide,
+                first,
+                map_start,
+                map.len(),
+            )
+        }
+    }
 }
 
 /// The seed, for a message where the process ends by a panic or a signal.
@@ -233,6 +263,7 @@ fn main() -> ExitCode {
         words: WORDS,
         choices: CHOICES,
         carried: CARRIED,
+        programs: PROGRAMS,
         ..Options::of_seed(SEED)
     };
     let options = match session::options(usual, std::env::args().skip(1)) {
@@ -249,19 +280,30 @@ fn main() -> ExitCode {
         println!("{message}");
         return ExitCode::FAILURE;
     }
-    let one_alone = [options.case, options.listing, options.choice, options.carry]
+    let Options {
+        case,
+        listing,
+        choice,
+        carry,
+        program,
+        ..
+    } = options;
+    let one_alone = [case, listing, choice, carry, program]
         .iter()
         .any(Option::is_some);
-    if (options.listing.is_some() || !one_alone) && !compare_listings(&options) {
+    if (listing.is_some() || !one_alone) && !compare_listings(&options) {
         return ExitCode::FAILURE;
     }
-    if (options.choice.is_some() || !one_alone) && !compare_choices(&options) {
+    if (choice.is_some() || !one_alone) && !compare_choices(&options) {
         return ExitCode::FAILURE;
     }
-    if (options.carry.is_some() || !one_alone) && !compare_carried(&options) {
+    if (carry.is_some() || !one_alone) && !compare_carried(&options) {
         return ExitCode::FAILURE;
     }
-    if (options.case.is_some() || !one_alone) && !compare_calls(&options) {
+    if (program.is_some() || !one_alone) && !compare_programs(&options) {
+        return ExitCode::FAILURE;
+    }
+    if (case.is_some() || !one_alone) && !compare_calls(&options) {
         return ExitCode::FAILURE;
     }
     ExitCode::SUCCESS
@@ -348,6 +390,30 @@ fn compare_carried(options: &Options) -> bool {
         many: compared >= CARRIED,
     };
     tell(&outcome, options.seed, start, told, carried::explain)
+}
+
+/// Compares maps of reachable words, prints what they met, and says whether all is as it should
+/// be.
+fn compare_programs(options: &Options) -> bool {
+    let start = Instant::now();
+    let sides = reach::Sides {
+        reference: reach::reference,
+        library: library::reach,
+    };
+    let outcome = reach::run(options, sides);
+    let programs = outcome.coverage.programs;
+    let [reached, slots] = outcome.coverage.reached();
+    let told = Told {
+        name: "programs",
+        compared: format!("{programs} programs"),
+        agreed: format!(
+            "{programs} programs compared, {reached} words reached in them, {slots} of these only as slots"
+        ),
+        alone: options.program.is_some(),
+        many: programs >= PROGRAMS,
+    };
+    let explain = |found: &reach::Found| reach::explain(found, sides);
+    tell(&outcome, options.seed, start, told, explain)
 }
 
 /// What is said of a session.

@@ -1,5 +1,6 @@
-//! What the sessions of calls, of listings, of written words and of carry-overs need to say
-//! what they met: lines of counts, lines for what is missing, and the words and conditions met.
+//! What the sessions of calls, of listings, of written words, of carry-overs and of reachable
+//! words need to say what they met: lines of counts, lines for what is missing, and the words
+//! and conditions met.
 
 use crate::words::{self, NAMES, SHORT_WORDS};
 use std::fmt::{Display, Write};
@@ -136,6 +137,17 @@ pub fn add<const N: usize>(counts: &mut [u64; N], met: [bool; N]) {
     for (count, met) in counts.iter_mut().zip(met) {
         *count += u64::from(met);
     }
+}
+
+/// The sums of rows of counts.
+pub fn sums<'a, const N: usize>(rows: impl IntoIterator<Item = &'a [u64; N]>) -> [u64; N] {
+    let mut sums = [0; N];
+    for row in rows {
+        for (sum, count) in sums.iter_mut().zip(row) {
+            *sum += count;
+        }
+    }
+    sums
 }
 
 /// The place of a number in YES.

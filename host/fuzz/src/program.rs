@@ -623,17 +623,18 @@ impl Filler<'_> {
             _ => i64::from(self.code_address(wide)),
         };
         let immediate = ((target - i64::from(at + width)) / 2) as u32;
+        let immediate = immediate & jump_mask(operation, wide);
         if !wide {
-            operation << 10 | immediate & 0x3FF
+            operation << 10 | immediate
         } else if operation < BRANCH {
-            operation << 26 | immediate & 0x01FF_FFFF | self.noise(0x0200_0000)
+            operation << 26 | immediate | self.noise(0x0200_0000)
         } else {
             let register = if self.random.percent(60) {
                 0
             } else {
                 self.random.below(8)
             };
-            operation << 26 | register << 22 | immediate & 0x003F_FFFF | self.noise(0x0200_0000)
+            operation << 26 | register << 22 | immediate | self.noise(0x0200_0000)
         }
     }
 

@@ -59,6 +59,17 @@ impl Random {
         values[self.below(values.len() as u32) as usize]
     }
 
+    /// A number other than 0 that says yes.
+    pub fn yes(&mut self) -> u32 {
+        match self.below(8) {
+            0..=3 => 1,
+            4 => 2,
+            5 => u32::MAX,
+            6 => 1 << self.below(32),
+            _ => self.word().max(1),
+        }
+    }
+
     /// A number of an interesting size for a 32-bit register: small, close to the
     /// ends of the signed and unsigned ranges of 16 and 32 bits, a single bit, or any.
     pub fn number(&mut self) -> u32 {

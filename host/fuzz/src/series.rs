@@ -1,5 +1,5 @@
-//! A series of numbered cases, listings, choices or carry-overs on both sides, until a
-//! difference.
+//! A series of numbered cases, listings, choices, carry-overs or programs on both sides, until
+//! a difference.
 
 use std::fmt::Display;
 use std::sync::atomic::{AtomicU64, AtomicUsize, Ordering};
@@ -11,9 +11,10 @@ pub enum Kind {
     Listing,
     Choice,
     Carry,
+    Program,
 }
 
-const KIND_OPTIONS: [&str; 4] = ["--case", "--listing", "--choice", "--carry"];
+const KIND_OPTIONS: [&str; 5] = ["--case", "--listing", "--choice", "--carry", "--program"];
 
 /// The number and kind of what is being run, for a message where the process ends early.
 static CURRENT_NUMBER: AtomicU64 = AtomicU64::new(0);
@@ -155,6 +156,7 @@ pub mod tests {
             Kind::Listing => &mut alone.listing,
             Kind::Choice => &mut alone.choice,
             Kind::Carry => &mut alone.carry,
+            Kind::Program => &mut alone.program,
         };
         *number = Some(found.place.number);
         let again = run(&alone).found.expect("a difference");

@@ -27,11 +27,14 @@ pub struct Options {
     pub choices: u64,
     /// The number of carry-overs.
     pub carried: u64,
-    /// Only this case, listing, choice or carry-over, and nothing of the others.
+    /// The number of programs of which reachable words are mapped.
+    pub programs: u64,
+    /// Only this case, listing, choice, carry-over or program, and nothing of the others.
     pub case: Option<u64>,
     pub listing: Option<u64>,
     pub choice: Option<u64>,
     pub carry: Option<u64>,
+    pub program: Option<u64>,
 }
 
 impl Options {
@@ -44,10 +47,12 @@ impl Options {
             words: 0,
             choices: 0,
             carried: 0,
+            programs: 0,
             case: None,
             listing: None,
             choice: None,
             carry: None,
+            program: None,
         }
     }
 }
@@ -225,6 +230,8 @@ pub fn options(
             "--choice" => options.choice = Some(value),
             "--carried" => options.carried = value,
             "--carry" => options.carry = Some(value),
+            "--programs" => options.programs = value,
+            "--program" => options.program = Some(value),
             "--calls" | "--seconds" => {
                 // A limit that is given replaces the usual ones.
                 if !limited {

@@ -79,21 +79,10 @@ impl Shrinker {
     }
 
     fn program(&mut self) {
-        let mut part = self.best.program.len() / 2;
-        while part > 0 {
-            while self.best.program.len() >= part
-                && self.keep(|call| call.program.truncate(call.program.len() - part))
-            {}
-            part /= 2;
-        }
-        for width in [4, 2] {
-            for at in (0..self.best.program.len().min(4096)).step_by(width) {
-                let end = (at + width).min(self.best.program.len());
-                if self.best.program[at..end].iter().any(|&byte| byte != 0) {
-                    self.keep(|call| call.program[at..end].fill(0));
-                }
-            }
-        }
+        let program = self.best.program.clone();
+        shrink_program(program, |program| {
+            self.keep(|call| call.program = program.to_vec())
+        });
     }
 
     fn cells(&mut self) {
@@ -169,6 +158,34 @@ impl Shrinker {
             self.keep(|call| call.buffer.truncate(LONGEST));
         }
         self.keep(|call| call.buffer.fill(0));
+    }
+}
+
+/// Makes a program shorter and puts nops into it, each time as far as `keep` takes it.
+pub fn shrink_program(program: Vec<u8>, mut keep: impl FnMut(&[u8]) -> bool) {
+    let mut best = program;
+    let nops = vec![0; best.len()];
+    if keep(&nops) {
+        best = nops;
+    }
+    let mut part = best.len() / 2;
+    while part > 0 {
+        while best.len() >= part && keep(&best[..best.len() - part]) {
+            best.truncate(best.len() - part);
+        }
+        part /= 2;
+    }
+    for width in [4, 2] {
+        for at in (0..best.len().min(4096)).step_by(width) {
+            let end = (at + width).min(best.len());
+            if best[at..end].iter().any(|&byte| byte != 0) {
+                let mut emptier = best.clone();
+                emptier[at..end].fill(0);
+                if keep(&emptier) {
+                    best = emptier;
+                }
+            }
+        }
     }
 }
 

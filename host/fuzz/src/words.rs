@@ -83,6 +83,11 @@ pub fn never_conditional(operation: u32) -> bool {
     matches!(operation, NOP | CMP..=JAL | BRANCH..=LAST_BRANCH | RETU..=RCON | EXBFI)
 }
 
+/// Whether a word has a condition.
+pub fn has_condition(word: u32, wide: bool) -> bool {
+    wide && word >> 25 & 1 == 1 && !never_conditional(operation(word, wide))
+}
+
 /// Whether the operation is 02h in a 16-bit word.
 pub fn only_wide(operation: u32) -> bool {
     matches!(operation, LLI | LUI | EXBFI)
@@ -104,6 +109,17 @@ pub fn bytes(wide: bool) -> u32 {
     } else {
         2
     }
+}
+
+/// The whole words of so many bytes.
+pub fn whole(length: usize, wide: bool) -> usize {
+    length / bytes(wide) as usize
+}
+
+/// Puts a word at a program's end.
+pub fn append(program: &mut Vec<u8>, word: u32, wide: bool) {
+    let unused = 4 - bytes(wide) as usize;
+    program.extend_from_slice(&word.to_be_bytes()[unused..]);
 }
 
 /// The word at an address, where all of it is there.
@@ -145,6 +161,24 @@ pub fn short_immediate(operation: u32, dr: u32, immediate: u32) -> u32 {
 /// A 16-bit ld or st.
 pub fn short_memory(operation: u32, sr: u32, dr: u32, immediate: u32) -> u32 {
     operation << 10 | (immediate & 15) << 6 | (sr & 7) << 3 | dr & 7
+}
+
+/// The bits of the immediate of jmp, jal or a branch, which are the lowest.
+pub fn jump_mask(operation: u32, wide: bool) -> u32 {
+    match (wide, operation) {
+        (false, _) => 0x03FF,
+        (true, JMP | JAL) => 0x01FF_FFFF,
+        (true, _) => 0x003F_FFFF,
+    }
+}
+
+/// The target of a jmp, jal or branch at an address: "the slot's address plus twice the signed
+/// immediate".
+pub fn jump_target(word: u32, wide: bool, at: u32) -> i64 {
+    let mask = jump_mask(operation(word, wide), wide);
+    let sign = i64::from(mask / 2 + 1);
+    let immediate = (i64::from(word & mask) ^ sign) - sign;
+    i64::from(at + bytes(wide)) + 2 * immediate
 }
 
 /// The base register and the signed immediate of ld or st.
@@ -213,6 +247,40 @@ mod tests {
         assert_eq!(LLI << 26 | 1 << 16 | 5, 0x8801_0005);
         assert_eq!(wide_registers(TRAP, 0, 0, 3), 0xDC00_0003);
         assert_eq!(memory_operand(0x4807_883F, true), (1, -1));
+        assert_eq!(jump_target(JMP << 26 | 1, true, 0), 6);
+        assert_eq!(jump_target(JMP << 26 | 2, true, 0), 8);
+    }
+
+    /// Targets at both ends of an immediate, the bits above it at 1.
+    #[test]
+    fn jump_targets() {
+        for (operation, wide, far) in [
+            (JAL, true, 0x0200_0000),
+            (LAST_BRANCH, true, 0x0040_0000),
+            (JMP, false, 0x400),
+            (BRANCH, false, 0x400),
+        ] {
+            let mask = jump_mask(operation, wide);
+            let above = if wide { 0x03FF_FFFF & !mask } else { 0 };
+            let word = operation << (8 * bytes(wide) - 6) | above;
+            let slot = 8 + i64::from(bytes(wide));
+            assert_eq!(jump_target(word, wide, 8), slot);
+            assert_eq!(jump_target(word | mask, wide, 8), slot - 2);
+            assert_eq!(jump_target(word | (mask / 2), wide, 8), slot + far - 2);
+            assert_eq!(jump_target(word | (mask / 2 + 1), wide, 8), slot - far);
+        }
+    }
+
+    /// What is put at a program's end is there.
+    #[test]
+    fn appended() {
+        let mut program = Vec::new();
+        append(&mut program, 0xD800_0001, true);
+        append(&mut program, 0x0C11, false);
+        assert_eq!(program, [0xD8, 0, 0, 1, 0x0C, 0x11]);
+        assert_eq!([true, false].map(|wide| whole(6, wide)), [1, 3]);
+        assert_eq!(word_at(&program, 4, false), Some(0x0C11));
+        assert_eq!(word_at(&program, 4, true), None);
     }
 
     /// The numbers that 02's wish 1 gives.

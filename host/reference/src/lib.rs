@@ -1,7 +1,7 @@
 //! A reference emulator of the COFFEE core, to compare other implementations with.
 //!
-//! It is written from three papers alone: 02 (the change requests, of which wishes 1 to 3
-//! and 5 to 8 are done), 01 (the board's rules) and 002 (the COFFEE Core user manual, July
+//! It is written from three papers alone: 02 (the change requests, of which wishes 1 to 3,
+//! 5 to 8 and 13 are done), 01 (the board's rules) and 002 (the COFFEE Core user manual, July
 //! 2007). Where they differ, 02 decides, then 01. It is meant to be read beside them, and
 //! puts clarity before speed.
 
@@ -11,6 +11,7 @@ mod image;
 mod listing;
 mod machine;
 mod operands;
+mod reach;
 mod step;
 mod timers;
 
@@ -23,6 +24,7 @@ use std::fmt;
 
 pub use encode::{cleared, encode, operand_ranges, reading, Choice};
 pub use listing::listing;
+pub use reach::reach;
 
 /// "Program at most 65,536 bytes"
 const PROGRAM_LIMIT: usize = 65_536;

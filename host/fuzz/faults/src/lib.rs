@@ -11,16 +11,19 @@ type Listing = fn(&[u8], u32, &mut [u8]) -> u32;
 type Encode = fn(&Choice) -> u64;
 /// A carry-over: image, buffer.
 type CarryOver = fn(&[u8], &mut [u8]) -> u32;
+/// A map of reachable words: program, width, start, map.
+type Reach = fn(&[u8], u32, u32, &mut [u8]) -> u32;
 
 /// A copy of the reference.
 pub struct Faulty {
     /// The fault's name, `none` for the copy without a fault.
     pub name: &'static str,
-    /// What is to show the fault. The copy without one has all four.
+    /// What is to show the fault. The copy without one has all five.
     pub run: Option<Run>,
     pub listing: Option<Listing>,
     pub encode: Option<Encode>,
     pub carry_over: Option<CarryOver>,
+    pub reach: Option<Reach>,
 }
 
 include!(concat!(env!("OUT_DIR"), "/copies.rs"));

@@ -1,11 +1,12 @@
-//! `faults [--seed N] [--calls N] [--seconds N] [--words N] [--choices N] [--carried N] [NAME]`:
-//! shows that the comparison can fail. Each fault of faults/list.rs is put into a copy of the
-//! reference, alone; the copy is compared with the reference as the library would be, by calls,
-//! by listings, by written words or by carry-overs.
+//! `faults [--seed N] [--calls N] [--seconds N] [--words N] [--choices N] [--carried N]
+//! [--programs N] [NAME]`: shows that the comparison can fail. Each fault of faults/list.rs is
+//! put into a copy of the reference, alone; the copy is compared with the reference as the
+//! library would be, by calls, by listings, by written words, by carry-overs or by maps of
+//! reachable words.
 //!
-//! Prints for each fault the number of calls, of listed words, of choices or of carry-overs
-//! after which it was found, and ends with 1 if one was not. With a name, prints that fault's
-//! difference in full.
+//! Prints for each fault the number of calls, of listed words, of choices, of carry-overs or of
+//! programs after which it was found, and ends with 1 if one was not. With a name, prints that
+//! fault's difference in full.
 
 use coffee_faults::FAULTS;
 use coffee_fuzz::carried;
@@ -13,6 +14,7 @@ use coffee_fuzz::compare::Sides;
 use coffee_fuzz::encode;
 use coffee_fuzz::listing;
 use coffee_fuzz::met::Met;
+use coffee_fuzz::reach;
 use coffee_fuzz::session::{self, Options};
 use std::process::ExitCode;
 use std::time::Instant;
@@ -31,6 +33,9 @@ const CHOICES: u64 = 300_000;
 /// A fault in carrying over has to be found within this many carry-overs, on which the copy
 /// without a fault has to agree.
 const CARRIED: u64 = 50_000;
+/// A fault in mapping reachable words has to be found within this many programs, on which the
+/// copy without a fault has to agree.
+const PROGRAMS: u64 = 100_000;
 
 /// What the faults came to.
 #[derive(Default)]
@@ -40,11 +45,12 @@ struct Tally {
     tried: u64,
     /// Those that were not as they should be.
     wrong: u64,
-    /// The latest call, listing, choice and carry-over at which one was found.
+    /// The latest call, listing, choice, carry-over and program at which one was found.
     latest_call: u64,
     latest_listing: u64,
     latest_choice: u64,
     latest_carry: u64,
+    latest_program: u64,
 }
 
 impl Tally {
@@ -78,6 +84,7 @@ fn main() -> ExitCode {
         words: WORDS,
         choices: CHOICES,
         carried: CARRIED,
+        programs: PROGRAMS,
         ..Options::of_seed(SEED)
     };
     let mut arguments: Vec<String> = std::env::args().skip(1).collect();
@@ -90,7 +97,8 @@ fn main() -> ExitCode {
         Err(message) => {
             eprintln!("faults: {message}");
             eprintln!(
-                "faults [--seed N] [--calls N] [--seconds N] [--words N] [--choices N] [--carried N] [NAME]"
+                "faults [--seed N] [--calls N] [--seconds N] [--words N] [--choices N] [--carried N] \
+                 [--programs N] [NAME]"
             );
             return ExitCode::from(2);
         }
@@ -132,13 +140,21 @@ fn main() -> ExitCode {
             };
             try_carried(copy.name, sides, &options, &mut tally);
         }
+        if let Some(reach) = copy.reach {
+            let sides = reach::Sides {
+                reference: reach::reference,
+                library: reach,
+            };
+            try_programs(copy.name, sides, &options, &mut tally);
+        }
     }
     if tally.tried == 0 {
         eprintln!("faults: no such fault");
         return ExitCode::from(2);
     }
     println!(
-        "faults: {} tried, {}, the latest found at call {}, at listing {}, at choice {} and at carry-over {}",
+        "faults: {} tried, {}, the latest found at call {}, at listing {}, at choice {}, at carry-over {} \
+         and at program {}",
         tally.tried,
         if tally.wrong == 0 {
             "all as they should be"
@@ -148,7 +164,8 @@ fn main() -> ExitCode {
         tally.latest_call,
         tally.latest_listing,
         tally.latest_choice,
-        tally.latest_carry
+        tally.latest_carry,
+        tally.latest_program
     );
     if tally.wrong == 0 {
         ExitCode::SUCCESS
@@ -229,6 +246,23 @@ fn try_carried(fault: &str, sides: carried::Sides, options: &Options, tally: &mu
         }
         None => {
             let compared = format!("{} carry-overs", outcome.coverage.compared);
+            tally.agreed(fault, start, &compared, &outcome.coverage);
+        }
+    }
+}
+
+/// Compares the maps of a copy.
+fn try_programs(fault: &str, sides: reach::Sides, options: &Options, tally: &mut Tally) {
+    let start = Instant::now();
+    let outcome = reach::run(options, sides);
+    match &outcome.found {
+        Some(found) => {
+            tally.latest_program = tally.latest_program.max(found.place.number);
+            let at = format!("program {}", found.place.number);
+            tally.found(fault, start, &at, || reach::explain(found, sides));
+        }
+        None => {
+            let compared = format!("{} programs", outcome.coverage.programs);
             tally.agreed(fault, start, &compared, &outcome.coverage);
         }
     }

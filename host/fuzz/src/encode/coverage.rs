@@ -2,7 +2,7 @@
 
 use super::generate::{may_be_conditional, Forms, Part, Range, OPERANDS};
 use super::{Answer, Input};
-use crate::met::{line, put, yes_place, Conditions, Met, Unmet, Words, WIDTH_NAMES, YES};
+use crate::met::{line, put, sums, yes_place, Conditions, Met, Unmet, Words, WIDTH_NAMES, YES};
 use crate::words::{only_wide, NAMES};
 use coffee_reference::cleared;
 
@@ -226,25 +226,18 @@ impl Met for Coverage {
         let mut text = String::new();
         let out = &mut text;
         for (width, name) in WIDTH_NAMES.into_iter().enumerate().rev() {
-            let by_answer = |place: usize| -> u64 {
-                let operations = self.answers[width].iter();
-                operations.map(|answers| answers[place]).sum()
-            };
-            let counts = [by_answer(0), by_answer(1), by_answer(2)];
             line(
                 out,
                 &format!("{name} choices by answer"),
-                ANSWERS.iter().zip(&counts),
+                ANSWERS.iter().zip(&sums(&self.answers[width])),
             );
             line(
                 out,
                 &format!("{name} choices that answer 18 where this does not fit"),
                 TOGETHER.iter().zip(&self.together[width]),
             );
-            let operands = self.ends[width].iter().flatten();
-            let ends = operands.fold([0; 4], |sum, counts| add(sum, *counts));
-            let operands = self.far[width].iter().flatten();
-            let far = operands.fold([0; 3], |sum, counts| add(sum, *counts));
+            let ends = sums(self.ends[width].iter().flatten());
+            let far = sums(self.far[width].iter().flatten());
             line(
                 out,
                 &format!("{name} operands, all else fitting"),
@@ -284,9 +277,4 @@ impl Default for Coverage {
     fn default() -> Coverage {
         Coverage::new()
     }
-}
-
-/// The sums of two rows of counts.
-fn add<const N: usize>(one: [u64; N], other: [u64; N]) -> [u64; N] {
-    std::array::from_fn(|place| one[place] + other[place])
 }

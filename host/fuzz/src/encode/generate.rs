@@ -125,7 +125,7 @@ pub fn choice(seed: u64, number: u64, forms: &Forms, input: &mut Input) {
         came_in(random, u32::from(word), 0, input);
     } else if random.percent(15) {
         let word = wide_word(random);
-        let wide = yes(random);
+        let wide = random.yes();
         came_in(random, word, wide, input);
     } else {
         input.came_in = None;
@@ -143,7 +143,7 @@ fn came_in(random: &mut Random, word: u32, wide: u32, input: &mut Input) {
         ..Choice::default()
     });
     if input.choice.conditional != 0 {
-        input.choice.conditional = yes(random);
+        input.choice.conditional = random.yes();
     }
 }
 
@@ -156,7 +156,7 @@ fn random_choice(random: &mut Random, forms: &Forms) -> Choice {
         2 => random.number(),
         _ => random.below(64),
     };
-    let wide = if random.percent(45) { 0 } else { yes(random) };
+    let wide = if random.percent(45) { 0 } else { random.yes() };
     let given = if may_be_conditional(operation, wide != 0) {
         random.percent(40)
     } else {
@@ -165,7 +165,7 @@ fn random_choice(random: &mut Random, forms: &Forms) -> Choice {
     let mut choice = Choice {
         operation,
         wide,
-        conditional: if given { yes(random) } else { 0 },
+        conditional: if given { random.yes() } else { 0 },
         ..Choice::default()
     };
     let misfits = match random.below(20) {
@@ -206,17 +206,6 @@ impl Misfits {
             Misfits::One(one) => one == part,
             Misfits::Several => random.one_in(2),
         }
-    }
-}
-
-/// A number other than 0 that says yes.
-fn yes(random: &mut Random) -> u32 {
-    match random.below(8) {
-        0..=3 => 1,
-        4 => 2,
-        5 => u32::MAX,
-        6 => 1 << random.below(32),
-        _ => random.word().max(1),
     }
 }
 

@@ -134,7 +134,7 @@ impl Coverage {
         if !wide {
             return;
         }
-        if word >> 25 & 1 == 1 && !never_conditional(operation) {
+        if has_condition(word, wide) {
             self.conditions.count(word >> 19 & 7, word >> 22 & 7);
         }
         if let Some(ends) = ends(operation) {

@@ -89,7 +89,7 @@ pub fn random_listing(random: &mut Random, input: &mut Input) {
 }
 
 /// The bytes by which a program is too long: as often as not a whole number of words.
-fn too_much(random: &mut Random, word_bytes: u32) -> u32 {
+pub fn too_much(random: &mut Random, word_bytes: u32) -> u32 {
     match random.below(4) {
         0 => 1,
         1 => word_bytes,
@@ -100,15 +100,15 @@ fn too_much(random: &mut Random, word_bytes: u32) -> u32 {
 
 /// Fills the program with this many bytes of words, the last of which may be cut off.
 fn fill_program(random: &mut Random, input: &mut Input, length: usize) {
+    let wide = input.is_wide();
     input.program.clear();
     while input.program.len() < length {
-        if input.is_wide() {
-            let word = wide_word(random);
-            input.program.extend_from_slice(&word.to_be_bytes());
+        let word = if wide {
+            wide_word(random)
         } else {
-            let word = random.word() as u16;
-            input.program.extend_from_slice(&word.to_be_bytes());
-        }
+            random.word() & 0xFFFF
+        };
+        words::append(&mut input.program, word, wide);
     }
     input.program.truncate(length);
 }

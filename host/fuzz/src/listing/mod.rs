@@ -11,7 +11,9 @@ use crate::series::{self, Kind};
 use crate::session::Options;
 use crate::words::{self, word_at, NAMES};
 pub use coverage::Coverage;
-pub use generate::{every_short_word, longest, random_listing, short_word, wide_word, Text};
+pub use generate::{
+    every_short_word, longest, random_listing, short_word, too_much, wide_word, Text,
+};
 use std::fmt;
 
 /// "each instruction a line of exactly 47 characters and a newline"
@@ -41,7 +43,7 @@ impl Input {
 
     /// The number of whole words of the program.
     pub fn words(&self) -> usize {
-        self.program.len() / words::bytes(self.is_wide()) as usize
+        words::whole(self.program.len(), self.is_wide())
     }
 }
 
@@ -158,7 +160,7 @@ impl Bench {
             } else {
                 NAMES[operation as usize]
             };
-            let conditional = wide && word >> 25 & 1 == 1 && !words::never_conditional(operation);
+            let conditional = words::has_condition(word, wide);
             let digits = if wide { 8 } else { 4 };
             let good = hex(&line[..8], address)
                 && hex(&line[9..9 + digits], word)

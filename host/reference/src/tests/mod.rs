@@ -12,6 +12,7 @@ mod interrupts;
 mod listing;
 mod operations;
 mod random;
+mod reach;
 mod required_nops;
 mod stack_top;
 mod timers;
