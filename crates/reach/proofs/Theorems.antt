@@ -1,9 +1,9 @@
 -- The statements of specs/Theorems, proved. Assumes nothing.
 use mathlib.Core.Path.{_≡_, refl, sym, ap, subst, _∙_}
 use mathlib.Core.Logic.{_⊎_, inl, inr, _≢_, _↔_}
-use mathlib.Core.Bool.{true, false, and-false}
-use mathlib.Core.List.{List, _++_}
-use Prim.Native.Nat.{ℕ, _+_, _%_, _≤_, _<_}
+use mathlib.Core.Bool.{true, and-false}
+use mathlib.Core.List.{List}
+use Prim.Native.Nat.{ℕ, _+_, _%_, _<_}
 use native.Mathlib.Omega.{arith}
 use lib.Dec.{leb, eqb}
 use lib.ListN.{length, getD, drop, List·getD-append}
@@ -16,10 +16,10 @@ use Rattle.isa.specs.Operation.{Width}
 use Rattle.isa.specs.Decode.{wordBytes}
 use Rattle.machine.specs.Machine.{MOST-MEMORY}
 use Rattle.reach.specs.Leads.{isWord, leads, slots}
-use Rattle.reach.specs.Reached.{Among, Reached, Reachable}
+use Rattle.reach.specs.Reached.{Among, Reachable}
 use Rattle.reach.specs.Search.{searched, withSlots}
 use Rattle.reach.specs.Call.{reachedMap, Mapped, mapped, reachCall}
-use Rattle.reach.specs.Theorems.{Mappable, Exact, Exactly, RefusedKeeps, AskedInOrder, WholeWord, ReachableWords, FollowedOnce}
+use Rattle.reach.specs.Theorems.{Mappable, Exact, Exactly, RefusedKeeps, AskedInOrder, ReachableWords, FollowedOnce}
 use Rattle.reach.proofs.Words.{aligned, wholly, inside, slots-words, slots-above, reached-word}
 use Rattle.reach.proofs.Graph.{Bits, found-few}
 use Rattle.reach.proofs.Slots.{Marked, SlotOf, with-slots, slots-bits}

@@ -1,5 +1,4 @@
--- Signed numbers: their words, and what i32 and i64 hold. omega does not read ℤ: each law here takes a statement on ℤ to one on ℕ.
--- address-word and natural-address are for reachability. Assumes nothing.
+-- Signed numbers: their words, and what i32 and i64 hold. omega does not read ℤ: each law here takes a statement on ℤ to one on ℕ. Assumes nothing.
 use mathlib.Core.Path.{_≡_, refl, sym, ap, _∙_}
 use mathlib.Core.Bool.{true, false, true≢false}
 use Prim.Native.Nat.{ℕ, zero, suc, _+_, _-_, _*_, _/_, _%_, _^_, _≤_, _<_}
@@ -135,10 +134,6 @@ pub address-word : (z : ℤ) → isAddress z ≡ true → z ≡ pos (wordOf 32 z
 unfolding isAddress
 address-word (pos n) e = ap pos (sym (word-natural 32 n (ltb-true n (2 ^ 32) e)))
 address-word (negsuc n) e = absurd (true≢false (sym e))
-
-pub natural-address : (n : ℕ) → n < 2 ^ 32 → isAddress (pos n) ≡ true
-unfolding isAddress
-natural-address n b = lt-ltb n (2 ^ 32) b
 
 -- a product less a number below it, in parts
 split-less : (m n h b d : ℕ) → m ≡ d + suc h → b < n → m * n - suc (h * n + b) ≡ d * n + (n - suc b)

@@ -1,15 +1,14 @@
 -- `reach::lead` meets its contract: by whether the word leads there, and there is a word. Assumes nothing.
 use mathlib.Core.Path.{_≡_, sym, ap, _∙_}
-use mathlib.Core.Bool.{Bool, true, false, _&&_}
+use mathlib.Core.Bool.{Bool, _&&_}
 use Prim.Native.Nat.{ℕ}
-use native.Mathlib.Omega.{arith}
 use lib.ListN.{length}
 use borrow.Author.Needs.{needs}
 use mir.Facts.{toZ-ofZ}
 use Rattle.word.specs.Word.{wordOf, isAddress}
 use Rattle.isa.specs.Operation.{widthBy}
 use Rattle.reach.specs.Leads.{isWord}
-use Rattle.reach.specs.Search.{Search, visit, searchBy}
+use Rattle.reach.specs.Search.{visit, searchBy}
 use Rattle.reach.proofs.Words.{inside}
 use Rattle.reach.proofs.Queue.{lead-visit, lead-absent, lead-outside}
 use Rattle.reach.proofs.lead.Statement.{statement}

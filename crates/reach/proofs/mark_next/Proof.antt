@@ -1,5 +1,5 @@
 -- `reach::mark_next` meets its contract: what is left to mark, from the address that comes next. Assumes nothing.
-use mathlib.Core.Path.{_≡_, refl, sym, ap, _∙_}
+use mathlib.Core.Path.{_≡_, refl, ap, _∙_}
 use mathlib.Core.List.{List, [], _∷_}
 use Prim.Native.Nat.{ℕ, _+_, _-_, _*_, _≤_}
 use native.Mathlib.Nat.{sub-zero}
@@ -8,7 +8,6 @@ use lib.IntN.{pos}
 use lib.ListN.{length}
 use borrow.Author.Needs.{needs}
 use Rattle.isa.specs.Operation.{widthBy}
-use Rattle.isa.specs.Decode.{wordBytes}
 use Rattle.isa.proofs.Decoded.{bytes-most}
 use Rattle.reach.specs.Leads.{wordsAmong, nextAddresses}
 use Rattle.reach.specs.Search.{markAll}

@@ -1,6 +1,5 @@
 -- `reach::mark_reached` meets its contract: zeros, the search, and the slots. Assumes nothing.
 use mathlib.Core.Path.{_≡_, sym, ap, subst, _∙_}
-use mathlib.Core.List.{List}
 use Prim.Native.Nat.{ℕ}
 use lib.ListN.{length, replicate}
 use borrow.Author.Needs.{needs}

@@ -1,14 +1,12 @@
 -- `reach::mark_slots` meets its contract: what is left of the pass goes on from the map as the whole pass does from the first. Assumes nothing.
-use mathlib.Core.Path.{_≡_, refl, sym, ap, _∙_}
-use mathlib.Core.List.{List}
-use Prim.Native.Nat.{ℕ, suc, _-_, _≤_}
+use mathlib.Core.Path.{_≡_, refl, _∙_}
+use Prim.Native.Nat.{_-_, _≤_}
 use native.Mathlib.Omega.{arith}
 use lib.ListN.{length}
 use borrow.Author.Needs.{needs}
 use Rattle.isa.specs.Operation.{widthBy}
 use Rattle.reach.specs.Leads.{slots}
-use Rattle.reach.specs.Search.{withSlotsOf, withSlots, MarksWords}
-use Rattle.reach.proofs.Words.{slots-words}
+use Rattle.reach.specs.Search.{withSlots, MarksWords}
 use Rattle.reach.proofs.Slots.{slots-keep-words, slots-next, slots-none}
 use Rattle.reach.proofs.mark_slots.Statement.{statement}
 use Rattle.reach.proofs.mark_slots.Tie as tie
