@@ -1,4 +1,5 @@
-// The C interface: the calls of the emulator, the listing, the encoder and the search for reachable code with numbers and slices only. include/coffee.h declares them for C.
+// The C interface: the calls of the emulator, the listing, the encoder and the search for reachable code, with numbers and slices only.
+// include/coffee.h declares them for C.
 ghost use mathlib.Core.Path.{_≡_};
 ghost use mathlib.Core.Bool.{not};
 ghost use lib.Dec.{eqb};

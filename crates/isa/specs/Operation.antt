@@ -83,12 +83,12 @@ unfoldable pub codeOf : Option ℕ → ℕ
 codeOf none = 0
 codeOf (some code) = code
 
--- how an operation goes on (02, wish 13, which says where from each)
+-- how control goes on after an operation; where to, 02's wish 13 says
 pub data Flow : Type 0 where
   Straight : Flow  -- with the next word
   ImmediateJump ImmediateLink RegisterJump RegisterLink : Flow  -- jmp, jal, jmpr, jalr
   ConditionalBranch : Flow  -- 40 to 47
-  SystemCall UserReturn InterruptReturn WidthSwitch ExceptionEntry : Flow  -- scall, retu, reti, swm, trap
+  SystemCall UserReturn InterruptReturn WidthSwitch Trap : Flow  -- scall, retu, reti, swm, trap
 
 pub record Properties : Type 0 where
   pub number : ℕ
@@ -118,9 +118,9 @@ abbrev followedBy : ℕ → Properties → Properties
 followedBy n p =
     record { number = p .number; mnemonic = p .mnemonic; form = p .form; conditional = p .conditional; availability = p .availability; transfer = p .transfer; nops = n; flow = p .flow }
 
--- a row with this flow, of an operation that is no control transfer
-abbrev leadingTo : Flow → Properties → Properties
-leadingTo to p =
+-- a row with this flow
+abbrev withFlow : Flow → Properties → Properties
+withFlow to p =
     record { number = p .number; mnemonic = p .mnemonic; form = p .form; conditional = p .conditional; availability = p .availability; transfer = p .transfer; nops = p .nops; flow = to }
 
 -- the table: each operation's number, mnemonic, operands, whether it may be conditional, where it is available, whether it is a control transfer,
@@ -181,7 +181,7 @@ properties chrs = always 51 "chrs" (LowBits 2) superOnly
 properties di = always 52 "di" NoOperands anywhere
 properties ei = always 53 "ei" NoOperands anywhere
 properties swm = followedBy 2 (alwaysTransfer 54 "swm" (LowBits 1) anywhere WidthSwitch)
-properties trap = leadingTo ExceptionEntry (always 55 "trap" (LowBits 5) anywhere)
+properties trap = withFlow Trap (always 55 "trap" (LowBits 5) anywhere)
 properties scon = always 56 "scon" Destination anywhere
 properties rcon = always 57 "rcon" Source anywhere
 properties conb = optional 58 "conb" ThreeRegisters

@@ -8,7 +8,7 @@ use lib.Dec.{leb, eqb}
 use lib.IntN.{pos}
 use Rattle.word.specs.Choice.{if_then_else_}
 use Rattle.word.specs.Word.{bits_to_, fieldOf, bitAt}
-use Rattle.isa.specs.Operation.{operationOf, Width, w16, w32, widthBy, unavailable, codeOf, Flow, Straight, ImmediateJump, ImmediateLink, RegisterJump, RegisterLink, ConditionalBranch, SystemCall, UserReturn, InterruptReturn, WidthSwitch, ExceptionEntry, properties}
+use Rattle.isa.specs.Operation.{operationOf, Width, w16, w32, widthBy, unavailable, codeOf, Flow, Straight, ImmediateJump, ImmediateLink, RegisterJump, RegisterLink, ConditionalBranch, SystemCall, UserReturn, InterruptReturn, WidthSwitch, Trap, properties}
 use Rattle.isa.specs.Text.{bytes}
 use Rattle.isa.specs.Condition.{conditionOf, nameOf}
 use Rattle.isa.specs.Format.{hasBit, Role, Dreg, Sreg1, Sreg2, Creg, Imm, Length, Position, layoutOf}
@@ -54,7 +54,7 @@ flowBy n =
     else if eqb n 49 then UserReturn
     else if eqb n 50 then InterruptReturn
     else if eqb n 54 then WidthSwitch
-    else if eqb n 55 then ExceptionEntry
+    else if eqb n 55 then Trap
     else Straight
 
 abbrev pub FlowIs : Type 0

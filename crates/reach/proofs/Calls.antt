@@ -9,10 +9,10 @@ use Rattle.word.specs.Choice.{if_then_else_}
 use Rattle.codec.specs.Number.{over}
 use Rattle.isa.specs.Operation.{Width}
 use Rattle.machine.specs.Machine.{MOST-MEMORY}
-use Rattle.reach.specs.Leads.{isWord, slots}
+use Rattle.reach.specs.Successors.{isWord, slots}
 use Rattle.reach.specs.Call.{reachedMap, mapped, reachCall}
 use Rattle.reach.proofs.Slots.{slots-length}
-use Rattle.reach.proofs.Searching.{sound}
+use Rattle.reach.proofs.ProgramSearch.{sound}
 
 -- what is written is as long as the program
 pub map-length : (width : Width) (program : List ℕ) (start : ℕ) → isWord width (length program) start ≡ true → length (reachedMap width program start) ≡ length program

@@ -10,7 +10,7 @@ use lib.Seq.{getD-set-same, getD-set-other, getD-append-seam, getD-at}
 use lib.Dec.{ltb, eqb}
 use borrow.Author.Tests.{eqb-true, eqb-false, ltb-true, ltb-false}
 use Rattle.word.specs.Choice.{if_then_else_}
-use Rattle.reach.specs.Reached.{Among, Reached, first, further}
+use Rattle.reach.specs.Reachable.{Among, InFull, first, further}
 use Rattle.reach.specs.Search.{Search, visit, visitAll, follow, blank, searched}
 
 -- ---- marks
@@ -41,6 +41,14 @@ zeros zero b = List·getD-eq-default [] 0 {n = b} (omega arith)
 zeros (suc n) zero = refl
 zeros (suc n) (suc b) = zeros n b
 
+-- a mark after one more is set
+pub after-set : (m : List ℕ) (b : ℕ) → b < length m → (P : ℕ → Type 0) (c : ℕ) → (c ≡ b → P 1) → (c ≢ b → P (getD m c 0)) → P (getD (set m b 1) c 0)
+after-set m b h P c f g = go (eqb c b) refl
+  where
+    go : (x : Bool) → eqb c b ≡ x → P (getD (set m b 1) c 0)
+    go true e = let c=b : c ≡ b = eqb-true c b e in subst P (sym (ap (λ (n : ℕ). getD (set m b 1) n 0) c=b ∙ getD-set-same m b 1 0 h)) (f c=b)
+    go false e = let d = eqb-false c b e in subst P (sym (getD-set-other m b c 1 0 d)) (g d)
+
 sum-zeros : (n : ℕ) → sum (replicate n 0) ≡ 0
 sum-zeros zero = refl
 sum-zeros (suc n) = let r = sum-zeros n in omega arith
@@ -48,16 +56,16 @@ sum-zeros (suc n) = let r = sum-zeros n in omega arith
 -- ---- one search
 
 -- what holds of a search at any time
-pub record Sound (leads : ℕ → List ℕ) (size start : ℕ) (s : Search) : Type 0 where
+pub record Sound (edges : ℕ → List ℕ) (size start : ℕ) (s : Search) : Type 0 where
   pub length-marks : length (s .marks) ≡ size
   pub bits : Bits (s .marks)
   pub count : sum (s .marks) ≡ length (s .found)
-  pub reached : (b : ℕ) → getD (s .marks) b 0 ≡ 1 → Reached leads start b
+  pub reached : (b : ℕ) → getD (s .marks) b 0 ≡ 1 → InFull edges start b
   pub listed : (k : ℕ) → k < length (s .found) → getD (s .marks) (getD (s .found) k 0) 0 ≡ 1
   pub place : (b : ℕ) → getD (s .marks) b 0 ≡ 1 → (k : ℕ) × (k < length (s .found)) × (getD (s .found) k 0 ≡ b)
   pub different : (j k : ℕ) → j < k → k < length (s .found) → getD (s .found) j 0 ≢ getD (s .found) k 0
 
-module _ (leads : ℕ → List ℕ) (size start : ℕ) where
+module _ (edges : ℕ → List ℕ) (size start : ℕ) where
   -- t goes on from s
   record Later (s t : Search) : Type 0 where
     marked : (b : ℕ) → getD (s .marks) b 0 ≡ 1 → getD (t .marks) b 0 ≡ 1
@@ -76,17 +84,17 @@ module _ (leads : ℕ → List ℕ) (size start : ℕ) where
       }
 
   -- no more are found than there are numbers
-  pub found-few : {s : Search} → Sound leads size start s → length (s .found) ≤ size
+  pub found-few : {s : Search} → Sound edges size start s → length (s .found) ≤ size
   found-few {s} i = omega (arith, i .count, sum-most (s .marks) (i .bits), i .length-marks)
 
   -- ---- a visit of one that is reached
 
   record Visited (b : ℕ) (s t : Search) : Type 0 where
-    sound : Sound leads size start t
+    sound : Sound edges size start t
     later : Later s t
     now-marked : getD (t .marks) b 0 ≡ 1
 
-  module _ (s : Search) (i : Sound leads size start s) (b : ℕ) (h : b < size) (r : Reached leads start b) where
+  module _ (s : Search) (i : Sound edges size start s) (b : ℕ) (h : b < size) (r : InFull edges start b) where
     abbrev t : Search
     t = record { marks = set (s .marks) b 1; found = s .found ++ b ∷ [] }
 
@@ -98,11 +106,7 @@ module _ (leads : ℕ → List ℕ) (size start : ℕ) where
 
     -- a mark after it
     mark-at : (P : ℕ → Type 0) (c : ℕ) → (c ≡ b → P 1) → (c ≢ b → P (getD (s .marks) c 0)) → P (getD (set (s .marks) b 1) c 0)
-    mark-at P c f g = go (eqb c b) refl
-      where
-        go : (x : Bool) → eqb c b ≡ x → P (getD (set (s .marks) b 1) c 0)
-        go true e = let c=b : c ≡ b = eqb-true c b e in subst P (sym (ap (λ (n : ℕ). getD (set (s .marks) b 1) n 0) c=b ∙ getD-set-same (s .marks) b 1 0 inside)) (f c=b)
-        go false e = let d = eqb-false c b e in subst P (sym (getD-set-other (s .marks) b c 1 0 d)) (g d)
+    mark-at = after-set (s .marks) b inside
 
     -- a found one after it
     found-at : (P : ℕ → Type 0) (k : ℕ) → k < length (s .found ++ b ∷ []) → (k < length (s .found) → P (getD (s .found) k 0)) → P b → P (getD (s .found ++ b ∷ []) k 0)
@@ -124,7 +128,7 @@ module _ (leads : ℕ → List ℕ) (size start : ℕ) where
                 length-marks = length-set (s .marks) b 1 ∙ i .length-marks;
                 bits = λ c. mark-at (λ (m : ℕ). (m ≡ 0) ⊎ (m ≡ 1)) c (λ e. inr refl) (λ d. i .bits c);
                 count = sum-set (s .marks) b z inside ∙ ap suc (i .count) ∙ sym t-length;
-                reached = λ c. mark-at (λ (m : ℕ). m ≡ 1 → Reached leads start c) c (λ e m. subst (Reached leads start) (sym e) r) (λ d m. i .reached c m);
+                reached = λ c. mark-at (λ (m : ℕ). m ≡ 1 → InFull edges start c) c (λ e m. subst (InFull edges start) (sym e) r) (λ d m. i .reached c m);
                 listed = λ k l. found-at (λ (c : ℕ). getD (set (s .marks) b 1) c 0 ≡ 1) k l
                     (λ l′. mark-at (λ (m : ℕ). m ≡ 1) (getD (s .found) k 0) (λ e. refl) (λ d. i .listed k l′)) (getD-set-same (s .marks) b 1 0 inside);
                 place = λ c. mark-at (λ (m : ℕ). m ≡ 1 → (k : ℕ) × (k < length (s .found ++ b ∷ [])) × (getD (s .found ++ b ∷ []) k 0 ≡ c)) c
@@ -164,11 +168,11 @@ module _ (leads : ℕ → List ℕ) (size start : ℕ) where
   -- ---- visits of a list of reached ones
 
   record AllVisited (bs : List ℕ) (s t : Search) : Type 0 where
-    sound : Sound leads size start t
+    sound : Sound edges size start t
     later : Later s t
     all-marked : (b : ℕ) → Among b bs → getD (t .marks) b 0 ≡ 1
 
-  all-visited : (bs : List ℕ) (s : Search) → Sound leads size start s → ((b : ℕ) → Among b bs → (b < size) × Reached leads start b) → AllVisited bs s (visitAll bs s)
+  all-visited : (bs : List ℕ) (s : Search) → Sound edges size start s → ((b : ℕ) → Among b bs → (b < size) × InFull edges start b) → AllVisited bs s (visitAll bs s)
   unfolding visitAll
   all-visited [] s i r = record { sound = i; later = same s; all-marked = λ b m. absurd m }
   all-visited (b ∷ bs) s i r =
@@ -189,58 +193,58 @@ module _ (leads : ℕ → List ℕ) (size start : ℕ) where
 
   -- what the first h of those found lead to is marked
   Closed : (h : ℕ) → Search → Type 0
-  Closed h s = (k : ℕ) → k < h → (b : ℕ) → Among b (leads (getD (s .found) k 0)) → getD (s .marks) b 0 ≡ 1
+  Closed h s = (k : ℕ) → k < h → (b : ℕ) → Among b (edges (getD (s .found) k 0)) → getD (s .marks) b 0 ≡ 1
 
   record Finished (s t : Search) : Type 0 where
-    sound : Sound leads size start t
+    sound : Sound edges size start t
     later : Later s t
     closed : Closed (length (t .found)) t
 
-  module _ (inside-leads : (a b : ℕ) → Among b (leads a) → b < size) where
-    expanded : (s : Search) → Sound leads size start s → (k : ℕ) → k < length (s .found) → AllVisited (leads (getD (s .found) k 0)) s (visitAll (leads (getD (s .found) k 0)) s)
+  module _ (inside-edges : (a b : ℕ) → Among b (edges a) → b < size) where
+    expanded : (s : Search) → Sound edges size start s → (k : ℕ) → k < length (s .found) → AllVisited (edges (getD (s .found) k 0)) s (visitAll (edges (getD (s .found) k 0)) s)
     expanded s i k l =
-        all-visited (leads (getD (s .found) k 0)) s i
-        (λ b m. (inside-leads (getD (s .found) k 0) b m, further (i .reached (getD (s .found) k 0) (i .listed k l)) m))
+        all-visited (edges (getD (s .found) k 0)) s i
+        (λ b m. (inside-edges (getD (s .found) k 0) b m, further (i .reached (getD (s .found) k 0) (i .listed k l)) m))
 
-    followed : (left h : ℕ) (s : Search) → Sound leads size start s → Closed h s → size ≤ left + h → Finished s (follow leads left h s)
+    followed : (left h : ℕ) (s : Search) → Sound edges size start s → Closed h s → size ≤ left + h → Finished s (follow edges left h s)
     unfolding follow if_then_else_ Closed
     followed zero h s i c l =
         let n = found-few i in
         record { sound = i; later = same s; closed = λ k lk. c k (omega arith) }
     followed (suc left) h s i c l = go (ltb h (length (s .found))) refl
-        (λ lt. let v = expanded s i h lt in followed left (suc h) (visitAll (leads (getD (s .found) h 0)) s) (v .sound) (closed-more lt v) (omega arith))
+        (λ lt. let v = expanded s i h lt in followed left (suc h) (visitAll (edges (getD (s .found) h 0)) s) (v .sound) (closed-more lt v) (omega arith))
       where
-        closed-more : h < length (s .found) → AllVisited (leads (getD (s .found) h 0)) s (visitAll (leads (getD (s .found) h 0)) s)
-            → (k : ℕ) → k < suc h → (b : ℕ) → Among b (leads (getD (visitAll (leads (getD (s .found) h 0)) s .found) k 0)) → getD (visitAll (leads (getD (s .found) h 0)) s .marks) b 0 ≡ 1
+        closed-more : h < length (s .found) → AllVisited (edges (getD (s .found) h 0)) s (visitAll (edges (getD (s .found) h 0)) s)
+            → (k : ℕ) → k < suc h → (b : ℕ) → Among b (edges (getD (visitAll (edges (getD (s .found) h 0)) s .found) k 0)) → getD (visitAll (edges (getD (s .found) h 0)) s .marks) b 0 ≡ 1
         closed-more lt v k lk b m = at (eqb k h) refl
           where
-            at : (x : Bool) → eqb k h ≡ x → getD (visitAll (leads (getD (s .found) h 0)) s .marks) b 0 ≡ 1
+            at : (x : Bool) → eqb k h ≡ x → getD (visitAll (edges (getD (s .found) h 0)) s .marks) b 0 ≡ 1
             at true e =
                 let k=h = eqb-true k h e in
-                v .all-marked b (subst (λ (a : ℕ). Among b (leads a)) (v .later .kept k (rw k=h lt) ∙ ap (λ (n : ℕ). getD (s .found) n 0) k=h) m)
+                v .all-marked b (subst (λ (a : ℕ). Among b (edges a)) (v .later .kept k (rw k=h lt) ∙ ap (λ (n : ℕ). getD (s .found) n 0) k=h) m)
             at false e =
                 let d = eqb-false k h e in
                 let less : k < h = omega arith in
-                v .later .marked b (c k less b (subst (λ (a : ℕ). Among b (leads a)) (v .later .kept k (omega arith)) m))
+                v .later .marked b (c k less b (subst (λ (a : ℕ). Among b (edges a)) (v .later .kept k (omega arith)) m))
 
         go : (x : Bool) → ltb h (length (s .found)) ≡ x
-            → (h < length (s .found) → Finished (visitAll (leads (getD (s .found) h 0)) s) (follow leads left (suc h) (visitAll (leads (getD (s .found) h 0)) s)))
-            → Finished s (follow leads (suc left) h s)
+            → (h < length (s .found) → Finished (visitAll (edges (getD (s .found) h 0)) s) (follow edges left (suc h) (visitAll (edges (getD (s .found) h 0)) s)))
+            → Finished s (follow edges (suc left) h s)
         go true e rest =
             let lt = ltb-true h (length (s .found)) e in
             let f = rest lt in
-            rw e (record { sound = f .sound; later = after s (visitAll (leads (getD (s .found) h 0)) s) _ (expanded s i h lt .later) (f .later); closed = f .closed })
+            rw e (record { sound = f .sound; later = after s (visitAll (edges (getD (s .found) h 0)) s) _ (expanded s i h lt .later) (f .later); closed = f .closed })
         go false e rest = let g = ltb-false h (length (s .found)) e in rw e (record { sound = i; later = same s; closed = λ k lk. c k (omega arith) })
 
     -- what a found one leads to may be found next
-    pub expanded-sound : (s : Search) → Sound leads size start s → (k : ℕ) → k < length (s .found) → Sound leads size start (visitAll (leads (getD (s .found) k 0)) s)
+    pub expanded-sound : (s : Search) → Sound edges size start s → (k : ℕ) → k < length (s .found) → Sound edges size start (visitAll (edges (getD (s .found) k 0)) s)
     expanded-sound s i k l = expanded s i k l .sound
 
     module _ (start-inside : start < size) where
       none : (b : ℕ) → _≡_ {A = ℕ} (getD (replicate size 0) b 0) 1 → ⊥
       none b e = let z = zeros size b in omega arith
 
-      empty : Sound leads size start (blank size)
+      empty : Sound edges size start (blank size)
       empty =
           record {
             length-marks = length-replicate size 0;
@@ -255,23 +259,23 @@ module _ (leads : ℕ → List ℕ) (size start : ℕ) where
       begun : Visited start (blank size) (visit start (blank size))
       begun = visited (blank size) empty start start-inside first
 
-      ended : Finished (visit start (blank size)) (searched leads size start)
+      ended : Finished (visit start (blank size)) (searched edges size start)
       unfolding searched Closed
       ended = followed size 0 (visit start (blank size)) (begun .sound) (λ k l. absurd (let z : ⊥ = omega arith in z)) (omega arith)
 
-      complete : (b : ℕ) → Reached leads start b → getD (searched leads size start .marks) b 0 ≡ 1
+      complete : (b : ℕ) → InFull edges start b → getD (searched edges size start .marks) b 0 ≡ 1
       unfolding Closed
       complete b first = ended .later .marked start (begun .now-marked)
       complete b (further {a} r m) =
           let p = ended .sound .place a (complete a r) in
-          ended .closed (p .0) (p .1) b (subst (λ (x : ℕ). Among b (leads x)) (sym (p .2)) m)
+          ended .closed (p .0) (p .1) b (subst (λ (x : ℕ). Among b (edges x)) (sym (p .2)) m)
 
-      pub begun-sound : Sound leads size start (visit start (blank size))
+      pub begun-sound : Sound edges size start (visit start (blank size))
       begun-sound = begun .sound
 
-      pub searched-sound : Sound leads size start (searched leads size start)
+      pub searched-sound : Sound edges size start (searched edges size start)
       searched-sound = ended .sound
 
       -- a number is marked where it is reached, and nowhere else
-      pub exact : (b : ℕ) → (getD (searched leads size start .marks) b 0 ≡ 1) ↔ Reached leads start b
+      pub exact : (b : ℕ) → (getD (searched edges size start .marks) b 0 ≡ 1) ↔ InFull edges start b
       exact b = (ended .sound .reached b, complete b)

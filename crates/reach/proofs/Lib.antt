@@ -3,9 +3,9 @@ pub mod Flows
 pub mod Words
 pub mod Graph
 pub mod Slots
-pub mod Given
+pub mod Addresses
 pub mod Queue
-pub mod Searching
+pub mod ProgramSearch
 pub mod Calls
 pub mod Theorems
 pub mod Worked

@@ -19,9 +19,9 @@ use Rattle.isa.specs.Operation.{operationOf, Width, properties}
 use Rattle.isa.specs.Decode.{wordBytes, wordAt, decode}
 use Rattle.isa.specs.declared.Instruction.{Instruction}
 use Rattle.machine.specs.Machine.{MOST-MEMORY}
-use Rattle.reach.specs.Leads.{isWord, wordsAmong, goesOn, hasTarget, given, nextOf, targetOf, returnOf, leads}
+use Rattle.reach.specs.Successors.{isWord, wordsAmong, fallsThrough, hasTarget, given, nextOf, targetOf, resumptionOf, successors}
 use Rattle.reach.specs.Search.{Search, visit, visitAll, follow, searchBy}
-use Rattle.reach.proofs.Words.{no-word}
+use Rattle.reach.proofs.Words.{no-word, one-word, one-absent}
 
 -- ---- one visit
 
@@ -38,32 +38,32 @@ module _ (n b : ℕ) (m q : List ℕ) where
 
 module _ (width : Width) (size : ℕ) (s : Search) where
   visit-word : (b : ℕ) → isWord width size b ≡ true → visit b s ≡ visitAll (wordsAmong width size (given true (pos b))) s
-  unfolding given wordsAmong visitAll if_then_else_
-  visit-word b e = rw e
+  unfolding given visitAll
+  visit-word b e = ap (λ (l : List ℕ). visitAll l s) (sym (one-word width size b e))
 
   visit-absent : (b : ℕ) → isWord width size b ≡ false → s ≡ visitAll (wordsAmong width size (given true (pos b))) s
-  unfolding given wordsAmong visitAll if_then_else_
-  visit-absent b e = rw e
+  unfolding given visitAll
+  visit-absent b e = ap (λ (l : List ℕ). visitAll l s) (sym (one-absent width size b e))
 
   -- an address of 32 bits, by its word
-  module _ (leads : Bool) (to : ℤ) (e : leads && isAddress to ≡ true) where
-    by-word : (P : List ℤ → Type 0) → P (given true (pos (wordOf 32 to))) → P (given leads to)
+  module _ (wanted : Bool) (to : ℤ) (e : wanted && isAddress to ≡ true) where
+    by-word : (P : List ℤ → Type 0) → P (given true (pos (wordOf 32 to))) → P (given wanted to)
     by-word P h =
-        let t = and-parts leads (isAddress to) e in
+        let t = and-parts wanted (isAddress to) e in
         subst P (sym (ap (λ (l : Bool). given l to) (t .0) ∙ ap (given true) (address-word to (t .1)))) h
 
-    pub lead-visit : isWord width size (wordOf 32 to) ≡ true → visit (wordOf 32 to) s ≡ visitAll (wordsAmong width size (given leads to)) s
-    lead-visit w = by-word (λ (l : List ℤ). visit (wordOf 32 to) s ≡ visitAll (wordsAmong width size l) s) (visit-word (wordOf 32 to) w)
+    pub address-visited : isWord width size (wordOf 32 to) ≡ true → visit (wordOf 32 to) s ≡ visitAll (wordsAmong width size (given wanted to)) s
+    address-visited w = by-word (λ (l : List ℤ). visit (wordOf 32 to) s ≡ visitAll (wordsAmong width size l) s) (visit-word (wordOf 32 to) w)
 
-    pub lead-absent : isWord width size (wordOf 32 to) ≡ false → s ≡ visitAll (wordsAmong width size (given leads to)) s
-    lead-absent w = by-word (λ (l : List ℤ). s ≡ visitAll (wordsAmong width size l) s) (visit-absent (wordOf 32 to) w)
+    pub address-absent : isWord width size (wordOf 32 to) ≡ false → s ≡ visitAll (wordsAmong width size (given wanted to)) s
+    address-absent w = by-word (λ (l : List ℤ). s ≡ visitAll (wordsAmong width size l) s) (visit-absent (wordOf 32 to) w)
 
   -- below 0, and past 32 bits, there is no word
-  pub lead-outside : (leads : Bool) (to : ℤ) → size ≤ MOST-MEMORY → leads && isAddress to ≡ false → s ≡ visitAll (wordsAmong width size (given leads to)) s
+  pub address-outside : (wanted : Bool) (to : ℤ) → size ≤ MOST-MEMORY → wanted && isAddress to ≡ false → s ≡ visitAll (wordsAmong width size (given wanted to)) s
   unfolding given wordsAmong visitAll isAddress
-  lead-outside false to h e = refl
-  lead-outside true (negsuc n) h e = refl
-  lead-outside true (pos b) h e = visit-absent b (no-word width size b (let l = ltb-false b (2 ^ 32) e in omega arith))
+  address-outside false to h e = refl
+  address-outside true (negsuc n) h e = refl
+  address-outside true (pos b) h e = visit-absent b (no-word width size b (let l = ltb-false b (2 ^ 32) e in omega arith))
 
 -- ---- lists of visits
 
@@ -111,33 +111,24 @@ given-longer width size true (pos b) s =
     (λ e. rw e (omega arith))
 
 -- one address adds at most one to the queue
-count-below : (width : Width) (size : ℕ) (wanted : Bool) (to : ℤ) (n r : ℕ) (m q m′ q′ : List ℕ)
+pub count-below : (width : Width) (size : ℕ) (wanted : Bool) (to : ℤ) (n r : ℕ) (m q m′ q′ : List ℕ)
     → searchBy r m′ q′ ≡ visitAll (wordsAmong width size (given wanted to)) (searchBy n m q) → n + 1 < length q′ → r ≤ n + 1
 count-below width size wanted to n r m q m′ q′ e h =
     let l : length (searchBy r m′ q′ .found) ≤ length (searchBy n m q .found) + 1 = rw e (given-longer width size wanted to (searchBy n m q)) in
     omega (arith, found-length r m′ q′, found-length n m q)
-
-module _ (width : Width) (size : ℕ) (i : Instruction) (a n r : ℕ) (m q m′ q′ : List ℕ) (room : n + 1 < length q′) where
-  pub next-count : searchBy r m′ q′ ≡ visitAll (wordsAmong width size (nextOf width i a)) (searchBy n m q) → r ≤ n + 1
-  unfolding nextOf
-  next-count e = count-below width size (goesOn (properties (operationOf (i .opcode)) .flow) (i .conditional)) (pos (a + wordBytes width)) n r m q m′ q′ e room
-
-  pub target-count : searchBy r m′ q′ ≡ visitAll (wordsAmong width size (targetOf width i a)) (searchBy n m q) → r ≤ n + 1
-  unfolding targetOf
-  target-count e = count-below width size (hasTarget (properties (operationOf (i .opcode)) .flow)) (pos (a + wordBytes width) +ℤ i .immediate *ℤ pos 2) n r m q m′ q′ e room
 
 -- ---- all that a word leads to
 
 module _ (width : Width) (program : List ℕ) (a : ℕ) (i : Instruction) (s₀ s₁ s₂ s₃ : Search) (n₀ n₁ n₂ : ℕ) where
   pub expanded : i ≡ decode width (wordAt width program a) → n₀ ≡ length program → n₁ ≡ length program → n₂ ≡ length program
       → s₁ ≡ visitAll (wordsAmong width n₀ (nextOf width i a)) s₀ → s₂ ≡ visitAll (wordsAmong width n₁ (targetOf width i a)) s₁
-      → s₃ ≡ visitAll (wordsAmong width n₂ (returnOf width i a)) s₂ → s₃ ≡ visitAll (leads width program a) s₀
-  unfolding leads
+      → s₃ ≡ visitAll (wordsAmong width n₂ (resumptionOf width i a)) s₂ → s₃ ≡ visitAll (successors width program a) s₀
+  unfolding successors
   expanded e l₀ l₁ l₂ e₁ e₂ e₃ =
       let n = length program in
       let next = nextOf width i a in
       let target = targetOf width i a in
-      let later = returnOf width i a in
+      let later = resumptionOf width i a in
       e₃
       ∙ ap (λ (k : ℕ). visitAll (wordsAmong width k later) s₂) l₂
       ∙ ap (visitAll (wordsAmong width n later))
@@ -146,7 +137,7 @@ module _ (width : Width) (program : List ℕ) (a : ℕ) (i : Instruction) (s₀ 
       ∙ ap (visitAll (wordsAmong width n target)) (e₁ ∙ ap (λ (k : ℕ). visitAll (wordsAmong width k next) s₀) l₀)
       ∙ visit-both width n next target s₀)
       ∙ visit-both width n (next ++ target) later s₀
-      ∙ ap (λ (j : Instruction). visitAll (wordsAmong width n (nextOf width j a ++ targetOf width j a ++ returnOf width j a)) s₀) e
+      ∙ ap (λ (j : Instruction). visitAll (wordsAmong width n (nextOf width j a ++ targetOf width j a ++ resumptionOf width j a)) s₀) e
 
 -- ---- the loop
 
@@ -155,15 +146,15 @@ pub found-at : (n : ℕ) (m q : List ℕ) (k : ℕ) → k < n → getD (searchBy
 unfolding searchBy
 found-at n m q k h = getD-take n q k 0 h
 
-module _ (leads : ℕ → List ℕ) (size head : ℕ) (s : Search) where
+module _ (successors : ℕ → List ℕ) (size head : ℕ) (s : Search) where
   pub follow-more : head < size → head < length (s .found)
-      → follow leads (size - head) head s ≡ follow leads (size - (head + 1)) (head + 1) (visitAll (leads (getD (s .found) head 0)) s)
+      → follow successors (size - head) head s ≡ follow successors (size - (head + 1)) (head + 1) (visitAll (successors (getD (s .found) head 0)) s)
   unfolding follow if_then_else_
   follow-more h l =
       let e : size - head ≡ suc (size - (head + 1)) = omega arith in
-      ap (λ (left : ℕ). follow leads left head s) e ∙ rw (lt-ltb head (length (s .found)) l, add-one head)
+      ap (λ (left : ℕ). follow successors left head s) e ∙ rw (lt-ltb head (length (s .found)) l, add-one head)
 
-  pub follow-end : (left : ℕ) → length (s .found) ≤ head → follow leads left head s ≡ s
+  pub follow-end : (left : ℕ) → length (s .found) ≤ head → follow successors left head s ≡ s
   unfolding follow if_then_else_
   follow-end zero l = refl
   follow-end (suc left) l = rw (le-ltb head (length (s .found)) l)

@@ -13,29 +13,22 @@ use borrow.Author.Tests.{eqb-true, eqb-false, eq-eqb, ne-eqb}
 use Rattle.word.specs.Choice.{if_then_else_}
 use Rattle.isa.specs.Operation.{Width}
 use Rattle.isa.specs.Decode.{wordBytes}
-use Rattle.reach.specs.Leads.{isWord, wordsAmong, nextAddresses, slots}
-use Rattle.reach.specs.Reached.{Among}
+use Rattle.reach.specs.Successors.{isWord, wordsAmong, nextAddresses, slots}
+use Rattle.reach.specs.Reachable.{Among}
 use Rattle.reach.specs.Search.{markAll, withSlotsOf, withSlots, MarksWords}
-use Rattle.reach.proofs.Words.{inside, slots-words}
-use Rattle.reach.proofs.Graph.{Bits}
+use Rattle.reach.proofs.Words.{inside, one-word, one-absent, slots-words}
+use Rattle.reach.proofs.Graph.{Bits, after-set}
 
 -- b is marked
 abbrev pub Marked : List ℕ → (b : ℕ) → Type 0
 Marked m b = getD m b 0 ≡ 1
 
 marked-set : (m : List ℕ) (c b : ℕ) → c < length m → Marked (set m c 1) b ↔ (Marked m b ⊎ (b ≡ c))
-marked-set m c b h = go (eqb b c) refl
+marked-set m c b h = after-set m c h (λ (n : ℕ). (n ≡ 1) ↔ (Marked m b ⊎ (b ≡ c))) b (λ e. ((λ _. inr e), (λ _. refl))) (λ d. ((λ k. inl k), back d))
   where
-    go : (x : Bool) → eqb b c ≡ x → Marked (set m c 1) b ↔ (Marked m b ⊎ (b ≡ c))
-    go true e = let b=c = eqb-true b c e in ((λ _. inr b=c), (λ _. ap (λ (n : ℕ). getD (set m c 1) n 0) b=c ∙ getD-set-same m c 1 0 h))
-    go false e =
-        let d = eqb-false b c e in
-        let o = getD-set-other m c b 1 0 d in
-        ((λ k. inl (sym o ∙ k)), back d o)
-      where
-        back : b ≢ c → getD (set m c 1) b 0 ≡ getD m b 0 → Marked m b ⊎ (b ≡ c) → Marked (set m c 1) b
-        back d o (inl k) = o ∙ k
-        back d o (inr e′) = absurd (d e′)
+    back : b ≢ c → Marked m b ⊎ (b ≡ c) → Marked m b
+    back d (inl k) = k
+    back d (inr e) = absurd (d e)
 
 pub length-all : (bs m : List ℕ) → length (markAll bs m) ≡ length m
 unfolding markAll
@@ -71,11 +64,7 @@ marked-all (c ∷ bs) m b h =
     back s (inr (inr x)) = inr x
 
 bits-set : (m : List ℕ) (c : ℕ) → c < length m → Bits m → Bits (set m c 1)
-bits-set m c h b k = go (eqb k c) refl
-  where
-    go : (x : Bool) → eqb k c ≡ x → (getD (set m c 1) k 0 ≡ 0) ⊎ (getD (set m c 1) k 0 ≡ 1)
-    go true e = inr (ap (λ (n : ℕ). getD (set m c 1) n 0) (eqb-true k c e) ∙ getD-set-same m c 1 0 h)
-    go false e = subst (λ (n : ℕ). (n ≡ 0) ⊎ (n ≡ 1)) (sym (getD-set-other m c k 1 0 (eqb-false k c e))) (b k)
+bits-set m c h b k = after-set m c h (λ (n : ℕ). (n ≡ 0) ⊎ (n ≡ 1)) k (λ e. inr refl) (λ d. b k)
 
 bits-all : (bs m : List ℕ) → Inside bs (length m) → Bits m → Bits (markAll bs m)
 unfolding markAll Inside
@@ -103,12 +92,12 @@ module _ (width : Width) (size : ℕ) where
       go false = refl
 
   pub mark-word : (a : ℕ) (m : List ℕ) → isWord width size a ≡ true → set m a 1 ≡ markAll (wordsAmong width size (pos a ∷ [])) m
-  unfolding wordsAmong markAll if_then_else_
-  mark-word a m e = rw e
+  unfolding markAll
+  mark-word a m e = ap (λ (l : List ℕ). markAll l m) (sym (one-word width size a e))
 
   pub mark-absent : (a : ℕ) (m : List ℕ) → isWord width size a ≡ false → m ≡ markAll (wordsAmong width size (pos a ∷ [])) m
-  unfolding wordsAmong markAll if_then_else_
-  mark-absent a m e = rw e
+  unfolding markAll
+  mark-absent a m e = ap (λ (l : List ℕ). markAll l m) (sym (one-absent width size a e))
 
   -- the next words, where k of `count` are marked
   pub next-marked : (b count k : ℕ) (m : List ℕ) → k < count

@@ -15,32 +15,29 @@ use Rattle.codec.proofs.Laws.{length-over}
 use Rattle.isa.specs.Operation.{Width}
 use Rattle.isa.specs.Decode.{wordBytes}
 use Rattle.machine.specs.Machine.{MOST-MEMORY}
-use Rattle.reach.specs.Leads.{isWord, leads, slots}
-use Rattle.reach.specs.Reached.{Among, Reachable}
+use Rattle.reach.specs.Successors.{isWord, successors, slots}
+use Rattle.reach.specs.Reachable.{Among, Reachable}
 use Rattle.reach.specs.Search.{searched, withSlots}
 use Rattle.reach.specs.Call.{reachedMap, Mapped, mapped, reachCall}
 use Rattle.reach.specs.Theorems.{Mappable, Exact, Exactly, RefusedKeeps, AskedInOrder, ReachableWords, FollowedOnce}
-use Rattle.reach.proofs.Words.{aligned, wholly, inside, slots-words, slots-above, reached-word}
+use Rattle.reach.proofs.Words.{whole, inside, slots-words, slots-above, in-full-word}
 use Rattle.reach.proofs.Graph.{Bits, found-few}
 use Rattle.reach.proofs.Slots.{Marked, SlotOf, with-slots, slots-bits}
-use Rattle.reach.proofs.Searching.{sound, in-full}
+use Rattle.reach.proofs.ProgramSearch.{sound, in-full}
 use Rattle.reach.proofs.Calls.{map-length, too-long, too-short, no-start, mappable}
 
 -- ---- what is reached
 
 pub reachable-words : ReachableWords
-reachable-words width program start b e r = record { aligned = aligned width size b (word r); wholly = wholly width size b (word r) }
+reachable-words width program start b w r = whole width (length program) b .0 (word r)
   where
-    size : ℕ
-    size = length program
-
     word : Reachable width program start b → isWord width (length program) b ≡ true
-    word (inl k) = reached-word width program start b e k
+    word (inl k) = in-full-word width program start b (whole width (length program) start .1 w) k
     word (inr k) = slots-words width program (k .word) b (k .slot)
 
 module _ (width : Width) (program : List ℕ) (start : ℕ) (word : isWord width (length program) start ≡ true) where
   abbrev marks : List ℕ
-  marks = searched (leads width program) (length program) start .marks
+  marks = searched (successors width program) (length program) start .marks
 
   slots-inside : (a b : ℕ) → Among b (slots width program a) → b < length program
   slots-inside a b m = inside width (length program) b (slots-words width program a b m)
@@ -58,7 +55,7 @@ module _ (width : Width) (program : List ℕ) (start : ℕ) (word : isWord width
 
       back : Reachable width program start b → Marked marks b ⊎ SlotOf (slots width program) (length program) marks b
       back (inl k) = inl (in-full width program start word b .1 k)
-      back (inr k) = inr (k .word, inside width (length program) (k .word) (reached-word width program start (k .word) word (k .reached)), in-full width program start word (k .word) .1 (k .reached), k .slot)
+      back (inr k) = inr (k .word, inside width (length program) (k .word) (in-full-word width program start (k .word) word (k .reached)), in-full width program start word (k .word) .1 (k .reached), k .slot)
 
   map-bits : Bits (reachedMap width program start)
   unfolding reachedMap
@@ -72,9 +69,9 @@ module _ (width : Width) (program : List ℕ) (start : ℕ) (word : isWord width
       go (inr o) = absurd (never (map-marks b .0 o))
 
 pub followed-once : FollowedOnce
-followed-once width program start word =
-    let s = sound width program start word in
-    record { different = s .different; few = found-few (leads width program) (length program) start s }
+followed-once width program start w =
+    let s = sound width program start (whole width (length program) start .1 w) in
+    record { different = s .different; few = found-few (successors width program) (length program) start s }
 
 -- ---- a call
 
@@ -90,7 +87,7 @@ module _ (width : Width) (program : List ℕ) (start : ℕ) (map : List ℕ) whe
       (λ r.
       let room = leb-true (length program) (length map) r in
       either (isWord width (length program) start)
-      (λ w. subst P (mappable width program start map size room w) (p₀ (record { size = size; room = room; word = w })))
+      (λ w. subst P (mappable width program start map size room w) (p₀ (record { size = size; room = room; word = whole width (length program) start .0 w })))
       (λ w. subst P (no-start width program start map size room w) p₂₇))
       (λ r. subst P (too-short width program start map size (leb-false (length program) (length map) r)) p₂₈))
       (λ s. subst P (too-long width program start map (leb-false (length program) MOST-MEMORY s)) p₁)
@@ -107,7 +104,7 @@ asked-in-order width program start map =
       tooShort = λ h l. sym (too-short width program start map h l);
       misaligned = λ h r d. sym (no-start width program start map h r (rw (ne-eqb (start % wordBytes width) 0 d)));
       absent = λ h r l. sym (no-start width program start map h r (rw (lt-leb (start + wordBytes width) (length program) l) (and-false (eqb (start % wordBytes width) 0))));
-      others = λ y. ap (λ (m : Mapped). m .answer) (sym (mappable width program start map (y .size) (y .room) (y .word)));
+      others = λ y. ap (λ (m : Mapped). m .answer) (sym (mappable width program start map (y .size) (y .room) (whole width (length program) start .1 (y .word))));
     }
 
 pub exactly : Exactly
@@ -117,14 +114,15 @@ exactly width program start map =
     (λ y e.
     let front = reachedMap width program start in
     let rest = drop (length front) map in
-    let n = map-length width program start (y .word) in (
+    let word = whole width (length program) start .1 (y .word) in
+    let n = map-length width program start word in (
       y,
       record {
         size = length-over front map (omega (arith, n, y .room));
         reached = λ b h.
             let same = List·getD-append front rest 0 b (rw n h) in
-            ((λ k. map-marks width program start (y .word) b .0 (sym same ∙ k)), (λ k. same ∙ map-marks width program start (y .word) b .1 k));
-        elsewhere = λ b h never. List·getD-append front rest 0 b (rw n h) ∙ map-elsewhere width program start (y .word) b never;
+            ((λ k. map-marks width program start word b .0 (sym same ∙ k)), (λ k. same ∙ map-marks width program start word b .1 k));
+        elsewhere = λ b h never. List·getD-append front rest 0 b (rw n h) ∙ map-elsewhere width program start word b never;
         beyond = drop-at front rest (length program) n ∙ ap (λ (k : ℕ). drop k map) n;
       },
     ))

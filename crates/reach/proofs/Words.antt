@@ -1,6 +1,6 @@
 -- Words of a program: what a word leads to are words, and its slots lie above it. Assumes nothing.
 use mathlib.Core.Path.{_≡_, refl}
-use mathlib.Core.Logic.{_⊎_, inl, inr}
+use mathlib.Core.Logic.{_⊎_, inl, inr, _↔_}
 use mathlib.Core.Bool.{Bool, true, false, and-false}
 use mathlib.Core.List.{List, [], _∷_}
 use Prim.Native.Nat.{ℕ, zero, suc, _+_, _%_, _≤_, _<_}
@@ -8,14 +8,15 @@ use native.Mathlib.Omega.{arith}
 use lib.Dec.{leb, eqb}
 use lib.IntN.{ℤ, pos, negsuc}
 use lib.ListN.{length}
-use borrow.Author.Tests.{eqb-true, leb-true, lt-leb}
+use borrow.Author.Tests.{eqb-true, leb-true, lt-leb, eq-eqb, le-leb}
 use Rattle.word.specs.Choice.{if_then_else_}
-use Rattle.word.proofs.Tests.{and-parts}
+use Rattle.word.proofs.Tests.{and-parts, and-both}
 use Rattle.isa.specs.Operation.{Width}
 use Rattle.isa.specs.Decode.{wordBytes}
 use Rattle.isa.proofs.Decoded.{bytes-positive}
-use Rattle.reach.specs.Leads.{isWord, wordsAmong, leads, nextAddresses, slots}
-use Rattle.reach.specs.Reached.{Among, Reached, first, further}
+use Rattle.reach.specs.Successors.{isWord, wordsAmong, successors, nextAddresses, slots}
+use Rattle.reach.specs.Theorems.{WholeWord}
+use Rattle.reach.specs.Reachable.{Among, InFull, first, further}
 
 -- ---- one word
 
@@ -38,6 +39,14 @@ no-word width size a h =
     let p = bytes-positive width in
     rw (lt-leb (a + wordBytes width) size (omega arith)) (and-false (eqb (a % wordBytes width) 0))
 
+-- the test says that there is a whole word
+pub whole : (width : Width) (size a : ℕ) → (isWord width size a ≡ true) ↔ WholeWord width size a
+unfolding isWord
+whole width size a = (
+  (λ e. record { aligned = aligned width size a e; wholly = wholly width size a e }),
+  (λ w. and-both (eqb (a % wordBytes width) 0) (leb (a + wordBytes width) size) (eq-eqb (a % wordBytes width) 0 (w .aligned)) (le-leb (a + wordBytes width) size (w .wholly))),
+)
+
 -- ---- lists of words
 
 module _ (width : Width) (size : ℕ) where
@@ -54,6 +63,15 @@ module _ (width : Width) (size : ℕ) where
           → ((isWord width size b ≡ true) × (b ≡ a)) ⊎ Among b (wordsAmong width size zs)
       go true e k = here e k
       go false e k = inr k
+
+  -- a list of one address
+  pub one-word : (a : ℕ) → isWord width size a ≡ true → wordsAmong width size (pos a ∷ []) ≡ a ∷ []
+  unfolding wordsAmong if_then_else_
+  one-word a e = rw e
+
+  pub one-absent : (a : ℕ) → isWord width size a ≡ false → wordsAmong width size (pos a ∷ []) ≡ []
+  unfolding wordsAmong if_then_else_
+  one-absent a e = rw e
 
   pub among-word : (zs : List ℤ) (b : ℕ) → Among b (wordsAmong width size zs) → isWord width size b ≡ true
   unfolding wordsAmong
@@ -79,9 +97,9 @@ module _ (width : Width) (size : ℕ) where
 -- ---- where a word leads
 
 module _ (width : Width) (program : List ℕ) where
-  pub leads-words : (a b : ℕ) → Among b (leads width program a) → isWord width (length program) b ≡ true
-  unfolding leads
-  leads-words a b m = among-word width (length program) _ b m
+  pub successors-words : (a b : ℕ) → Among b (successors width program a) → isWord width (length program) b ≡ true
+  unfolding successors
+  successors-words a b m = among-word width (length program) _ b m
 
   pub slots-words : (a b : ℕ) → Among b (slots width program a) → isWord width (length program) b ≡ true
   unfolding slots
@@ -92,6 +110,6 @@ module _ (width : Width) (program : List ℕ) where
   slots-above a b m = next-above width (length program) a _ b m
 
   -- what is reached in full from a word is a word
-  pub reached-word : (start b : ℕ) → isWord width (length program) start ≡ true → Reached (leads width program) start b → isWord width (length program) b ≡ true
-  reached-word start b e first = e
-  reached-word start b e (further {a} r m) = leads-words a b m
+  pub in-full-word : (start b : ℕ) → isWord width (length program) start ≡ true → InFull (successors width program) start b → isWord width (length program) b ≡ true
+  in-full-word start b e first = e
+  in-full-word start b e (further {a} r m) = successors-words a b m

@@ -46,16 +46,35 @@ every =
 unfoldable narrow : List ℕ
 narrow = bytesOf (0xA003_9C08 ∷ 0x8800_D801 ∷ 0xC400_93FA ∷ []) ++ 0 ∷ 0 ∷ 0 ∷ []
 
+-- 32-bit words: jalr and scall with a condition, jmpr without one, a swm to 16-bit words
+unfoldable conditional : List ℕ
+conditional = bytesOf (0x9E00_0000 ∷ 0 ∷ 0xC200_0000 ∷ 0 ∷ 0x9800_0000 ∷ 0 ∷ 0xD800_0000 ∷ 0 ∷ 0 ∷ 0 ∷ [])
+
+-- 16-bit words: scall, two nops, a swm that keeps the width, two nops, trap
+unfoldable narrowSwitch : List ℕ
+narrowSwitch = bytesOf (0xC000_0000 ∷ 0x0000_D800 ∷ 0x0000_0000 ∷ 0xDC00_0000 ∷ [])
+
+-- targets: a misaligned word, below 0, the last word, one past it, far outside
+unfoldable targets : List ℕ
+targets = bytesOf (0xA000_0001 ∷ 0xA03F_FFFA ∷ 0xA000_0006 ∷ 0x9400_0006 ∷ 0xDC00_0000 ∷ 0x90FF_FFFF ∷ 0 ∷ [])
+
 unfoldable cases : List Case
 cases =
     record { width = w32; program = slotsOnly; start = 0; marks = 1 ∷ 1 ∷ 0 ∷ 0 ∷ 1 ∷ 1 ∷ 1 ∷ 1 ∷ 1 ∷ 0 ∷ [] } ∷
+    record { width = w32; program = slotsOnly; start = 0x24; marks = 0 ∷ 0 ∷ 0 ∷ 0 ∷ 0 ∷ 0 ∷ 0 ∷ 0 ∷ 0 ∷ 1 ∷ [] } ∷
     record { width = w32; program = every; start = 0; marks = 1 ∷ 1 ∷ 1 ∷ 1 ∷ 1 ∷ 1 ∷ 1 ∷ 1 ∷ 1 ∷ 1 ∷ 1 ∷ 1 ∷ 0 ∷ 0 ∷ [] } ∷
     record { width = w32; program = every; start = 0x30; marks = 0 ∷ 0 ∷ 0 ∷ 0 ∷ 0 ∷ 0 ∷ 0 ∷ 0 ∷ 0 ∷ 0 ∷ 0 ∷ 0 ∷ 1 ∷ 0 ∷ [] } ∷
     record { width = w16; program = narrow; start = 0; marks = 1 ∷ 1 ∷ 1 ∷ 1 ∷ 1 ∷ 1 ∷ 0 ∷ [] } ∷
+    record { width = w16; program = narrow; start = 0x0C; marks = 0 ∷ 0 ∷ 0 ∷ 0 ∷ 0 ∷ 0 ∷ 1 ∷ [] } ∷
+    record { width = w32; program = conditional; start = 0; marks = 1 ∷ 1 ∷ 1 ∷ 1 ∷ 1 ∷ 1 ∷ 0 ∷ 0 ∷ 0 ∷ 0 ∷ [] } ∷
+    record { width = w32; program = conditional; start = 0x18; marks = 0 ∷ 0 ∷ 0 ∷ 0 ∷ 0 ∷ 0 ∷ 1 ∷ 1 ∷ 1 ∷ 0 ∷ [] } ∷
+    record { width = w16; program = narrowSwitch; start = 0; marks = 1 ∷ 1 ∷ 1 ∷ 1 ∷ 1 ∷ 1 ∷ 1 ∷ 0 ∷ [] } ∷
+    record { width = w32; program = targets; start = 0; marks = 1 ∷ 1 ∷ 1 ∷ 1 ∷ 1 ∷ 1 ∷ 1 ∷ [] } ∷
+    record { width = w32; program = targets; start = 0x14; marks = 0 ∷ 0 ∷ 0 ∷ 0 ∷ 0 ∷ 1 ∷ 1 ∷ [] } ∷
     []
 
 worked : map called cases ≡ map expected cases
-unfolding reaching bytesOf called spread rest expected slotsOnly every narrow cases
+unfolding reaching bytesOf called spread rest expected slotsOnly every narrow conditional narrowSwitch targets cases
 worked = refl
 
 -- start 2 in 32-bit words: 28 where the map is one byte short, else 27

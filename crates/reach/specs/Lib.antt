@@ -1,6 +1,6 @@
 -- The words of a program that can be reached.
-pub mod Leads
-pub mod Reached
+pub mod Successors
+pub mod Reachable
 pub mod Search
 pub mod Call
 pub mod Theorems

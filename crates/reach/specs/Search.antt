@@ -7,7 +7,7 @@ use lib.Dec.{ltb, eqb}
 use lib.ListN.{length, getD, set, replicate, take}
 use Rattle.word.specs.Choice.{if_then_else_}
 use Rattle.isa.specs.Operation.{Width}
-use Rattle.reach.specs.Leads.{isWord}
+use Rattle.reach.specs.Successors.{isWord}
 
 -- ---- what is reached in full
 
@@ -16,26 +16,28 @@ pub record Search : Type 0 where
   pub marks : List ℕ
   pub found : List ℕ
 
+-- an address is marked and found, unless it is marked already
 unfoldable pub visit : (b : ℕ) → Search → Search
 visit b s = if eqb (getD (s .marks) b 0) 1 then s else record { marks = set (s .marks) b 1; found = s .found ++ b ∷ [] }
 
+-- one after the other
 unfoldable pub visitAll : List ℕ → Search → Search
 visitAll [] s = s
 visitAll (b ∷ bs) s = visitAll bs (visit b s)
 
--- from the found one of number `head` on, what each leads to is visited; at most `left` of them
-unfoldable pub follow : (leads : ℕ → List ℕ) (left head : ℕ) → Search → Search
-follow leads zero head s = s
-follow leads (suc left) head s =
-    if ltb head (length (s .found)) then follow leads left (suc head) (visitAll (leads (getD (s .found) head 0)) s) else s
+-- from the found one of number `head` on, at most `left` of them: what each leads to is visited
+unfoldable pub follow : (edges : ℕ → List ℕ) (left head : ℕ) → Search → Search
+follow edges zero head s = s
+follow edges (suc left) head s =
+    if ltb head (length (s .found)) then follow edges left (suc head) (visitAll (edges (getD (s .found) head 0)) s) else s
 
 -- nothing is found yet
 abbrev pub blank : (size : ℕ) → Search
 blank size = record { marks = replicate size 0; found = [] }
 
 -- the search from a start, of addresses below `size`
-unfoldable pub searched : (leads : ℕ → List ℕ) (size start : ℕ) → Search
-searched leads size start = follow leads size 0 (visit start (blank size))
+unfoldable pub searched : (edges : ℕ → List ℕ) (size start : ℕ) → Search
+searched edges size start = follow edges size 0 (visit start (blank size))
 
 -- the code's search: its marks, and those found at the front of a queue
 unfoldable pub searchBy : (count : ℕ) (marks queue : List ℕ) → Search
@@ -43,18 +45,19 @@ searchBy count marks queue = record { marks = marks; found = take count queue }
 
 -- ---- slots
 
+-- addresses are marked
 unfoldable pub markAll : List ℕ → (marks : List ℕ) → List ℕ
 markAll [] m = m
 markAll (b ∷ bs) m = markAll bs (set m b 1)
 
--- the slots of one address are marked, if it is
-unfoldable pub withSlotsOf : (slots : ℕ → List ℕ) (a : ℕ) (marks : List ℕ) → List ℕ
-withSlotsOf slots a m = if eqb (getD m a 0) 1 then markAll (slots a) m else m
+-- the slots of one address are marked, if it is marked
+unfoldable pub withSlotsOf : (slotsOf : ℕ → List ℕ) (a : ℕ) (marks : List ℕ) → List ℕ
+withSlotsOf slotsOf a m = if eqb (getD m a 0) 1 then markAll (slotsOf a) m else m
 
 -- the slots of all that is marked below `count`, from the highest down: slots lie above their word, so a mark made here is never looked at
-unfoldable pub withSlots : (slots : ℕ → List ℕ) (count : ℕ) (marks : List ℕ) → List ℕ
-withSlots slots zero m = m
-withSlots slots (suc a) m = withSlots slots a (withSlotsOf slots a m)
+unfoldable pub withSlots : (slotsOf : ℕ → List ℕ) (count : ℕ) (marks : List ℕ) → List ℕ
+withSlots slotsOf zero m = m
+withSlots slotsOf (suc a) m = withSlots slotsOf a (withSlotsOf slotsOf a m)
 
 -- every mark is that of a word
 abbrev pub MarksWords : Width → (size : ℕ) (marks : List ℕ) → Type 0

@@ -8,12 +8,12 @@ ghost use lib.ListN.{length, replicate};
 ghost use Rattle.isa.specs.Operation.{operationOf, widthBy, properties};
 ghost use Rattle.isa.specs.Decode.{wordBytes};
 ghost use Rattle.machine.specs.Machine.{MOST-MEMORY};
-ghost use Rattle.reach.specs.Leads.{isWord, wordsAmong, goesOn, hasTarget, returnWords, slotWords, keepsWidth, given, nextOf, targetOf, returnOf, leads, nextAddresses, slots};
+ghost use Rattle.reach.specs.Successors.{isWord, wordsAmong, fallsThrough, hasTarget, resumeWords, slotWords, keepsWidth, given, nextOf, targetOf, resumptionOf, successors, nextAddresses, slots};
 ghost use Rattle.reach.specs.Search.{visit, visitAll, searched, searchBy, markAll, withSlotsOf, withSlots, MarksWords};
 ghost use Rattle.reach.specs.Call.{reachedMap, mapped, reachCall};
 use isa::Instruction;
 
-// Room for every address of a program, and for those that one word leads to besides.
+// Room for every address of a program, and more than the three to which one word leads.
 const QUEUE: usize = 65_540;
 
 // ---- where a word leads
@@ -26,9 +26,17 @@ fn is_word(wide: bool, size: usize, at: u32) -> bool
     (at as usize % bytes == 0) & (at as usize + bytes <= size)
 }
 
+// The address of the word after one.
+fn next_address(wide: bool, a: u32) -> u32
+    requires { ⌜ a ≤ MOST-MEMORY ⌝ }
+    ensures { λ r. ⌜ r ≡ a + wordBytes (widthBy wide) ⌝ }
+{
+    a + isa::word_bytes(wide)
+}
+
 // Whether an instruction leads to the next word.
-fn goes_on(op: u32, conditional: bool) -> bool
-    ensures { λ r. ⌜ r ≡ goesOn (properties (operationOf op) .flow) conditional ⌝ }
+fn falls_through(op: u32, conditional: bool) -> bool
+    ensures { λ r. ⌜ r ≡ fallsThrough (properties (operationOf op) .flow) conditional ⌝ }
 {
     let never = (36 <= op) & (op <= 37) | (49 <= op) & (op <= 50) | (54 <= op) & (op <= 55);
     let optional = (38 <= op) & (op <= 39) | (op == 48);
@@ -50,9 +58,9 @@ fn keeps_width(wide: bool, immediate: i32) -> bool
     if wide { il } else { !il }
 }
 
-// How many words on the one is at which a call or a swm goes on; 0 for none.
-fn return_words(op: u32, keeps: bool) -> u32
-    ensures { λ r. ⌜ r ≡ returnWords (properties (operationOf op) .flow) keeps ⌝ }
+// How many words on a call returns, or a swm goes on; 0 for nowhere.
+fn resume_words(op: u32, keeps: bool) -> u32
+    ensures { λ r. ⌜ r ≡ resumeWords (properties (operationOf op) .flow) keeps ⌝ }
 {
     if (op == 37) | (op == 39) | (op == 48) {
         2
@@ -63,7 +71,8 @@ fn return_words(op: u32, keeps: bool) -> u32
     }
 }
 
-// How many of the words after an instruction are its slots. To call `isa::nops_after` here would change the code of a step.
+// How many of the next words are slots of an instruction. It has its own numbers: with a second caller, `isa::nops_after` takes part of an
+// instruction more in a step with interrupts (docs/DECISIONS.md, Design).
 fn slot_words(op: u32) -> u32
     ensures { λ r. ⌜ r ≡ slotWords (properties (operationOf op) .flow) (properties (operationOf op) .nops) ⌝ }
 {
@@ -94,12 +103,19 @@ fn visit(map: &mut [u8], queue: &mut [u16], count: usize, b: usize) -> usize
     }
 }
 
-// The same with an address to which a word leads, where it does and there is a word.
-fn lead(map: &mut [u8], queue: &mut [u16], wide: bool, count: usize, leads: bool, to: i64) -> usize
+// Visits an address where it is wanted and there is a word.
+fn visit_address(
+    map: &mut [u8],
+    queue: &mut [u16],
+    wide: bool,
+    count: usize,
+    wanted: bool,
+    to: i64,
+) -> usize
     requires { ⌜ (length (now map) ≤ MOST-MEMORY) × (count < length (now queue)) ⌝ }
-    ensures { λ r. ⌜ searchBy r (now (map .exit)) (now (queue .exit)) ≡ visitAll (wordsAmong (widthBy wide) (length (now (map .entry))) (given leads to)) (searchBy count (now (map .entry)) (now (queue .entry))) ⌝ }
+    ensures { λ r. ⌜ searchBy r (now (map .exit)) (now (queue .exit)) ≡ visitAll (wordsAmong (widthBy wide) (length (now (map .entry))) (given wanted to)) (searchBy count (now (map .entry)) (now (queue .entry))) ⌝ }
 {
-    if leads & word::is_address(to) {
+    if wanted & word::is_address(to) {
         let b = word::low_word(to);
         if is_word(wide, map.len(), b) {
             return visit(map, queue, count, b as usize);
@@ -109,7 +125,7 @@ fn lead(map: &mut [u8], queue: &mut [u16], wide: bool, count: usize, leads: bool
 }
 
 // Visits the word after an instruction at an address, if it leads there.
-fn lead_next(
+fn visit_next(
     map: &mut [u8],
     queue: &mut [u16],
     wide: bool,
@@ -120,13 +136,13 @@ fn lead_next(
     requires { ⌜ (length (now map) ≤ MOST-MEMORY) × (count < length (now queue)) × (a ≤ MOST-MEMORY) ⌝ }
     ensures { λ r. ⌜ searchBy r (now (map .exit)) (now (queue .exit)) ≡ visitAll (wordsAmong (widthBy wide) (length (now (map .entry))) (nextOf (widthBy wide) i a)) (searchBy count (now (map .entry)) (now (queue .entry))) ⌝ }
 {
-    let next = a + isa::word_bytes(wide);
-    let leads = goes_on(i.opcode, i.conditional);
-    lead(map, queue, wide, count, leads, next as i64)
+    let wanted = falls_through(i.opcode, i.conditional);
+    let next = next_address(wide, a);
+    visit_address(map, queue, wide, count, wanted, next as i64)
 }
 
 // Visits its target.
-fn lead_target(
+fn visit_target(
     map: &mut [u8],
     queue: &mut [u16],
     wide: bool,
@@ -137,14 +153,13 @@ fn lead_target(
     requires { ⌜ (length (now map) ≤ MOST-MEMORY) × (count < length (now queue)) × (a ≤ MOST-MEMORY) ⌝ }
     ensures { λ r. ⌜ searchBy r (now (map .exit)) (now (queue .exit)) ≡ visitAll (wordsAmong (widthBy wide) (length (now (map .entry))) (targetOf (widthBy wide) i a)) (searchBy count (now (map .entry)) (now (queue .entry))) ⌝ }
 {
-    let next = a + isa::word_bytes(wide);
-    let target = word::jump_target(next, i.immediate);
-    let leads = has_target(i.opcode);
-    lead(map, queue, wide, count, leads, target)
+    let wanted = has_target(i.opcode);
+    let target = word::jump_target(next_address(wide, a), i.immediate);
+    visit_address(map, queue, wide, count, wanted, target)
 }
 
-// Visits the word at which it goes on later.
-fn lead_return(
+// Visits the word at which it returns, or goes on.
+fn visit_resumption(
     map: &mut [u8],
     queue: &mut [u16],
     wide: bool,
@@ -153,11 +168,11 @@ fn lead_return(
     a: u32,
 ) -> usize
     requires { ⌜ (length (now map) ≤ MOST-MEMORY) × (count < length (now queue)) × (a ≤ MOST-MEMORY) ⌝ }
-    ensures { λ r. ⌜ searchBy r (now (map .exit)) (now (queue .exit)) ≡ visitAll (wordsAmong (widthBy wide) (length (now (map .entry))) (returnOf (widthBy wide) i a)) (searchBy count (now (map .entry)) (now (queue .entry))) ⌝ }
+    ensures { λ r. ⌜ searchBy r (now (map .exit)) (now (queue .exit)) ≡ visitAll (wordsAmong (widthBy wide) (length (now (map .entry))) (resumptionOf (widthBy wide) i a)) (searchBy count (now (map .entry)) (now (queue .entry))) ⌝ }
 {
-    let words = return_words(i.opcode, keeps_width(wide, i.immediate));
+    let words = resume_words(i.opcode, keeps_width(wide, i.immediate));
     let later = a + words * isa::word_bytes(wide);
-    lead(map, queue, wide, count, words != 0, later as i64)
+    visit_address(map, queue, wide, count, words != 0, later as i64)
 }
 
 // Visits what the word at an address leads to.
@@ -170,18 +185,18 @@ fn expand(
     a: usize,
 ) -> usize
     requires { ⌜ (a + wordBytes (widthBy wide) ≤ length (now program)) × (length (now map) ≡ length (now program)) × (length (now program) ≤ MOST-MEMORY) × (count + 3 ≤ length (now queue)) ⌝ }
-    ensures { λ r. ⌜ searchBy r (now (map .exit)) (now (queue .exit)) ≡ visitAll (leads (widthBy wide) (now (program .entry)) a) (searchBy count (now (map .entry)) (now (queue .entry))) ⌝ }
+    ensures { λ r. ⌜ searchBy r (now (map .exit)) (now (queue .exit)) ≡ visitAll (successors (widthBy wide) (now (program .entry)) a) (searchBy count (now (map .entry)) (now (queue .entry))) ⌝ }
 {
     let i = isa::decode(isa::word_at(program, wide, a), wide);
-    let n = lead_next(map, queue, wide, count, i, a as u32);
-    let m = lead_target(map, queue, wide, n, i, a as u32);
-    lead_return(map, queue, wide, m, i, a as u32)
+    let n = visit_next(map, queue, wide, count, i, a as u32);
+    let m = visit_target(map, queue, wide, n, i, a as u32);
+    visit_resumption(map, queue, wide, m, i, a as u32)
 }
 
 // Marks what is reached in full from a start address, in a map of zeros.
 fn search(program: &[u8], wide: bool, start: u32, map: &mut [u8])
     requires { ⌜ (now map ≡ replicate (length (now program)) 0) × (length (now program) ≤ MOST-MEMORY) × (isWord (widthBy wide) (length (now program)) start ≡ true) ⌝ }
-    ensures { λ _. ⌜ now (map .exit) ≡ searched (leads (widthBy wide) (now (program .entry))) (length (now (program .entry))) start .marks ⌝ }
+    ensures { λ _. ⌜ now (map .exit) ≡ searched (successors (widthBy wide) (now (program .entry))) (length (now (program .entry))) start .marks ⌝ }
 {
     let mut queue = [0u16; QUEUE];
     let mut count = visit(map, &mut queue, 0, start as usize);

@@ -6,37 +6,45 @@ use lib.ListN.{length}
 use borrow.Author.Needs.{needs}
 use Rattle.isa.specs.Operation.{widthBy}
 use Rattle.isa.specs.Decode.{decode}
+use Rattle.reach.specs.Successors.{nextOf, targetOf}
 use Rattle.reach.specs.Search.{searchBy}
-use Rattle.reach.proofs.Queue.{next-count, target-count, expanded}
+use Rattle.reach.proofs.Queue.{count-below, expanded}
 use Rattle.reach.proofs.expand.Statement.{statement}
 use Rattle.reach.proofs.expand.Tie as tie
 
 -- each adds at most one
-one : (c : tie.After-lead-next) → c .lead-next .result ≤ c .before .before .before .before .before .before .before .before .args .count + 1
+one : (c : tie.After-visit-next) → c .visit-next .result ≤ c .before .before .before .before .before .before .before .before .args .count + 1
+unfolding nextOf
 one c =
     let start = c .before .before .before .before .before .before .before .before in
     let args = start .args in
-    next-count (widthBy (args .wide)) (length (args .map .now)) (c .before .before .before .decode .result) (args .a) (args .count) (c .lead-next .result) (args .map .now) (args .queue .now) (c .lead-next .last .0) (c .lead-next .last .1 .0) (omega (arith, c .lead-next .kept .1, start .pre .3)) (c .lead-next .ensures)
+    let visited = c .visit-next in
+    count-below (widthBy (args .wide)) (length (args .map .now)) _ _ (args .count) (visited .result) (args .map .now) (args .queue .now) (visited .last .0) (visited .last .1 .0)
+    (visited .ensures) (omega (arith, visited .kept .1, start .pre .3))
 
-two : (c : tie.After-lead-target) → c .lead-target .result ≤ c .before .before .before .before .before .before .before .lead-next .result + 1
+two : (c : tie.After-visit-target) → c .visit-target .result ≤ c .before .before .before .before .before .before .before .visit-next .result + 1
+unfolding targetOf
 two c =
     let led = c .before .before .before .before .before .before .before in
     let start = led .before .before .before .before .before .before .before .before in
     let args = start .args in
-    target-count (widthBy (args .wide)) (length (led .lead-next .last .0)) (led .before .before .before .decode .result) (args .a) (led .lead-next .result) (c .lead-target .result) (led .lead-next .last .0) (led .lead-next .last .1 .0) (c .lead-target .last .0) (c .lead-target .last .1 .0) (omega (arith, one led, led .lead-next .kept .1, c .lead-target .kept .1, start .pre .3)) (c .lead-target .ensures)
+    let first = led .visit-next in
+    let visited = c .visit-target in
+    count-below (widthBy (args .wide)) (length (first .last .0)) _ _ (first .result) (visited .result) (first .last .0) (first .last .1 .0) (visited .last .0) (visited .last .1 .0)
+    (visited .ensures) (omega (arith, one led, first .kept .1, visited .kept .1, start .pre .3))
 
-lead-target-requires : tie.Need-lead-target-requires
-lead-target-requires c κs =
+visit-target-requires : tie.Need-visit-target-requires
+visit-target-requires c κs =
     let led = c .before .before .before .before .before .before in
     let start = led .before .before .before .before .before .before .before .before in
-    (search needs, omega (arith, one led, led .lead-next .kept .1, start .pre .3), search needs)
+    (search needs, omega (arith, one led, led .visit-next .kept .1, start .pre .3), search needs)
 
-lead-return-requires : tie.Need-lead-return-requires
-lead-return-requires c κs =
+visit-resumption-requires : tie.Need-visit-resumption-requires
+visit-resumption-requires c κs =
     let aimed = c .before .before .before .before .before .before in
     let led = aimed .before .before .before .before .before .before .before in
     let start = led .before .before .before .before .before .before .before .before in
-    (omega (arith, led .lead-next .kept .0, aimed .lead-target .kept .0, start .pre .1, start .pre .2), omega (arith, two aimed, one led, led .lead-next .kept .1, aimed .lead-target .kept .1, start .pre .3), omega (arith, start .pre .0, start .pre .2))
+    (omega (arith, led .visit-next .kept .0, aimed .visit-target .kept .0, start .pre .1, start .pre .2), omega (arith, two aimed, one led, led .visit-next .kept .1, aimed .visit-target .kept .1, start .pre .3), omega (arith, start .pre .0, start .pre .2))
 
 returns : tie.Need-returns
 returns c =
@@ -48,25 +56,25 @@ returns c =
     let decoded = led .before .before .before in
     expanded (widthBy (args .wide)) (args .program .now) (args .a) (decoded .decode .result)
     (searchBy (args .count) (args .map .now) (args .queue .now))
-    (searchBy (led .lead-next .result) (led .lead-next .last .0) (led .lead-next .last .1 .0))
-    (searchBy (aimed .lead-target .result) (aimed .lead-target .last .0) (aimed .lead-target .last .1 .0))
-    (searchBy (later .lead-return .result) (later .lead-return .last .0) (later .lead-return .last .1 .0))
-    (length (args .map .now)) (length (led .lead-next .last .0)) (length (aimed .lead-target .last .0))
+    (searchBy (led .visit-next .result) (led .visit-next .last .0) (led .visit-next .last .1 .0))
+    (searchBy (aimed .visit-target .result) (aimed .visit-target .last .0) (aimed .visit-target .last .1 .0))
+    (searchBy (later .visit-resumption .result) (later .visit-resumption .last .0) (later .visit-resumption .last .1 .0))
+    (length (args .map .now)) (length (led .visit-next .last .0)) (length (aimed .visit-target .last .0))
     (decoded .decode .ensures ∙ ap (decode (widthBy (args .wide))) (decoded .before .word-at .ensures))
     (start .pre .1)
-    (led .lead-next .kept .0 ∙ start .pre .1)
-    (aimed .lead-target .kept .0 ∙ led .lead-next .kept .0 ∙ start .pre .1)
-    (led .lead-next .ensures)
-    (aimed .lead-target .ensures)
-    (later .lead-return .ensures)
+    (led .visit-next .kept .0 ∙ start .pre .1)
+    (aimed .visit-target .kept .0 ∙ led .visit-next .kept .0 ∙ start .pre .1)
+    (led .visit-next .ensures)
+    (aimed .visit-target .ensures)
+    (later .visit-resumption .ensures)
 
 pub expand-spec : {M : Type 1} → statement M
 expand-spec =
     tie.close
     (tie.spec
     (λ c κs. search needs) (λ c κs. search needs) (λ c. search needs) (λ c κs. search needs) (λ c. search needs)
-    lead-target-requires
+    visit-target-requires
     (λ c. search needs)
-    lead-return-requires
+    visit-resumption-requires
     (λ c. search needs) (λ c. search needs)
     returns)

@@ -1,7 +1,7 @@
 -- `reach::is_word` meets its contract. Assumes nothing.
 use borrow.Author.Needs.{needs}
 use Rattle.isa.proofs.Decoded.{bytes-positive}
-use Rattle.reach.specs.Leads.{isWord}
+use Rattle.reach.specs.Successors.{isWord}
 use Rattle.reach.proofs.is_word.Statement.{statement}
 use Rattle.reach.proofs.is_word.Tie as tie
 

@@ -3,7 +3,7 @@ use mir.Facts.{toZ-ofZ}
 use borrow.Author.Needs.{needs}
 use Rattle.word.proofs.Integers.{word-low}
 use Rattle.isa.specs.Operation.{widthBy}
-use Rattle.reach.specs.Leads.{keepsWidth}
+use Rattle.reach.specs.Successors.{keepsWidth}
 use Rattle.reach.proofs.keeps_width.Statement.{statement}
 use Rattle.reach.proofs.keeps_width.Tie as tie
 

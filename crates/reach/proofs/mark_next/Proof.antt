@@ -9,7 +9,7 @@ use lib.ListN.{length}
 use borrow.Author.Needs.{needs}
 use Rattle.isa.specs.Operation.{widthBy}
 use Rattle.isa.proofs.Decoded.{bytes-most}
-use Rattle.reach.specs.Leads.{wordsAmong, nextAddresses}
+use Rattle.reach.specs.Successors.{wordsAmong, nextAddresses}
 use Rattle.reach.specs.Search.{markAll}
 use Rattle.reach.proofs.Slots.{next-marked, none-left}
 use Rattle.reach.proofs.mark_next.Statement.{statement}

@@ -4,10 +4,10 @@ use Prim.Native.Nat.{ℕ}
 use lib.ListN.{length, replicate}
 use borrow.Author.Needs.{needs}
 use Rattle.isa.specs.Operation.{widthBy}
-use Rattle.reach.specs.Leads.{slots}
+use Rattle.reach.specs.Successors.{slots}
 use Rattle.reach.specs.Search.{withSlots, MarksWords}
 use Rattle.reach.specs.Call.{reachedMap}
-use Rattle.reach.proofs.Searching.{sound, marks-words}
+use Rattle.reach.proofs.ProgramSearch.{sound, marks-words}
 use Rattle.reach.proofs.mark_reached.Statement.{statement}
 use Rattle.reach.proofs.mark_reached.Tie as tie
 

@@ -5,7 +5,7 @@ use native.Mathlib.Omega.{arith}
 use lib.ListN.{length}
 use borrow.Author.Needs.{needs}
 use Rattle.isa.specs.Operation.{widthBy}
-use Rattle.reach.specs.Leads.{slots}
+use Rattle.reach.specs.Successors.{slots}
 use Rattle.reach.specs.Search.{withSlots, MarksWords}
 use Rattle.reach.proofs.Slots.{slots-keep-words, slots-next, slots-none}
 use Rattle.reach.proofs.mark_slots.Statement.{statement}

@@ -4,8 +4,8 @@ use Prim.Native.Nat.{ℕ}
 use lib.ListN.{length}
 use borrow.Author.Needs.{needs}
 use Rattle.isa.specs.Operation.{operationOf, widthBy, properties}
-use Rattle.isa.specs.Decode.{wordAt, opcodeOf}
-use Rattle.reach.specs.Leads.{slotWords, wordsAmong, nextAddresses, slots}
+use Rattle.isa.specs.Decode.{wordAt, opcodeOf, assembled, decode}
+use Rattle.reach.specs.Successors.{slotWords, wordsAmong, nextAddresses, slots}
 use Rattle.reach.specs.Search.{markAll}
 use Rattle.reach.proofs.Words.{wholly}
 use Rattle.reach.proofs.Flows.{slot-few}
@@ -22,7 +22,7 @@ mark-next-requires : tie.Need-mark-next-requires
 mark-next-requires c κs = (search needs, rw (c .slot-words .ensures) (slot-few _))
 
 returns : tie.Need-returns
-unfolding slots
+unfolding slots decode assembled
 returns c =
     let counted = c .before .before .before in
     let start = counted .before .before .before .before .before .before .before .before in

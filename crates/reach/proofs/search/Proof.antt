@@ -10,7 +10,7 @@ use Rattle.isa.specs.Decode.{wordBytes}
 use Rattle.machine.specs.Machine.{MOST-MEMORY}
 use Rattle.reach.specs.Search.{visit, searchBy}
 use Rattle.reach.proofs.Words.{inside}
-use Rattle.reach.proofs.Searching.{Going, begun, few, next-word, more, ended}
+use Rattle.reach.proofs.ProgramSearch.{Going, begun, few, next-word, more, ended}
 use Rattle.reach.proofs.search.Statement.{statement}
 use Rattle.reach.proofs.search.Tie as tie
 
