@@ -169,11 +169,11 @@ uint64_t coffee_encode(
  * start     the address of the word to start from
  * map       at least as many bytes as the program has
  *
- * A word that is reached leads to the next one, unless it is jmp, jal, retu, reti, swm or trap, or jmpr, jalr or scall without a condition. jmp,
- * jal and branches lead to their target, the next word's address plus twice the immediate; jal, jalr and scall to the word two on, and a swm that
- * keeps the width to the word three on. A word is reached as a slot, too: the one after jmp, jal, jmpr, jalr, scall and retu, the two after swm,
- * the three after reti; a word reached only so leads nowhere. Only aligned words wholly in the program are reached. What a register, a vector or
- * the hardware stack says is not followed.
+ * The word at `start` is reached. A word that is reached leads to the next one, unless it is jmp, jal, retu, reti, swm or trap, or jmpr, jalr or
+ * scall without a condition. jmp, jal and branches lead to their target, the next word's address plus twice the immediate; jal, jalr and scall to
+ * the word two on, and a swm that keeps the width to the word three on. A word is reached as a slot, too: the one after jmp, jal, jmpr, jalr, scall
+ * and retu, the two after swm, the three after reti; a word reached only so leads nowhere. Only aligned words wholly in the program are reached.
+ * What a register, a vector or the hardware stack says is not followed.
  *
  * Takes up to 140 KB of stack.
  *
