@@ -9,17 +9,17 @@ use native.Mathlib.Omega.{arith}
 use lib.ListN.{length, getD, set, length-take, length-append}
 use lib.Seq.{take-suc-set, getD-take}
 use lib.Dec.{eqb}
-use lib.IntN.{ℤ, pos, negsuc, _+ℤ_, _*ℤ_}
+use lib.IntN.{ℤ, pos, negsuc}
 use borrow.Author.Tests.{ltb-false, eq-eqb, ne-eqb, lt-ltb, le-ltb}
 use Rattle.word.specs.Choice.{if_then_else_}
 use Rattle.word.specs.Word.{wordOf, isAddress}
 use Rattle.word.proofs.Tests.{either, and-parts}
 use Rattle.word.proofs.Integers.{address-word}
-use Rattle.isa.specs.Operation.{operationOf, Width, properties}
-use Rattle.isa.specs.Decode.{wordBytes, wordAt, decode}
+use Rattle.isa.specs.Operation.{Width}
+use Rattle.isa.specs.Decode.{wordAt, decode}
 use Rattle.isa.specs.declared.Instruction.{Instruction}
 use Rattle.machine.specs.Machine.{MOST-MEMORY}
-use Rattle.reach.specs.Successors.{isWord, wordsAmong, fallsThrough, hasTarget, given, nextOf, targetOf, resumptionOf, successors}
+use Rattle.reach.specs.Successors.{isWord, wordsAmong, given, nextOf, targetOf, resumptionOf, successors}
 use Rattle.reach.specs.Search.{Search, visit, visitAll, follow, searchBy}
 use Rattle.reach.proofs.Words.{no-word, one-word, one-absent}
 
