@@ -212,11 +212,11 @@ static void test_refusals(void)
 {
     section("reach: refusals 1, 27, 28");
     fresh();
-#define NO_WORD(start, bits) start ": refused with 27: the program has no " bits "-bit word"
+#define NO_WORD(bits) "program: refused with 27: it has no " bits "-bit word"
 #define MULTIPLE(start, bits, bytes) \
-    start ": refused with 27: with " bits "-bit words START must be a multiple of " bytes
+    "START " start ": refused with 27: with " bits "-bit words START must be a multiple of " bytes
 #define LAST(start, last) \
-    start ": refused with 27: no word is there: the program's last one is at " last
+    "START " start ": refused with 27: no word is there: the program's last one is at " last
 #define LENGTH "program: refused with 1: more than 65,536 bytes of program"
     refused(40, "32", "1", MULTIPLE("1", "32", "4"));
     refused(40, "32", "2", MULTIPLE("2", "32", "4"));
@@ -234,11 +234,11 @@ static void test_refusals(void)
     refused(65536, "32", "10000", LAST("10000", "0000FFFC"));
     refused(65536, "16", "00010000", LAST("00010000", "0000FFFE"));
     refused(65535, "16", "FFFE", LAST("FFFE", "0000FFFC"));
-    refused(0, "32", "0", NO_WORD("0", "32"));
-    refused(0, "16", "0", NO_WORD("0", "16"));
-    refused(0, "16", "1", NO_WORD("1", "16"));
-    refused(3, "32", "0", NO_WORD("0", "32"));
-    refused(1, "16", "0", NO_WORD("0", "16"));
+    refused(0, "32", "0", NO_WORD("32"));
+    refused(0, "16", "0", NO_WORD("16"));
+    refused(0, "16", "1", NO_WORD("16"));
+    refused(3, "32", "0", NO_WORD("32"));
+    refused(1, "16", "0", NO_WORD("16"));
     refused(65537, "32", "0", LENGTH);
     refused(65537, "16", "0", LENGTH);
     refused(1000000, "32", "0", LENGTH);
@@ -247,7 +247,7 @@ static void test_refusals(void)
     refused(65537, "16", "FFFFFFFF", LENGTH);
     write_words("program", CALLS);
     refused_with(1, "program", "more than 65,536 bytes of program or 65,536 cells of data");
-    refused_with(27, "0", "a start address at which there is no word");
+    refused_with(27, "START 0", "a start address at which there is no word");
     refused_with(28, "program", "a map shorter than the program");
     refused_with(99, "program", "no reason that is known here");
     fault_setting = (struct fault_setting){
