@@ -5,6 +5,7 @@
 #include "text.h"
 
 #include <coffee.h>
+#include <stdio.h>
 #include <stdlib.h>
 #include <string.h>
 
@@ -16,23 +17,24 @@ struct search {
     uint32_t start;
 };
 
-/* Complains of START, which the library refuses with 27. */
+/* Complains of a program without a word, or of START, which the library refuses with 27. */
 static bool complain_of_start(const struct search *search)
 {
     size_t word = search->word, words = search->program.len / word;
+    char start[sizeof "START 12345678"];
 
     if (words == 0)
-        return complain(search->typed, "refused with 27: the program has no %zu-bit word",
-                        8 * word);
+        return complain(search->path, "refused with 27: it has no %zu-bit word", 8 * word);
+    snprintf(start, sizeof start, "START %.8s", search->typed);
     if (search->start % word != 0)
-        return complain(search->typed,
+        return complain(start,
                         "refused with 27: with %zu-bit words START must be a multiple of %zu",
                         8 * word, word);
     if (search->start / word >= words)
-        return complain(search->typed,
+        return complain(start,
                         "refused with 27: no word is there: the program's last one is at %08zX",
                         (words - 1) * word);
-    return complain_of_refusal(search->typed, 27);
+    return complain_of_refusal(start, 27);
 }
 
 /* Complains of a refusal of a search. */

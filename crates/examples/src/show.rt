@@ -26,11 +26,17 @@ fn place(names: &[u8], name: &[u8]) -> usize {
     machine::WORDS
 }
 
+// Prints a number in 8 hex digits.
+fn print_digits(x: u32) {
+    let mut text = [0u8; 8];
+    console::put_digits(&mut text, 0, 16, 8, x);
+    io::write_all(STDOUT_FILENO, &text);
+}
+
 // Prints a number in 8 hex digits and a character after them.
 fn print_value(x: u32, end: u8) {
-    let mut text = [0u8; 9];
-    console::put_ended(&mut text, 0, 16, 8, x, end);
-    io::write_all(STDOUT_FILENO, &text);
+    print_digits(x);
+    io::write_all(STDOUT_FILENO, &[end]);
 }
 
 // Whether the image at the front of a buffer is that at reset.
@@ -219,13 +225,18 @@ pub fn print_written(program: &[u8; 256], size: usize, wide: bool)
     }
 }
 
-// Prints the addresses at which a map has 1, below `size`.
+// Prints the addresses at which a map has 1, below `size`, with single blanks between.
 fn print_marked(map: &[u8; 256], size: usize)
     requires { ⌜ size ≤ 256 ⌝ }
 {
+    let mut first = true;
     for at in 0..size {
         if map[at] == 1 {
-            print_value(at as u32, b' ');
+            if !first {
+                io::write_all(STDOUT_FILENO, b" ");
+            }
+            print_digits(at as u32);
+            first = false;
         }
     }
     io::write_all(STDOUT_FILENO, b"\n");

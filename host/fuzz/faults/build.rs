@@ -1,5 +1,6 @@
 //! Makes the faulty copies of the reference.
 
+use std::collections::HashSet;
 use std::path::Path;
 use std::{env, fs};
 
@@ -39,7 +40,13 @@ fn copy_with_faults(crate_root: &Path) {
         shown_by: ShownBy::All,
         changes: &[],
     };
+    let mut names = HashSet::new();
     for (index, fault) in std::iter::once(&unchanged).chain(list::FAULTS).enumerate() {
+        assert!(
+            names.insert(fault.name),
+            "fault '{}': another one has this name",
+            fault.name
+        );
         let changed = |name: &str| {
             let mut source = read(name);
             for change in fault.changes.iter().filter(|change| change.file == name) {

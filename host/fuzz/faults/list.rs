@@ -1987,9 +1987,9 @@ pub const FAULTS: &[Fault] = &[
     program_fault("swm in 32-bit words by bits 4..0", &[change("decode",
         "        Swm => unsigned(&[(0, 0)]),\n        Chrs => unsigned(&[(1, 0)]),\n        Trap => unsigned(&[(4, 0)]),\n        Exb => unsigned(&[(1, 0)]),",
         "        Swm => unsigned(&[(4, 0)]),\n        Chrs => unsigned(&[(1, 0)]),\n        Trap => unsigned(&[(4, 0)]),\n        Exb => unsigned(&[(1, 0)]),")]),
-    program_fault("swm goes on two words later", &[change("reach",
+    program_fault("a swm that keeps the width leads two words on", &[change("reach",
         "(new_length == length).then_some(3)", "(new_length == length).then_some(2)")]),
-    program_fault("swm goes on four words later", &[change("reach",
+    program_fault("a swm that keeps the width leads four words on", &[change("reach",
         "(new_length == length).then_some(3)", "(new_length == length).then_some(4)")]),
 
     // Reachable words: slots.

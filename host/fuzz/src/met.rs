@@ -177,6 +177,29 @@ pub fn line<'a, N: Display>(
     text.push('\n');
 }
 
+/// Lines of counts that begin with the same name.
+pub struct Lines<'a> {
+    text: &'a mut String,
+    name: &'a str,
+}
+
+impl<'a> Lines<'a> {
+    pub fn of(text: &'a mut String, name: &'a str) -> Lines<'a> {
+        Lines { text, name }
+    }
+
+    /// Adds a line of counts with their names.
+    pub fn add<'b, N: Display>(
+        &mut self,
+        title: &str,
+        names: impl IntoIterator<Item = N>,
+        counts: impl IntoIterator<Item = &'b u64>,
+    ) {
+        let title = format!("{} {title}", self.name);
+        line(self.text, &title, names.into_iter().zip(counts));
+    }
+}
+
 #[cfg(test)]
 mod tests {
     use super::*;

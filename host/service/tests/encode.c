@@ -294,15 +294,7 @@ static void test_command_line(void)
     MISUSED("an option", "-v: no such option" MORE, "encode", "-v", "32", "nop");
     MISUSED("a register that begins as an option", "-R1: no such option" MORE, "encode", "32",
             "jmpr", "-R1");
-    setting.output = FULL;
-    REFUSED("to a full output", "standard output: No space left on device; nothing is changed",
-            "encode", "32", "nop");
-    setting.output = CLOSED;
-    REFUSED("to no output", "standard output: Bad file descriptor; nothing is changed", "encode",
-            "32", "nop");
-    setting.output = BROKEN;
-    REFUSED("to a broken pipe", "standard output: Broken pipe; nothing is changed", "encode", "32",
-            "nop");
+    UNPRINTED("encode", "encode", "32", "nop");
     fault_setting =
         (struct fault_setting){.kind = FAIL, .call = "malloc", .at = 1, .error = ENOMEM};
     REFUSED("without memory", "encode: Cannot allocate memory", "encode", "32", "nop");

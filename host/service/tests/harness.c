@@ -204,28 +204,39 @@ void write_zeros(const char *path, size_t len)
     need(truncate(path, (off_t)len) == 0, path);
 }
 
-/* Puts a 32-bit word, high byte first. */
-static void put_word(uint8_t *at, uint32_t word)
+/* Puts a word of so many bytes, high byte first. */
+static void put_word(uint8_t *at, size_t bytes, uint32_t word)
 {
-    for (int i = 0; i < 4; i++)
-        at[i] = (uint8_t)(word >> (24 - 8 * i));
+    for (size_t i = 0; i < bytes; i++)
+        at[i] = (uint8_t)(word >> 8 * (bytes - 1 - i));
+}
+
+bool take_number(const char **words, uint32_t *number)
+{
+    char *end;
+
+    *number = (uint32_t)strtoul(*words, &end, 16);
+    if (end == *words)
+        return false;
+    *words = end;
+    return true;
+}
+
+size_t put_words(uint8_t *at, size_t bytes, const char *words)
+{
+    size_t len = 0;
+    uint32_t word;
+
+    for (; take_number(&words, &word); len += bytes)
+        put_word(at + len, bytes, word);
+    return len;
 }
 
 void write_words(const char *path, const char *words)
 {
     uint8_t bytes[8192];
-    size_t len = 0;
-    char *end;
 
-    for (;; words = end) {
-        unsigned long word = strtoul(words, &end, 16);
-
-        if (end == words)
-            break;
-        put_word(bytes + len, (uint32_t)word);
-        len += 4;
-    }
-    write_bytes(path, bytes, len);
+    write_bytes(path, bytes, put_words(bytes, 4, words));
 }
 
 uint8_t *read_bytes(const char *path, size_t *len)
@@ -259,22 +270,17 @@ void set_word(const char *path, size_t place, uint32_t word)
     uint8_t bytes[4];
     int file = open(path, O_WRONLY | O_CLOEXEC);
 
-    put_word(bytes, word);
+    put_word(bytes, 4, word);
     need(file >= 0 && pwrite(file, bytes, 4, (off_t)(4 * place)) == 4, path);
     close(file);
 }
 
 void set_words(const char *path, size_t place, const char *words)
 {
-    char *end;
+    uint32_t word;
 
-    for (;; words = end) {
-        unsigned long word = strtoul(words, &end, 16);
-
-        if (end == words)
-            return;
-        set_word(path, place++, (uint32_t)word);
-    }
+    while (take_number(&words, &word))
+        set_word(path, place++, word);
 }
 
 char *words_of(const char *path, size_t first, size_t count)
@@ -392,7 +398,7 @@ static size_t stored_words(const char *name, uint8_t *bytes)
         } else if (strchr(" \n", *at) != NULL) {
             at++;
         } else {
-            put_word(bytes + len, (uint32_t)strtoul(at, NULL, 16));
+            put_word(bytes + len, 4, (uint32_t)strtoul(at, NULL, 16));
             at += 8;
             len += 4;
         }
@@ -430,7 +436,7 @@ static void with_cells(const char *path, size_t left_out, size_t cells)
     uint8_t *bytes = keep(calloc(1, 1024 + 4 * cells));
     size_t len = stored_words(RESET, bytes) - left_out;
 
-    put_word(bytes + len, (uint32_t)cells);
+    put_word(bytes + len, 4, (uint32_t)cells);
     memset(bytes + len + 4, 0, 4 * cells);
     write_bytes(path, bytes, len + 4 + 4 * cells);
 }
@@ -609,6 +615,41 @@ void refused_words(const char *name, int status, const char *err, char *const *w
         fail(name, "the folder has changed\n%s%s", before, snapshot());
     else
         pass(name);
+}
+
+/* The line on standard error when an output fails. */
+static char *output_failed(const char *reason)
+{
+    return text("standard output: %s; nothing is changed", reason);
+}
+
+void unprinted_words(const char *name, char *const *words)
+{
+    setting.output = FULL;
+    refused_words(text("%s to a full output", name), 1, output_failed("No space left on device"),
+                  words);
+    setting.output = CLOSED;
+    refused_words(text("%s to no output", name), 1, output_failed("Bad file descriptor"), words);
+    setting.output = BROKEN;
+    refused_words(text("%s to a broken pipe", name), 1, output_failed("Broken pipe"), words);
+}
+
+/* The program has status 1 and this reason, whatever part of its output has gone out. */
+static void cut_off(const char *name, const char *reason, char *const *words)
+{
+    run_words(words);
+    same_number(text("%s: status", name), 1, (uint64_t)outcome.status);
+    same_text(text("%s: the line", name), text("service: %s\n", output_failed(reason)),
+              outcome.err);
+}
+
+void cut_off_words(const char *name, char *const *words)
+{
+    /* The outcome has room for less than the lines, and its pipe is closed then. */
+    cut_off(text("%s to a reader that goes away", name), "Broken pipe", words);
+    setting.output = STORED;
+    setting.file_limit = 1 + 1000000;
+    cut_off(text("%s to a file that may grow to 1,000,000 bytes", name), "File too large", words);
 }
 
 /* ---- all tests */

@@ -40,7 +40,13 @@ __attribute__((format(printf, 1, 2))) char *text(const char *format, ...);
 void write_bytes(const char *path, const void *bytes, size_t len);
 void write_text(const char *path, const char *content);
 
-/* A file of 32-bit words, high byte first, from hexadecimal text. */
+/* Takes the next number of hexadecimal text; false at its end. */
+bool take_number(const char **words, uint32_t *number);
+
+/* Puts words of so many bytes, high byte first, from hexadecimal text; gives their length. */
+size_t put_words(uint8_t *at, size_t bytes, const char *words);
+
+/* A file of 32-bit words, from such text. */
 void write_words(const char *path, const char *words);
 
 /* A file of zeros. */
@@ -126,6 +132,16 @@ void refused_words(const char *name, int status, const char *err, char *const *w
     refused_words(name, 1, err, (char *[]){"service", __VA_ARGS__, NULL})
 #define MISUSED(name, err, ...) \
     refused_words(name, 2, err, (char *[]){"service", __VA_ARGS__, NULL})
+
+/* The program prints to a full output, to none and to a broken pipe: each time it has status 1, one
+   line tells why, and the folder is as it was. */
+void unprinted_words(const char *name, char *const *words);
+#define UNPRINTED(name, ...) unprinted_words(name, (char *[]){"service", __VA_ARGS__, NULL})
+
+/* The program prints more than 1,000,000 bytes to a reader that goes away, and to a file that may
+   not grow so far: it has status 1, and one line tells why. */
+void cut_off_words(const char *name, char *const *words);
+#define CUT_OFF(name, ...) cut_off_words(name, (char *[]){"service", __VA_ARGS__, NULL})
 
 /* ---- parts of the tests */
 

@@ -79,6 +79,13 @@ same "the installed program: list" $'00000000 88010005        lli      R1 5     
     "$root/opt/coffee/bin/service" list "$place/code.bin" 32
 same "the installed program: reach" "00000008 DC000003        trap     3            " \
     "$root/opt/coffee/bin/service" reach "$place/code.bin" 32 8
+# jmp to 10h, its slot, trap 1 that is reached from 8 alone, a nop that is not, trap 2.
+printf '\x90\0\0\6\0\0\0\0\xdc\0\0\1\0\0\0\0\xdc\0\0\2' >"$place/code.bin"
+same "the installed program: what neither of two STARTs reaches" $'4d3\n< 0000000C 00000000        nop                   ' \
+    bash -c "cd '$place' && PATH='$root/opt/coffee/bin':\$PATH
+        service list code.bin 32 >all
+        (service reach code.bin 32 0; service reach code.bin 32 8) | sort -u >kept
+        diff all kept"
 same "the installed program: encode" "07C87FDD" "$root/opt/coffee/bin/service" encode 32 egt C7 add R31 R30 R29
 try "uninstall" make -s --no-print-directory uninstall PREFIX=/opt/coffee DESTDIR="$root"
 try "nothing is left" find "$root" ! -type d

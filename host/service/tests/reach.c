@@ -5,7 +5,6 @@
 
 #include <coffee.h>
 #include <errno.h>
-#include <stdlib.h>
 #include <string.h>
 
 /* ---- what is reached */
@@ -14,17 +13,8 @@
 static void write_short(const char *words)
 {
     uint8_t bytes[64];
-    size_t len = 0;
-    char *end;
+    size_t len = put_words(bytes, 2, words);
 
-    for (;; words = end) {
-        unsigned long word = strtoul(words, &end, 16);
-
-        if (end == words)
-            break;
-        bytes[len++] = (uint8_t)(word >> 8);
-        bytes[len++] = (uint8_t)word;
-    }
     bytes[len++] = 0xDC;
     write_bytes("program", bytes, len);
 }
@@ -34,17 +24,14 @@ static char *lines_at(const char *width, const char *addresses)
 {
     size_t word = strcmp(width, "32") == 0 ? 4 : 2, len;
     const uint8_t *program = read_bytes("program", &len);
-    char lines[64 * COFFEE_LINE], *all = text("%s", ""), *end;
+    char lines[64 * COFFEE_LINE], *all = text("%s", "");
+    uint32_t address;
 
     len -= len % word;
     coffee_listing(program, len, word == 4, (uint8_t *)lines, sizeof lines);
-    for (;; addresses = end) {
-        unsigned long address = strtoul(addresses, &end, 16);
-
-        if (end == addresses)
-            return all;
+    while (take_number(&addresses, &address))
         all = text("%s%.*s", all, COFFEE_LINE, lines + address / word * COFFEE_LINE);
-    }
+    return all;
 }
 
 /* From START, just the words at these addresses are reached. */
@@ -225,11 +212,11 @@ static void test_refusals(void)
 {
     section("reach: refusals 1, 27, 28");
     fresh();
-#define NO_WORD(start, bits) start ": refused with 27: the program has no " bits "-bit word"
+#define NO_WORD(bits) "program: refused with 27: it has no " bits "-bit word"
 #define MULTIPLE(start, bits, bytes) \
-    start ": refused with 27: with " bits "-bit words START must be a multiple of " bytes
+    "START " start ": refused with 27: with " bits "-bit words START must be a multiple of " bytes
 #define LAST(start, last) \
-    start ": refused with 27: no word is there: the program's last one is at " last
+    "START " start ": refused with 27: no word is there: the program's last one is at " last
 #define LENGTH "program: refused with 1: more than 65,536 bytes of program"
     refused(40, "32", "1", MULTIPLE("1", "32", "4"));
     refused(40, "32", "2", MULTIPLE("2", "32", "4"));
@@ -247,11 +234,11 @@ static void test_refusals(void)
     refused(65536, "32", "10000", LAST("10000", "0000FFFC"));
     refused(65536, "16", "00010000", LAST("00010000", "0000FFFE"));
     refused(65535, "16", "FFFE", LAST("FFFE", "0000FFFC"));
-    refused(0, "32", "0", NO_WORD("0", "32"));
-    refused(0, "16", "0", NO_WORD("0", "16"));
-    refused(0, "16", "1", NO_WORD("1", "16"));
-    refused(3, "32", "0", NO_WORD("0", "32"));
-    refused(1, "16", "0", NO_WORD("0", "16"));
+    refused(0, "32", "0", NO_WORD("32"));
+    refused(0, "16", "0", NO_WORD("16"));
+    refused(0, "16", "1", NO_WORD("16"));
+    refused(3, "32", "0", NO_WORD("32"));
+    refused(1, "16", "0", NO_WORD("16"));
     refused(65537, "32", "0", LENGTH);
     refused(65537, "16", "0", LENGTH);
     refused(1000000, "32", "0", LENGTH);
@@ -260,7 +247,7 @@ static void test_refusals(void)
     refused(65537, "16", "FFFFFFFF", LENGTH);
     write_words("program", CALLS);
     refused_with(1, "program", "more than 65,536 bytes of program or 65,536 cells of data");
-    refused_with(27, "0", "a start address at which there is no word");
+    refused_with(27, "START 0", "a start address at which there is no word");
     refused_with(28, "program", "a map shorter than the program");
     refused_with(99, "program", "no reason that is known here");
     fault_setting = (struct fault_setting){
@@ -389,39 +376,16 @@ static void test_command_line(void)
               strstr(outcome.out, "\nSTART ") != NULL);
 }
 
-/* Prints 1,572,864 bytes to an output that takes none or a part of them: one line tells why. */
-static void printed_in_part(const char *name, const char *reason)
-{
-    write_zeros("program", 65536);
-    RUN("reach", "program", "16", "0");
-    check(text("%s: status 1", name), outcome.status == 1);
-    same_text(text("%s: the line", name),
-              text("service: standard output: %s; nothing is changed\n", reason), outcome.err);
-}
-
 static void test_outputs(void)
 {
     section("reach: outputs that fail");
     fresh();
     write_words("program", CALLS);
-    setting.output = FULL;
-    REFUSED("to a full output", "standard output: No space left on device; nothing is changed",
-            "reach", "program", "32", "0");
-    setting.output = CLOSED;
-    REFUSED("to no output", "standard output: Bad file descriptor; nothing is changed", "reach",
-            "program", "32", "0");
-    setting.output = BROKEN;
-    REFUSED("to a broken pipe", "standard output: Broken pipe; nothing is changed", "reach",
-            "program", "32", "0");
-    setting.output = FULL;
-    printed_in_part("the most lines to a full output", "No space left on device");
-    setting.output = CLOSED;
-    printed_in_part("the most lines to no output", "Bad file descriptor");
-    /* The outcome has room for less than the lines, and its pipe is closed then. */
-    printed_in_part("the most lines to a reader that goes away", "Broken pipe");
-    setting.output = STORED;
-    setting.file_limit = 1 + 1000000;
-    printed_in_part("the most lines to a file that may grow to 1,000,000 bytes", "File too large");
+    UNPRINTED("reach", "reach", "program", "32", "0");
+    /* Its lines are 1,572,864 bytes. */
+    write_zeros("program", 65536);
+    UNPRINTED("the most lines", "reach", "program", "16", "0");
+    CUT_OFF("the most lines", "reach", "program", "16", "0");
 }
 
 void test_reach(void)

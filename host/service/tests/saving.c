@@ -66,6 +66,7 @@ static const char *found(void)
 #define CARRIED "a machine of 4 cells is carried over\n"
 #define RUN_M "run", "kept/program", "files/m", "3"
 #define LIST "list", "kept/program", "32"
+#define LIST_MOST "list", "kept/longest", "16"
 
 static char *const run_m[] = {"service", RUN_M, NULL};
 static char *const carry[] = {"service", CARRY, NULL};
@@ -83,16 +84,6 @@ static void cannot_carry(const char *name, const char *reason)
 {
     REFUSED(name, text("files/n: cannot save in %s/files: %s; nothing is changed", here(), reason),
             CARRY);
-}
-
-/* Prints a listing of 1,572,864 bytes to an output that takes a part of it: one line tells why. */
-static void list_in_part(const char *name, const char *reason)
-{
-    write_zeros("kept/longest", 65536);
-    RUN("list", "kept/longest", "16");
-    check(text("%s: status 1", name), outcome.status == 1);
-    same_text(text("%s: the line", name),
-              text("service: standard output: %s; nothing is changed\n", reason), outcome.err);
 }
 
 static void test_outputs(void)
@@ -145,24 +136,11 @@ static void test_outputs(void)
     setting.output = CLOSED;
     ACCEPTED("import of the present layout needs no output", "", "import", "kept/image",
              "kept/data", "files/n");
-    setting.output = FULL;
-    REFUSED("list to a full output",
-            "standard output: No space left on device; nothing is changed", LIST);
-    setting.output = CLOSED;
-    REFUSED("list to no output", "standard output: Bad file descriptor; nothing is changed", LIST);
-    setting.output = BROKEN;
-    REFUSED("list to a broken pipe", "standard output: Broken pipe; nothing is changed", LIST);
-    setting.output = FULL;
-    list_in_part("the longest list to a full output", "No space left on device");
-    setting.output = CLOSED;
-    list_in_part("the longest list to no output", "Bad file descriptor");
-    setting.output = BROKEN;
-    list_in_part("the longest list to a broken pipe", "Broken pipe");
-    /* The outcome has room for less than the lines, and its pipe is closed then. */
-    list_in_part("the longest list to a reader that goes away", "Broken pipe");
-    setting.output = STORED;
-    setting.file_limit = 1 + 1000000;
-    list_in_part("the longest list to a file that may grow to 1,000,000 bytes", "File too large");
+    UNPRINTED("list", LIST);
+    /* Its lines are 1,572,864 bytes. */
+    write_zeros("kept/longest", 65536);
+    UNPRINTED("the longest list", LIST_MOST);
+    CUT_OFF("the longest list", LIST_MOST);
 }
 
 static void test_full(void)

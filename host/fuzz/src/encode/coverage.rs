@@ -2,7 +2,9 @@
 
 use super::generate::{may_be_conditional, Forms, Part, Range, OPERANDS};
 use super::{Answer, Input};
-use crate::met::{line, put, sums, yes_place, Conditions, Met, Unmet, Words, WIDTH_NAMES, YES};
+use crate::met::{
+    line, put, sums, yes_place, Conditions, Lines, Met, Unmet, Words, WIDTH_NAMES, YES,
+};
 use crate::words::{only_wide, NAMES};
 use coffee_reference::cleared;
 
@@ -226,22 +228,19 @@ impl Met for Coverage {
         let mut text = String::new();
         let out = &mut text;
         for (width, name) in WIDTH_NAMES.into_iter().enumerate().rev() {
-            line(
-                out,
-                &format!("{name} choices by answer"),
-                ANSWERS.iter().zip(&sums(&self.answers[width])),
-            );
-            line(
-                out,
-                &format!("{name} choices that answer 18 where this does not fit"),
-                TOGETHER.iter().zip(&self.together[width]),
+            let mut lines = Lines::of(out, name);
+            lines.add("choices by answer", ANSWERS, &sums(&self.answers[width]));
+            lines.add(
+                "choices that answer 18 where this does not fit",
+                TOGETHER,
+                &self.together[width],
             );
             let ends = sums(self.ends[width].iter().flatten());
             let far = sums(self.far[width].iter().flatten());
-            line(
-                out,
-                &format!("{name} operands, all else fitting"),
-                ENDS.iter().chain(&FAR).zip(ends.iter().chain(&far)),
+            lines.add(
+                "operands, all else fitting",
+                ENDS.iter().chain(&FAR),
+                ends.iter().chain(&far),
             );
         }
         for (place, part) in PARTS.into_iter().enumerate() {
@@ -261,13 +260,8 @@ impl Met for Coverage {
             ),
         );
         for (width, name) in WIDTH_NAMES.into_iter().enumerate().rev() {
-            line(
-                out,
-                &format!("{name} words by operation"),
-                NAMES
-                    .iter()
-                    .zip(self.answers[width].iter().map(|answers| &answers[0])),
-            );
+            let words = self.answers[width].iter().map(|answers| &answers[0]);
+            Lines::of(out, name).add("words by operation", NAMES, words);
         }
         text
     }

@@ -3,7 +3,7 @@
 use super::generate::{used_immediate, used_width};
 use super::{Input, Text, LINE};
 use crate::call::MEMORY_LIMIT;
-use crate::met::{line, put, yes_place, Conditions, Met, Unmet, Words, WIDTH_NAMES, YES};
+use crate::met::{put, yes_place, Conditions, Lines, Met, Unmet, Words, WIDTH_NAMES, YES};
 use crate::words::{self, *};
 
 /// The answers.
@@ -209,22 +209,15 @@ impl Met for Coverage {
         let mut text = String::new();
         let out = &mut text;
         for (width, name) in WIDTH_NAMES.into_iter().enumerate().rev() {
-            line(
-                out,
-                &format!("{name} listings by answer"),
-                ANSWERS.iter().zip(&self.answers[width]),
-            );
-            line(
-                out,
-                &format!("{name} listings with several reasons for a refusal"),
-                TOGETHER.iter().zip(&self.together[width]),
+            let mut lines = Lines::of(out, name);
+            lines.add("listings by answer", ANSWERS, &self.answers[width]);
+            lines.add(
+                "listings with several reasons for a refusal",
+                TOGETHER,
+                &self.together[width],
             );
             let kinds = TEXTS.iter().map(|(_, kind)| kind);
-            line(
-                out,
-                &format!("{name} listings by text"),
-                kinds.zip(&self.texts[width]),
-            );
+            lines.add("listings by text", kinds, &self.texts[width]);
         }
         let [different, _] = self.words.counts();
         let conditions = self.conditions.sum();
@@ -236,11 +229,7 @@ impl Met for Coverage {
             ),
         );
         for (width, name) in WIDTH_NAMES.into_iter().enumerate().rev() {
-            line(
-                out,
-                &format!("{name} lines by operation"),
-                NAMES.iter().zip(&self.operations[width]),
-            );
+            Lines::of(out, name).add("lines by operation", NAMES, &self.operations[width]);
         }
         text
     }

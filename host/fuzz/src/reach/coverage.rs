@@ -3,7 +3,7 @@
 use super::flow::{has_target, word_number, Leads, Search, Ways};
 use super::Input;
 use crate::call::MEMORY_LIMIT;
-use crate::met::{add, line, put, sums, yes_place, Met, Unmet, Words, WIDTH_NAMES, YES};
+use crate::met::{add, put, sums, yes_place, Lines, Met, Unmet, Words, WIDTH_NAMES, YES};
 use crate::words::{self, *};
 
 /// The answers.
@@ -403,41 +403,18 @@ impl Met for Coverage {
         let mut text = String::new();
         let out = &mut text;
         for (width, name) in WIDTH_NAMES.into_iter().enumerate().rev() {
-            line(
-                out,
-                &format!("{name} programs by answer"),
-                ANSWERS.iter().zip(&self.answers[width]),
+            let mut lines = Lines::of(out, name);
+            lines.add("programs by answer", ANSWERS, &self.answers[width]);
+            lines.add(
+                "programs with several reasons for a refusal",
+                TOGETHER,
+                &self.together[width],
             );
-            line(
-                out,
-                &format!("{name} programs with several reasons for a refusal"),
-                TOGETHER.iter().zip(&self.together[width]),
-            );
-            line(
-                out,
-                &format!("{name} programs by map"),
-                MAPS.iter().zip(&self.maps[width]),
-            );
-            line(
-                out,
-                &format!("{name} starts"),
-                ADDRESSES[..BELOW].iter().zip(&self.starts[width]),
-            );
-            line(
-                out,
-                &format!("{name} maps"),
-                SHAPES.iter().zip(&self.shapes[width]),
-            );
-            line(
-                out,
-                &format!("{name} targets"),
-                ADDRESSES.iter().zip(&sums(&self.targets[width])),
-            );
-            line(
-                out,
-                &format!("{name} words reached"),
-                WAYS.iter().zip(&sums(&self.ways[width])),
-            );
+            lines.add("programs by map", MAPS, &self.maps[width]);
+            lines.add("starts", &ADDRESSES[..BELOW], &self.starts[width]);
+            lines.add("maps", SHAPES, &self.shapes[width]);
+            lines.add("targets", ADDRESSES, &sums(&self.targets[width]));
+            lines.add("words reached", WAYS, &sums(&self.ways[width]));
         }
         put(
             out,
@@ -454,11 +431,7 @@ impl Met for Coverage {
                 .iter()
                 .map(|counts| counts.iter().sum());
             let in_full: Vec<u64> = in_full.collect();
-            line(
-                out,
-                &format!("{name} words reached in full by operation"),
-                NAMES.iter().zip(&in_full),
-            );
+            Lines::of(out, name).add("words reached in full by operation", NAMES, &in_full);
         }
         text
     }
