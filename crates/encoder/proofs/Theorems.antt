@@ -3,7 +3,7 @@ use mathlib.Core.Path.{◌≡◌, refl, sym, ap, ◌∙◌, subst}
 use mathlib.Core.Bool.{Bool, true, false, not, ◌&&◌, ◌||◌, true≢false, and-true, and-false}
 use mathlib.Core.List.{List, [], ◌∷◌, ◌++◌}
 use mathlib.Core.Option.{Option, none, some}
-use Prim.Native.Nat.{ℕ, ◌+◌, ◌*◌, ◌%◌, ◌^◌, ◌<◌}
+use Prim.Native.Nat.{ℕ, ◌*◌, ◌%◌, ◌^◌, ◌<◌}
 use native.Mathlib.Omega.{arith}
 use lib.Dec.{ltb, eqb}
 use lib.IntN.{ℤ}
@@ -229,7 +229,7 @@ module _ (width : Width) (c : Choice) (form : chosen_form width c.operation (giv
 -- the operation of a word by its choice
 form_by : (width : Width) (word : ℕ) (c : Choice) → choice_of width word ≡ c → has_form width (operation_of c.operation) ≡ true → word_has_form width word ≡ true
 unfolding choice_of
-form_by width word c e f = ap (λ (d : Choice). has_form width (operation_of d.operation)) e ∙ f
+form_by width _ c e f = ap (λ (d : Choice). has_form width (operation_of d.operation)) e ∙ f
 
 pub encode_decode : EncodeDecode
 unfolding chosen_form

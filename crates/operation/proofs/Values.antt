@@ -53,4 +53,4 @@ module _ {A : Type 0} where
 
 -- a target by immediate, handed on as 64 bits
 pub target_told : (v : View) (n r : ℤ) → mag n < 2 ^ 31 → mag r < 2 ^ 63 → r ≡ target_by v (to_z w32 (of_z w32 n)) → to_z w64 (of_z w64 r) ≡ target_by v n
-target_told v n r f g e = back w64 r g ∙ handed (target_by v) (record { sfits = f }) e
+target_told v n r f g e = back w64 r g ∙ handed (target_by v) {w = w32} (record { sfits = f }) e

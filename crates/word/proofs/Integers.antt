@@ -201,7 +201,7 @@ pub wide_fits : {x : ℤ} → SFits w32 x → SFits w64 (to_z w32 (of_z w32 x))
 wide_fits f = rw (to_z-of_z f) (sfits_widen tt f)
 
 pub wide_is : {x : ℤ} → SFits w32 x → to_z w64 (of_z w64 (to_z w32 (of_z w32 x))) ≡ x
-wide_is f = rw (to_z-of_z f) (to_z-of_z (sfits_widen tt f))
+wide_is f = rw (to_z-of_z f) (to_z-of_z {w = w64} (sfits_widen {w = w32} {w' = w64} tt f))
 
 -- a signed result that is handed on: `.ok` of a call is its range
 pub back : (w : Width) (z : ℤ) → mag z < 2 ^ hbits w → to_z w (of_z w z) ≡ z

@@ -1,0 +1,8 @@
+-- `effect::conditions` meets its contract. Assumes nothing.
+use Rattle.effect.specs.Apply.{applying}
+use Rattle.effect.proofs.conditions.Goals as goal
+
+pub returns : goal.returns
+unfolding applying
+returns c memory =
+    rw (c.advance.ensures, c.unpack.ensures)

@@ -1,0 +1,9 @@
+-- `add_requests` meets its contract: INT_PEND is written with the flags of both. Assumes nothing.
+use Rattle.machine.specs.Control.{with_pending}
+use Rattle.step.proofs.add_requests.Goals as goal
+
+pub returns : goal.returns
+unfolding with_pending
+returns c =
+    rw (← c.control.ensures, ← c.or-flags.ensures)
+    c.set_control.ensures

@@ -1,0 +1,5 @@
+-- `reset_core` meets its contract: the words at reset are copied. Assumes nothing.
+use Rattle.timer.proofs.reset_core.Goals as goal
+
+pub returns : goal.returns
+returns c = rw c.copy.ensures c.reset-words.ensures
