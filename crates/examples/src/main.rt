@@ -8,6 +8,7 @@ mod show;
 ghost use Rattle.std.specs.Prelude.{◌≤◌};
 
 use lines::{end_of, number};
+use std::io::Print;
 
 // Puts the word of a line at its address, and answers where the program ends: after it.
 fn put_word(line: &[u8], program: &mut [u8; 256]) -> usize
@@ -40,7 +41,7 @@ fn put_request(line: &[u8], requests: &mut [u32; 16]) {
 }
 
 // Reads the examples line by line.
-fn examples(text: &[u8], names: &[u8]) {
+fn examples(out: &impl Print, text: &[u8], names: &[u8]) {
     let mut program = [0u8; 256];
     let mut size: usize = 0;
     let mut requests = [0u32; 16];
@@ -58,6 +59,7 @@ fn examples(text: &[u8], names: &[u8]) {
         }
         if kind == b'>' {
             show::example(
+                out,
                 text,
                 title,
                 &text[start..end],
@@ -70,15 +72,15 @@ fn examples(text: &[u8], names: &[u8]) {
         }
         // The width is read as hexadecimal digits; any other than 32 counts as 16.
         if kind == b'=' {
-            show::print_listing(&program, size, number(&text[start..end]) == 0x32);
+            show::print_listing(out, &program, size, number(&text[start..end]) == 0x32);
             continue;
         }
         if kind == b'<' {
-            show::print_written(&program, size, number(&text[start..end]) == 0x32);
+            show::print_written(out, &program, size, number(&text[start..end]) == 0x32);
             continue;
         }
         if kind == b'*' {
-            show::print_reached(&text[start..end], &program, size);
+            show::print_reached(out, &text[start..end], &program, size);
             continue;
         }
         if kind == b'@' {
@@ -92,10 +94,10 @@ fn examples(text: &[u8], names: &[u8]) {
 }
 
 // Reads the two files, and runs the examples.
-fn main() {
+fn main(rt: HostRuntime) {
     let mut text = [0u8; 32768];
-    let n = runner::load(b"examples.txt", &mut text);
+    let n = runner::load(&rt, "examples.txt", &mut text);
     let mut names = [0u8; 2048];
-    let m = runner::load(b"image.txt", &mut names);
-    examples(&text[..n], &names[..m]);
+    let m = runner::load(&rt, "image.txt", &mut names);
+    examples(&rt, &text[..n], &names[..m]);
 }

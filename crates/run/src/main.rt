@@ -3,6 +3,6 @@
 // Runs the files of the folder that it is started in.
 #![tactic(auto)]
 
-fn main() {
-    runner::run_files();
+fn main(rt: HostRuntime) {
+    runner::run_files(&rt);
 }

@@ -2,39 +2,40 @@
 // the run program prints.
 #![tactic(auto)]
 
-use libc::STDOUT_FILENO;
+use std::io::Print;
+use std::rt::Files;
 
 // Prints the first path, and what the run program prints for the files at the two.
-fn case(code: &[u8], limit: &[u8]) {
-    io::write_all(STDOUT_FILENO, code);
-    io::write_all(STDOUT_FILENO, b": ");
-    runner::run_paths(code, limit);
+fn case(rt: &(impl Files + Print), code: &str, limit: &str) {
+    runner::print_bytes(rt, code.as_bytes());
+    runner::print_bytes(rt, b": ");
+    runner::run_paths(rt, code, limit);
 }
 
 // The folders one after the other. The program is that of 01's worked example where nothing else is said of it.
-fn main() {
+fn main(rt: HostRuntime) {
     // a newline after the limit
-    case(b"newline/code.bin", b"newline/limit.txt");
+    case(&rt, "newline/code.bin", "newline/limit.txt");
     // limit 0: no step
-    case(b"limit_zero/code.bin", b"limit_zero/limit.txt");
+    case(&rt, "limit_zero/code.bin", "limit_zero/limit.txt");
     // the largest limit, and a loop that it ends in: A8h adds, ACh jumps back, B0h is the slot
-    case(b"limit_most/code.bin", b"limit_most/limit.txt");
+    case(&rt, "limit_most/code.bin", "limit_most/limit.txt");
     // a limit that is one too large: refusal 7
-    case(b"limit_high/code.bin", b"limit_high/limit.txt");
+    case(&rt, "limit_high/code.bin", "limit_high/limit.txt");
     // a limit with a letter in it: refusal 7
-    case(b"letter/code.bin", b"letter/limit.txt");
+    case(&rt, "letter/code.bin", "letter/limit.txt");
     // a limit of eight digits: refusal 7
-    case(b"eight_digits/code.bin", b"eight_digits/limit.txt");
+    case(&rt, "eight_digits/code.bin", "eight_digits/limit.txt");
     // a program of 65,536 bytes, all nop, and a limit that leads to its last word
-    case(b"full/code.bin", b"full/limit.txt");
+    case(&rt, "full/code.bin", "full/limit.txt");
     // a program that is one byte too long, with no good limit either: refusal 1 comes first
-    case(b"long/code.bin", b"long/limit.txt");
+    case(&rt, "long/code.bin", "long/limit.txt");
     // a watchdog that counts to 8 from the fifth step on, over a loop of three: the twelfth step ends at reset
-    case(b"watchdog/code.bin", b"watchdog/limit.txt");
+    case(&rt, "watchdog/code.bin", "watchdog/limit.txt");
     // addi in place of the second nop after swm, the second word: stop 20
-    case(b"nops/code.bin", b"nops/limit.txt");
+    case(&rt, "nops/code.bin", "nops/limit.txt");
     // no code.bin: the empty program stops at once
-    case(b"no_code/code.bin", b"no_code/limit.txt");
+    case(&rt, "no_code/code.bin", "no_code/limit.txt");
     // no files at all: an empty limit.txt says no limit
-    case(b"no_files/code.bin", b"no_files/limit.txt");
+    case(&rt, "no_files/code.bin", "no_files/limit.txt");
 }

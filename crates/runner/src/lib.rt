@@ -7,12 +7,14 @@ ghost use Rattle.machine.specs.Control.{reset as resetOf};
 ghost use Rattle.image.specs.Image.{write_image, LONGEST};
 ghost use Rattle.emulator.specs.Run.{reply_of};
 ghost use Rattle.console.specs.Line.{line_of};
-ghost use Rattle.io.specs.Counts.{IsPrefixLen};
+ghost use Rattle.std.specs.Counts.{IsPrefixLen};
 ghost use Rattle.runner.specs.Report.{pc_of, answer_text, report_of};
 
 use console::Line;
 use emulator::Answer;
-use libc::STDOUT_FILENO;
+use std::fs;
+use std::io::{Print, Read};
+use std::rt::Files;
 
 // ---- the report
 
@@ -68,39 +70,58 @@ pub fn report(code: &[u8], text: &[u8]) -> Line
 
 // ---- files
 
-// Puts a file's bytes at the front of a buffer, and answers how many; a file that cannot be opened counts as empty.
-pub fn load(path: &[u8], buffer: &mut [u8]) -> usize
+// Reads until the buffer is full, the file ends or a read fails, and answers how many bytes it put at the buffer's front.
+fn read_full(file: &mut impl Read, buffer: &mut [u8]) -> usize
     ensures { IsPrefixLen result buffer.new }
 {
-    let fd = os::open_read(path);
-    if fd < 0 {
-        return 0;
+    let mut done: usize = 0;
+    while done < buffer.len() {
+        let Ok(n) = file.read(&mut buffer[done..]) else {
+            break
+        };
+        if n == 0 {
+            break;
+        }
+        done += n;
     }
-    let n = io::read_full(fd, buffer);
-    libc::close(fd);
-    n
+    done
 }
 
-// Writes a line's characters to standard output, and answers whether all were written. What is written, here and below, no contract can say.
-pub fn print(line: Line) -> bool
+// Puts a file's bytes at the front of a buffer, and answers how many; a file that cannot be opened counts as empty.
+pub fn load(files: &impl Files, path: &str, buffer: &mut [u8]) -> usize
+    ensures { IsPrefixLen result buffer.new }
+{
+    let Ok(mut file) = fs::open(files, path) else {
+        return 0;
+    };
+    read_full(&mut file, buffer)
+}
+
+// Writes bytes to standard output, and answers whether all were written. What is written, here and below, no contract can say.
+pub fn print_bytes(out: &impl Print, bytes: &[u8]) -> bool {
+    out.write_all(bytes).is_ok()
+}
+
+// Writes a line's characters to standard output, and answers whether all were written.
+pub fn print(out: &impl Print, line: Line) -> bool
     requires { IsPrefixLen line.count line.bytes }
 {
     let n = line.count;
     let bytes = line.bytes;
-    io::write_all(STDOUT_FILENO, &bytes[..n])
+    print_bytes(out, &bytes[..n])
 }
 
 // Reads two files, and prints the report of their bytes: a program, and the steps that it is run for. Of a longer file the bytes that are read say the
 // same (proofs/Reports: report-fronts). It lends nothing and has no result: a program has no exit status to tell it on.
-pub fn run_paths(code_path: &[u8], limit_path: &[u8]) {
+pub fn run_paths(rt: &(impl Files + Print), code_path: &str, limit_path: &str) {
     let mut code = [0u8; machine::MOST_MEMORY + 1];
-    let n = load(code_path, &mut code);
+    let n = load(rt, code_path, &mut code);
     let mut text = [0u8; 16];
-    let m = load(limit_path, &mut text);
-    print(report(&code[..n], &text[..m]));
+    let m = load(rt, limit_path, &mut text);
+    print(rt, report(&code[..n], &text[..m]));
 }
 
 // The run program: code.bin and limit.txt of the folder that it is started in.
-pub fn run_files() {
-    run_paths(b"code.bin", b"limit.txt");
+pub fn run_files(rt: &(impl Files + Print)) {
+    run_paths(rt, "code.bin", "limit.txt");
 }
