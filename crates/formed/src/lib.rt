@@ -9,7 +9,7 @@ ghost use Rattle.formed.specs.Questions.{all, implies, all_below, all_held, posi
 ghost use Rattle.formed.specs.Entries.{passes as passesOf, all_pass};
 
 // What questions 3, 4 and 5 ask of a stack entry.
-#[derive(Drop)]
+#[derive(Clone, Copy)]
 pub enum Test {
     Range,
     Mode,

@@ -17,7 +17,7 @@ pub struct Operands {
 }
 
 // An instruction word taken apart.
-#[derive(Drop)]
+#[derive(Clone, Copy)]
 pub struct Instruction {
     pub opcode: u32,
     // It is done only where the condition holds of creg.

@@ -28,7 +28,7 @@ pub struct Position {
 }
 
 // An entry of the hardware stack.
-#[derive(Drop)]
+#[derive(Clone, Copy)]
 pub struct Entry {
     pub source: u32,
     pub address: u32,

@@ -12,7 +12,7 @@ ghost use Rattle.operands.specs.Table.{entry_in, entries_in};
 use isa::Instruction;
 
 // Where an operand that is shown stands in a word, in at most two pieces, and how its bits are read.
-#[derive(Drop)]
+#[derive(Clone, Copy)]
 pub struct OperandField {
     // The piece with the lowest bits: where it begins and how many bits it is; an operand that is absent has none.
     pub place: u32,
@@ -25,7 +25,7 @@ pub struct OperandField {
 }
 
 // Those of the operands of an operation, of which there are at most four.
-#[derive(Drop)]
+#[derive(Clone, Copy)]
 pub struct OperandFields {
     pub first: OperandField,
     pub second: OperandField,
@@ -34,7 +34,7 @@ pub struct OperandFields {
 }
 
 // What a table has of an operation: four characters.
-#[derive(Drop)]
+#[derive(Clone, Copy)]
 pub struct Entries {
     pub first: u8,
     pub second: u8,

@@ -11,7 +11,7 @@ use machine::{INT_PEND, TMR_CONF, TMR0_CNT, TMR0_MAX_CNT};
 use word::has_flag;
 
 // A timer.
-#[derive(Drop)]
+#[derive(Clone, Copy)]
 pub struct Timer {
     pub count: u32,
     pub maximum: u32,
