@@ -3,7 +3,7 @@
 use std::env;
 use std::path::{Path, PathBuf};
 
-/// The directory that holds libcoffee.a, if not target/staticlib of the repository.
+/// The directory that holds libcoffee.a, if not crates/coffee/out of the repository.
 const VARIABLE: &str = "COFFEE_STATICLIB";
 
 fn main() {
@@ -24,7 +24,7 @@ fn link(crate_root: &Path) {
             .ancestors()
             .nth(2)
             .unwrap_or(crate_root)
-            .join("target/staticlib"),
+            .join("crates/coffee/out"),
     };
     let library = directory.join("libcoffee.a");
     println!("cargo:rerun-if-changed={}", library.display());
@@ -34,7 +34,7 @@ fn link(crate_root: &Path) {
             "fuzz compares the COFFEE library, and {} is absent.",
             library.display()
         );
-        eprintln!("Make it with `rt staticlib coffee` in the repository's root, or name its");
+        eprintln!("Make it with `rt lib` in crates/coffee, or name its");
         eprintln!("directory in {VARIABLE}. Without it, only the check of the comparison itself");
         eprintln!("can be run: cargo run --release --offline --no-default-features");
         eprintln!("--features faults --bin faults");
