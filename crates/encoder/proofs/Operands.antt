@@ -22,7 +22,7 @@ use Rattle.isa.specs.Computed.{instructions}
 use Rattle.isa.proofs.Fields.{fields_below}
 use Rattle.isa.proofs.Table.{values, by_number}
 use Rattle.isa.proofs.Rows.{immediate_fits, rows_sound}
-use Rattle.isa.proofs.Showing.{length_position}
+use Rattle.isa.proofs.BitFields.{length_position}
 use Rattle.encoder.specs.Encode.{value_for}
 use Rattle.encoder.proofs.Values.{Held, natural_held, high_held, signed_held}
 

@@ -3,7 +3,7 @@ use mathlib.Core.Path.{◌≡◌, refl}
 use mathlib.Core.Bool.{Bool, true, false}
 use Prim.Native.Nat.{ℕ, ◌≤◌, ◌<◌}
 use native.Mathlib.Omega.{arith}
-use Rattle.isa.specs.Operation.{operation_of, Width, w16, w32, Properties, properties}
+use Rattle.isa.specs.Operation.{operation_of, Width, w16, w32, properties}
 use Rattle.isa.specs.Computed.{instructions}
 use Rattle.isa.specs.Theorems.{code_at}
 use Rattle.isa.proofs.Table.{values, agree}

@@ -8,3 +8,4 @@ pub mod Pieces
 pub mod Ignored
 pub mod Decoded
 pub mod Showing
+pub mod BitFields

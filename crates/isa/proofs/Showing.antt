@@ -2,24 +2,21 @@
 use mathlib.Core.Path.{◌≡◌, refl, ap, ◌∙◌}
 use mathlib.Core.Bool.{Bool, true, false, not, ◌&&◌, ◌||◌, and-false}
 use mathlib.Core.List.{List, [], ◌∷◌, ◌++◌}
-use Prim.Native.Nat.{ℕ, ◌+◌, ◌*◌, ◌≤◌, ◌<◌}
-use native.Mathlib.Nat.{mul-one, add-zero}
+use Prim.Native.Nat.{ℕ, ◌+◌, ◌≤◌}
 use native.Mathlib.Omega.{arith}
 use lib.Dec.{leb, eqb}
-use lib.IntN.{pos}
 use borrow.Author.Tests.{ne_eqb}
 use Rattle.word.specs.Choice.{choose◌then◌else◌}
-use Rattle.word.specs.Word.{Field, bits◌to◌, field_of, mod_z, word_of}
+use Rattle.word.specs.Word.{Field}
 use Rattle.word.proofs.Tests.{either, and_parts}
-use Rattle.word.proofs.Bounds.{field_below}
 use Rattle.isa.specs.Text.{bytes}
-use Rattle.isa.specs.Operation.{operations, operation_of, Width, w16, w32, properties}
+use Rattle.isa.specs.Operation.{operation_of, Width, w16, w32, properties}
 use Rattle.isa.specs.Condition.{condition_of, name_of}
-use Rattle.isa.specs.Format.{fields_width, fields_of, conditional_field, Role, Dreg, Sreg1, Sreg2, Creg, Imm, Length, Position, Layout, layout_of}
-use Rattle.isa.specs.Decode.{register_of, immediate_of, operands_of, opcode_of, assembled, decode}
-use Rattle.isa.specs.Shown.{has_form, shown_roles, shown_value}
+use Rattle.isa.specs.Format.{fields_of, conditional_field, Role, Dreg, Sreg1, Sreg2, Creg, Imm, Length, Position, Layout, layout_of}
+use Rattle.isa.specs.Decode.{register_of, operands_of, opcode_of, assembled, decode}
+use Rattle.isa.specs.Shown.{has_form, shown_roles}
 use Rattle.isa.specs.Computed.{instructions}
-use Rattle.isa.specs.Theorems.{between, FormIs, BranchNames, SignedIs, Narrow, All, NarrowShown, BitFieldShown}
+use Rattle.isa.specs.Theorems.{between, FormIs, BranchNames, SignedIs, Narrow, All, NarrowShown}
 use Rattle.isa.proofs.Table.{values, agree, by_number}
 use Rattle.isa.proofs.Rules.{not_between, unavailable_is}
 use Rattle.isa.proofs.Decoded.{register_there, in_range}
@@ -100,25 +97,3 @@ module _ (word : ℕ) where
 pub narrow_shown : NarrowShown
 unfolding decode assembled conditional_field fields_of
 narrow_shown word = (refl, all_narrow word (shown_roles w16 (operation_of (opcode_of w16 word))) (rows_present (opcode_of w16 word)))
-
--- ---- exbfi
-
--- its immediate is length × 32 + position
-pieces : (word : ℕ) → immediate_of (layout_of w32 (properties (operation_of 63)).form).immediate word ≡ pos (field_of (bits 24 to 19) word * 32 + field_of (bits 4 to 0) word)
-unfolding operation_of operations properties layout_of immediate_of fields_of fields_width choose◌then◌else◌
-pieces word = simp (mul-one, add-zero)
-
-bit_field : (word : ℕ) → opcode_of w32 word ≡ 63 → (decode w32 word).immediate ≡ pos (field_of (bits 24 to 19) word * 32 + field_of (bits 4 to 0) word)
-unfolding decode assembled operands_of
-bit_field word e = ap (λ (n : ℕ). immediate_of (layout_of w32 (properties (operation_of n)).form).immediate word) e ∙ pieces word
-
--- the two parts of such a number
-pub length_position : (x y : ℕ) → x < 64 → y < 32 → (field_of (bits 10 to 5) (word_of 32 (pos (x * 32 + y))) ≡ x) × (field_of (bits 4 to 0) (word_of 32 (pos (x * 32 + y))) ≡ y)
-unfolding field_of mod_z
-length_position x y h k = (omega arith, omega arith)
-
-pub bit_field_shown : BitFieldShown
-unfolding shown_value
-bit_field_shown word e =
-    let p = length_position (field_of (bits 24 to 19) word) (field_of (bits 4 to 0) word) (field_below (bits 24 to 19) word) (field_below (bits 4 to 0) word) in
-    rw (bit_field word e) (ap pos p.0, ap pos p.1)
