@@ -96,8 +96,8 @@ fn examples(out: &impl Print, text: &[u8], names: &[u8]) {
 // Reads the two files, and runs the examples.
 fn main(rt: HostRuntime) {
     let mut text = [0u8; 32768];
-    let n = runner::load(&rt, "examples.txt", &mut text);
+    let n = runner::load(&rt, b"examples.txt", &mut text);
     let mut names = [0u8; 2048];
-    let m = runner::load(&rt, "image.txt", &mut names);
+    let m = runner::load(&rt, b"image.txt", &mut names);
     examples(&rt, &text[..n], &names[..m]);
 }

@@ -6,8 +6,8 @@ use std::io::Print;
 use std::rt::Files;
 
 // Prints the first path, and what the run program prints for the files at the two.
-fn case(rt: &(impl Files + Print), code: &str, limit: &str) {
-    runner::print_bytes(rt, code.as_bytes());
+fn case(rt: &(impl Files + Print), code: &[u8], limit: &[u8]) {
+    runner::print_bytes(rt, code);
     runner::print_bytes(rt, b": ");
     runner::run_paths(rt, code, limit);
 }
@@ -15,27 +15,27 @@ fn case(rt: &(impl Files + Print), code: &str, limit: &str) {
 // The folders one after the other. The program is that of 01's worked example where nothing else is said of it.
 fn main(rt: HostRuntime) {
     // a newline after the limit
-    case(&rt, "newline/code.bin", "newline/limit.txt");
+    case(&rt, b"newline/code.bin", b"newline/limit.txt");
     // limit 0: no step
-    case(&rt, "limit_zero/code.bin", "limit_zero/limit.txt");
+    case(&rt, b"limit_zero/code.bin", b"limit_zero/limit.txt");
     // the largest limit, and a loop that it ends in: A8h adds, ACh jumps back, B0h is the slot
-    case(&rt, "limit_most/code.bin", "limit_most/limit.txt");
+    case(&rt, b"limit_most/code.bin", b"limit_most/limit.txt");
     // a limit that is one too large: refusal 7
-    case(&rt, "limit_high/code.bin", "limit_high/limit.txt");
+    case(&rt, b"limit_high/code.bin", b"limit_high/limit.txt");
     // a limit with a letter in it: refusal 7
-    case(&rt, "letter/code.bin", "letter/limit.txt");
+    case(&rt, b"letter/code.bin", b"letter/limit.txt");
     // a limit of eight digits: refusal 7
-    case(&rt, "eight_digits/code.bin", "eight_digits/limit.txt");
+    case(&rt, b"eight_digits/code.bin", b"eight_digits/limit.txt");
     // a program of 65,536 bytes, all nop, and a limit that leads to its last word
-    case(&rt, "full/code.bin", "full/limit.txt");
+    case(&rt, b"full/code.bin", b"full/limit.txt");
     // a program that is one byte too long, with no good limit either: refusal 1 comes first
-    case(&rt, "long/code.bin", "long/limit.txt");
+    case(&rt, b"long/code.bin", b"long/limit.txt");
     // a watchdog that counts to 8 from the fifth step on, over a loop of three: the twelfth step ends at reset
-    case(&rt, "watchdog/code.bin", "watchdog/limit.txt");
+    case(&rt, b"watchdog/code.bin", b"watchdog/limit.txt");
     // addi in place of the second nop after swm, the second word: stop 20
-    case(&rt, "nops/code.bin", "nops/limit.txt");
+    case(&rt, b"nops/code.bin", b"nops/limit.txt");
     // no code.bin: the empty program stops at once
-    case(&rt, "no_code/code.bin", "no_code/limit.txt");
+    case(&rt, b"no_code/code.bin", b"no_code/limit.txt");
     // no files at all: an empty limit.txt says no limit
-    case(&rt, "no_files/code.bin", "no_files/limit.txt");
+    case(&rt, b"no_files/code.bin", b"no_files/limit.txt");
 }

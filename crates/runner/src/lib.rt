@@ -87,11 +87,14 @@ fn read_full(file: &mut impl Read, buffer: &mut [u8]) -> usize
     done
 }
 
-// Puts a file's bytes at the front of a buffer, and answers how many; a file that cannot be opened counts as empty.
-pub fn load(files: &impl Files, path: &str, buffer: &mut [u8]) -> usize
+// Puts a file's bytes at the front of a buffer, and answers how many; a file that cannot be opened counts as empty. A path is opened only as UTF-8.
+pub fn load(files: &impl Files, path: &[u8], buffer: &mut [u8]) -> usize
     ensures { IsPrefixLen result buffer.new }
 {
-    let Ok(mut file) = fs::open(files, path) else {
+    let Some(mut file) = str::from_utf8(path)
+        .ok()
+        .and_then(|path| fs::open(files, path).ok())
+    else {
         return 0;
     };
     read_full(&mut file, buffer)
@@ -112,8 +115,8 @@ pub fn print(out: &impl Print, line: Line) -> bool
 }
 
 // Reads two files, and prints the report of their bytes: a program, and the steps that it is run for. Of a longer file the bytes that are read say the
-// same (proofs/Reports: report-fronts). It lends nothing and has no result: a program has no exit status to tell it on.
-pub fn run_paths(rt: &(impl Files + Print), code_path: &str, limit_path: &str) {
+// same (proofs/Reports: report_fronts). It lends nothing and has no result: the exit status says nothing.
+pub fn run_paths(rt: &(impl Files + Print), code_path: &[u8], limit_path: &[u8]) {
     let mut code = [0u8; machine::MOST_MEMORY + 1];
     let n = load(rt, code_path, &mut code);
     let mut text = [0u8; 16];
@@ -123,5 +126,5 @@ pub fn run_paths(rt: &(impl Files + Print), code_path: &str, limit_path: &str) {
 
 // The run program: code.bin and limit.txt of the folder that it is started in.
 pub fn run_files(rt: &(impl Files + Print)) {
-    run_paths(rt, "code.bin", "limit.txt");
+    run_paths(rt, b"code.bin", b"limit.txt");
 }
