@@ -20,7 +20,7 @@ use Rattle.machine.specs.Words.{SET1, SET2, DEPTH, ENTRIES, section, entries_of,
 use Rattle.machine.specs.declared.Position.{Position}
 use Rattle.machine.specs.declared.Entry.{Entry}
 use Rattle.machine.proofs.Widths.{no_zeros, not_constant, limit_below}
-use Rattle.machine.proofs.Flat.{section_at, stack_of_law, stack_top_law}
+use Rattle.machine.proofs.Flat.{section_at, stack_of, stack_top_law}
 use Rattle.formed.specs.Questions.{implies, all, all_below, all_held, entries_fit, position_tests, number_tests, question3, sets_fit, modes_fit, question4, stack_tests, question5, Read, Refused, Accepted, ask_machine, read_by}
 use Rattle.formed.specs.Entries.{passes, all_pass}
 use Rattle.formed.specs.declared.Test.TheVariants.{Range, Mode, Source}
@@ -50,7 +50,7 @@ below_section m n l h =
     below_true (2 ^ 32) (section m n l) (below_take (2 ^ 32) n (drop m l) (lit< tt) (λ i. rw (get_or-drop m l i 0) (h (m + i))))
 
 -- and so are the entries'
-range_entries : (w : List ℕ) (n : ℕ) → Below (2 ^ 32) w → entries_fit (stack_of_law n w) ≡ all_pass Range (stack_of_law n w)
+range_entries : (w : List ℕ) (n : ℕ) → Below (2 ^ 32) w → entries_fit (stack_of n w) ≡ all_pass Range (stack_of n w)
 unfolding entries_fit all_pass passes entries_of
 range_entries w zero h = refl
 range_entries w (suc n) h =

@@ -16,7 +16,7 @@ use Rattle.machine.specs.Stack.{sources_of, service_flags}
 use Rattle.machine.specs.Words.{ENTRIES, section, entry_of, entries_of, machine_of}
 use Rattle.machine.specs.declared.Entry.{Entry}
 use Rattle.machine.proofs.Stack.{flags_pushed}
-use Rattle.machine.proofs.Flat.{stack_of_law, stack_top_law, depth_is}
+use Rattle.machine.proofs.Flat.{stack_of, stack_top_law, depth_is}
 use Rattle.formed.specs.Questions.{all_below, all_held}
 use Rattle.formed.specs.Entries.{passes, all_pass}
 use Rattle.formed.specs.declared.Test.{Test}
@@ -67,35 +67,35 @@ abbrev pub entry_words : (n : ℕ) (words : List ℕ) → List ℕ
 entry_words n w = section (ENTRIES + 4 * n) 4 w
 
 -- the stack is that of as many entries as its depth
-pub stack_of : (w : List ℕ) (n : ℕ) → n ≡ length (machine_of w).stack → stack_of_law n w ≡ (machine_of w).stack
+pub stack_of_law : (w : List ℕ) (n : ℕ) → n ≡ length (machine_of w).stack → stack_of n w ≡ (machine_of w).stack
 unfolding machine_of
-stack_of w n e = rw (e ∙ depth_is w)
+stack_of_law w n e = rw (e ∙ depth_is w)
 
 -- an entry more is first on the stack
 module _ (t : Test) (w : List ℕ) where
-  pub pass_none : true ≡ all_pass t (stack_of_law 0 w)
+  pub pass_none : true ≡ all_pass t (stack_of 0 w)
   unfolding entries_of all_pass
   pass_none = refl
 
-  pub pass_more : (n : ℕ) → passes t (entry_of (entry_words n w)) && all_pass t (stack_of_law n w) ≡ all_pass t (stack_of_law (n + 1) w)
+  pub pass_more : (n : ℕ) → passes t (entry_of (entry_words n w)) && all_pass t (stack_of n w) ≡ all_pass t (stack_of (n + 1) w)
   unfolding all_pass
   pass_more n = rw (add-one n, stack_top_law n w)
 
   -- where all pass, each does
-  pub pass_at : (n i : ℕ) → all_pass t (stack_of_law n w) ≡ true → i < n → passes t (entry_of (entry_words i w)) ≡ true
+  pub pass_at : (n i : ℕ) → all_pass t (stack_of n w) ≡ true → i < n → passes t (entry_of (entry_words i w)) ≡ true
   unfolding all_pass
   pass_at zero i e h = absurd (omega arith)
   pass_at (suc n) i e h =
-      let p = and_parts (passes t (entry_of (entry_words n w))) (all_pass t (stack_of_law n w)) (rw (stack_top_law n w) at e) in
+      let p = and_parts (passes t (entry_of (entry_words n w))) (all_pass t (stack_of n w)) (rw (stack_top_law n w) at e) in
       either (ltb i n) (λ q. pass_at n i p.1 (ltb-true i n q)) (λ q. let s : i ≡ n = omega (arith, ltb-false i n q) in rw s p.0)
 
 pub source_small : (e : Entry) → passes Source e ≡ true → e.source < 12
 unfolding passes
 source_small e h = ltb-true e.source 12 h
 
-pub flags_none : (w : List ℕ) → 0 ≡ service_flags (stack_of_law 0 w)
+pub flags_none : (w : List ℕ) → 0 ≡ service_flags (stack_of 0 w)
 unfolding entries_of service_flags sources_of flags_at
 flags_none w = refl
 
-pub flags_more : (w : List ℕ) (n : ℕ) → with_flag (entry_of (entry_words n w)).source (service_flags (stack_of_law n w)) ≡ service_flags (stack_of_law (n + 1) w)
-flags_more w n = sym (rw (add-one n, stack_top_law n w) (flags_pushed (entry_of (entry_words n w)) (stack_of_law n w)))
+pub flags_more : (w : List ℕ) (n : ℕ) → with_flag (entry_of (entry_words n w)).source (service_flags (stack_of n w)) ≡ service_flags (stack_of (n + 1) w)
+flags_more w n = sym (rw (add-one n, stack_top_law n w) (flags_pushed (entry_of (entry_words n w)) (stack_of n w)))

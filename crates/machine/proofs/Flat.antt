@@ -202,18 +202,18 @@ entry_front (a ∷ b ∷ c ∷ d ∷ l) = refl
 -- ---- the stack: its count, and a section of entries
 
 -- the stack of n entries
-abbrev pub stack_of_law : (n : ℕ) (words : List ℕ) → List Entry
-stack_of_law n w = reverse (entries_of n (drop ENTRIES w))
+abbrev pub stack_of : (n : ℕ) (words : List ℕ) → List Entry
+stack_of n w = reverse (entries_of n (drop ENTRIES w))
 
 -- its top is the last four words
-pub stack_top_law : (n : ℕ) (w : List ℕ) → stack_of_law (suc n) w ≡ entry_of (section (ENTRIES + 4 * n) 4 w) ∷ stack_of_law n w
+pub stack_top_law : (n : ℕ) (w : List ℕ) → stack_of (suc n) w ≡ entry_of (section (ENTRIES + 4 * n) 4 w) ∷ stack_of n w
 stack_top_law n w =
     ap reverse (entries_more n (drop ENTRIES w))
     ∙ reverse-append (entries_of n (drop ENTRIES w)) (entry_of (drop (4 * n) (drop ENTRIES w)) ∷ [])
-    ∙ rw (drop-drop (4 * n) ENTRIES w) (ap (λ e. e ∷ stack_of_law n w) (sym (entry_front (drop (ENTRIES + 4 * n) w))))
+    ∙ rw (drop-drop (4 * n) ENTRIES w) (ap (λ e. e ∷ stack_of n w) (sym (entry_front (drop (ENTRIES + 4 * n) w))))
 
 -- it depends on its entries' words alone
-pub stack_by : (n : ℕ) (w k : List ℕ) → section ENTRIES (4 * n) k ≡ section ENTRIES (4 * n) w → stack_of_law n k ≡ stack_of_law n w
+pub stack_by : (n : ℕ) (w k : List ℕ) → section ENTRIES (4 * n) k ≡ section ENTRIES (4 * n) w → stack_of n k ≡ stack_of n w
 stack_by n w k e = ap reverse (sym (entries_front n (drop ENTRIES k)) ∙ ap (entries_of n) e ∙ entries_front n (drop ENTRIES w))
 
 pub depth_is : (w : List ℕ) → length (machine_of w).stack ≡ get_or w DEPTH 0
@@ -221,7 +221,7 @@ unfolding machine_of
 depth_is w = length-reverse (entries_of (get_or w DEPTH 0) (drop ENTRIES w)) ∙ length_entries (get_or w DEPTH 0) (drop ENTRIES w)
 
 module _ (w : List ℕ) where
-  stack_as : (n : ℕ) → get_or w DEPTH 0 ≡ n → (machine_of w).stack ≡ stack_of_law n w
+  stack_as : (n : ℕ) → get_or w DEPTH 0 ≡ n → (machine_of w).stack ≡ stack_of n w
   unfolding machine_of
   stack_as n e = rw e
 
@@ -230,7 +230,7 @@ module _ (w : List ℕ) where
   stack_none = stack_as 0
 
   -- the top's four words
-  pub stack_some : (n : ℕ) → get_or w DEPTH 0 ≡ suc n → (machine_of w).stack ≡ entry_of (section (ENTRIES + 4 * n) 4 w) ∷ stack_of_law n w
+  pub stack_some : (n : ℕ) → get_or w DEPTH 0 ≡ suc n → (machine_of w).stack ≡ entry_of (section (ENTRIES + 4 * n) 4 w) ∷ stack_of n w
   stack_some n e = stack_as (suc n) e ∙ stack_top_law n w
 
   pub entry_read : (at : ℕ) → entry_of (section at 4 w) ≡ record { source = get_or w at 0; address = get_or w (at + 1) 0; psr = get_or w (at + 2) 0; c0 = get_or w (at + 3) 0 }
@@ -242,7 +242,7 @@ module _ (w : List ℕ) where
 abbrev pub with_entries : List Entry → Machine → Machine
 with_entries es m = record { set1 = m.set1; set2 = m.set2; conditions = m.conditions; control = m.control; position = m.position; stack = es; dividers = m.dividers }
 
-pub depth_stored : (w : List ℕ) (n : ℕ) → length w ≡ WORDS → machine_of (set w DEPTH n) ≡ with_entries (stack_of_law n w) (machine_of w)
+pub depth_stored : (w : List ℕ) (n : ℕ) → length w ≡ WORDS → machine_of (set w DEPTH n) ≡ with_entries (stack_of n w) (machine_of w)
 unfolding machine_of
 depth_stored w n h = simp (store_apart w n DEPTH 1 0 (lit< tt), get_or-set_same w DEPTH n 0 (omega arith), drop-set-lt ENTRIES w DEPTH n (lit< tt))
 
@@ -271,7 +271,7 @@ module _ (w : List ℕ) (n : ℕ) (e : Entry) (h : length w ≡ WORDS) (room : n
   abbrev after : List ℕ
   after = sets w (ENTRIES + 4 * n) (words_of e)
 
-  stack_filled : stack_of_law (suc n) after ≡ e ∷ stack_of_law n w
+  stack_filled : stack_of (suc n) after ≡ e ∷ stack_of n w
   stack_filled =
       rw (stack_top_law n after, fill_in w (ENTRIES + 4 * n) (words_of e) (omega arith))
       (ap (λ es. e ∷ es) (stack_by n w after (fill_past w ENTRIES (4 * n) (ENTRIES + 4 * n) (words_of e) (omega arith))))
@@ -289,7 +289,7 @@ module _ (w : List ℕ) (n : ℕ) (e : Entry) (h : length w ≡ WORDS) (room : n
   unfolding popped
   replaced_to q =
       ap (λ es. with_entries es (machine_of after)) (stack_as after (suc n) (depth_past w (ENTRIES + 4 * n) (words_of e) (omega arith) ∙ q) ∙ stack_filled)
-      ∙ fill_entries w (ENTRIES + 4 * n) (words_of e) (e ∷ stack_of_law n w) (omega arith) (omega arith)
+      ∙ fill_entries w (ENTRIES + 4 * n) (words_of e) (e ∷ stack_of n w) (omega arith) (omega arith)
       ∙ ap (λ es. with_entries (e ∷ popped es) (machine_of w)) (sym (stack_some w n q))
 
 -- a count one below pops an entry

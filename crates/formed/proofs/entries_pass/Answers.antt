@@ -3,7 +3,7 @@ use mathlib.Core.Path.{◌≡◌, ap, ◌∙◌}
 use native.Mathlib.Omega.{arith}
 use borrow.Author.Rules.{rules}
 use Rattle.formed.specs.Entries.{all_pass}
-use Rattle.formed.proofs.Loops.{stack_of, pass_none, pass_more}
+use Rattle.formed.proofs.Loops.{stack_of_law, pass_none, pass_more}
 use Rattle.formed.proofs.entries_pass.Goals as goal
 
 pub loop-i-init : goal.loop-i-init
@@ -22,4 +22,4 @@ pub returns : goal.returns
 returns c = let args = c.args in
     let i = c.loop-i.i in
     let e : i ≡ c.depth-n.result = omega arith in
-    c.loop-i.invariant.1 ∙ ap (all_pass args.t) (stack_of args.w.now i (e ∙ c.depth-n.ensures))
+    c.loop-i.invariant.1 ∙ ap (all_pass args.t) (stack_of_law args.w.now i (e ∙ c.depth-n.ensures))

@@ -2,11 +2,11 @@
 use mathlib.Core.Path.{◌≡◌}
 use Prim.Native.Nat.{◌≤◌, ◌-◌}
 use Rattle.machine.specs.Stack.{service_flags}
-use Rattle.machine.proofs.Flat.{stack_of_law}
+use Rattle.machine.proofs.Flat.{stack_of}
 use Rattle.formed.proofs.service_flags.Given as goal
 
 abbrev pub invariant-loop-i : goal.invariant-loop-i
-invariant-loop-i l = (l.i ≤ l.n) × (l.flags ≡ service_flags (stack_of_law l.i l.w))
+invariant-loop-i l = (l.i ≤ l.n) × (l.flags ≡ service_flags (stack_of l.i l.w))
 
 abbrev pub decreases-loop-i : goal.decreases-loop-i
 decreases-loop-i l = l.n - l.i
