@@ -1,8 +1,8 @@
 /* A COFFEE RISC core that is run in steps: the C interface.
  *
- * Link with libcoffee.a, which `rt staticlib coffee` proves and writes to target/staticlib. Each function is proved equal to a definition:
- * crates/emulator/specs/Run.antt (runCall), crates/emulator/specs/Reset.antt (resetCall), crates/emulator/specs/CarryOver.antt (carryOverCall),
- * crates/listing/specs/Listing.antt (listingCall), crates/encoder/specs/Encode.antt (encodeOf) and crates/reach/specs/Call.antt (reachCall).
+ * Link with libcoffee.a, which `rt lib` in crates/coffee proves and writes to out/ there. Each function is proved equal to a definition:
+ * crates/emulator/specs/Run.antt (run_call), crates/emulator/specs/Reset.antt (reset_call), crates/emulator/specs/CarryOver.antt (carry_over_call),
+ * crates/listing/specs/Listing.antt (listing_call), crates/encoder/specs/Encode.antt (encode_of) and crates/reach/specs/Call.antt (reach_call).
  *
  * A slice is a pointer and then a count of elements; a slice of 0 elements may have a null pointer. A slice that is written (not const) must
  * overlap no other slice of the same call. Nothing is kept between calls, no memory is allocated, and nothing else is read or written, so

@@ -77,7 +77,7 @@ machine_with ds ns =
       dividers = ds;
     }
 
--- the machine that an image's numbers say, in the order of `image_numbers`; the running words have an order of their own (machine/Words: machineOf)
+-- the machine that an image's numbers say, in the order of `image_numbers`; the running words have an order of their own (machine/Words: `machine_of`)
 unfoldable pub machine_in : (numbers : List ℕ) → Machine
 machine_in ns = machine_with (section (dividers_at ns) TIMERS ns) ns
 

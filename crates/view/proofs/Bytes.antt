@@ -131,7 +131,7 @@ fetched_inside program low high user n pc w p e =
     either (leb (pc + n) (length program)) (leb-true (pc + n) (length program))
     (λ t. absurd (not_fetched _ _ _ w (bytes_absent program n pc 0 p (leb-false (pc + n) (length program) t)) e))
 
--- the word whose bytes are there is wordAt's
+-- the word whose bytes are there is that of `word_at`
 pub fetched_word : FetchedWord
 unfolding word_bytes word_at bytes_from
 fetched_word w16 program a h = rw (bytes_there program 2 a 0 h) (simp (zero-mul, zero-add, towards_suc))

@@ -65,7 +65,7 @@ add_below (suc k) (suc n) x h b e =
     let i : x / 2 + 2 ^ n < 2 ^ k = add_below k n (x / 2) (le_of_suc-le-suc h) (omega arith) (sym (digit_half n x) ∙ e) in
     rw (pow-suc 2 n, pow-suc 2 k) (omega arith)
 
--- where digit n is 1, 2 ^ n can be digit_most away and added again
+-- where digit n is 1, 2 ^ n can be taken away and added again
 digit_most : (n x : ℕ) → digit n x ≡ 1 → 2 ^ n ≤ x
 digit_most n x e =
     let q : 1 ≤ x / 2 ^ n = omega arith in
@@ -183,7 +183,7 @@ flags_at_law n (m ∷ ms) =
     (λ e. let same : with_flag n (flags_at ms) ≡ with_flag m (flags_at ms) = rw (eqb-true m n e) in rw (e, ← same) (with_same n (flags_at ms)))
     (λ e. rw e (with_other m (flags_at ms) n (λ q. eqb-false m n e (sym q)) ∙ flags_at_law n ms))
 
--- a list's first, digit_most off
+-- a list's first, taken off
 pub flags_pop : (n : ℕ) (ns : List ℕ) → is_among n ns ≡ false → without_flag n (flags_at (n ∷ ns)) ≡ flags_at ns
 unfolding flags_at
 flags_pop n ns e = without_with n (flags_at ns) (flags_at_law n ns ∙ e)
