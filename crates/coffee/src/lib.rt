@@ -56,7 +56,7 @@ pub extern "C" fn coffee_run(
     limit: u32,
     buffer: &mut [u8],
 ) -> CoffeeAnswer
-    ensures { shown result buffer.new (memory_of cells.new) ≡ in_numbers (run_call program.now image.now (memory_of cells.old) (record { requests = requests.entry.now; limit = limit; buffer = buffer.old })) }
+    ensures { shown result buffer.new (memory_of cells.new) ≡ in_numbers (run_call program.now image.now (memory_of cells.old) (record { requests = requests.now; limit = limit; buffer = buffer.old })) }
 {
     numbers(emulator::run(program, cells, image, requests, limit, buffer))
 }

@@ -104,7 +104,7 @@ pub fn run(
     limit: u32,
     buffer: &mut [u8],
 ) -> Answer
-    ensures { outcome (reply_of result) buffer.new (memory_of cells.new) ≡ run_call program.now image.now (memory_of cells.old) (record { requests = requests.entry.now; limit = limit; buffer = buffer.old }) }
+    ensures { outcome (reply_of result) buffer.new (memory_of cells.new) ≡ run_call program.now image.now (memory_of cells.old) (record { requests = requests.now; limit = limit; buffer = buffer.old }) }
 {
     let mut words = [0u32; machine::WORDS];
     let no = refusal(
