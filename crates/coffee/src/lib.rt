@@ -19,7 +19,7 @@ use encoder::Encoded;
 
 // What a run call answers, in numbers.
 #[repr(C)]
-#[derive(Drop)]
+#[derive(Clone, Copy)]
 pub struct CoffeeAnswer {
     // The number of the first question that is answered no, or 0.
     pub refusal: u32,

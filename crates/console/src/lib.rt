@@ -113,7 +113,7 @@ pub fn put_ended(line: &mut [u8], at: usize, base: u32, count: usize, n: u32, en
 // ---- the line
 
 // A line of text: `count` characters at the front of its bytes, and zeros after them.
-#[derive(Drop)]
+#[derive(Clone, Copy)]
 pub struct Line {
     pub bytes: [u8; 31],
     pub count: usize,

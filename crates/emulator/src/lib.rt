@@ -11,7 +11,7 @@ ghost use Rattle.emulator.specs.CarryOver.{carry_over_call};
 ghost use Rattle.machine.specs.Machine.{MOST_MEMORY, memory_of};
 
 // What a run call answers.
-#[derive(Drop)]
+#[derive(Clone, Copy)]
 pub enum Answer {
     // The number of the first question that is answered no.
     Refusal(u32),

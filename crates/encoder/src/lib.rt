@@ -12,7 +12,7 @@ ghost use Rattle.encoder.specs.Fields.{field_fits, all_fields_fit, guard_bits};
 use operands::{OperandField, OperandFields};
 
 // What is answered.
-#[derive(Drop)]
+#[derive(Clone, Copy)]
 pub enum Encoded {
     // The word.
     Word(u32),

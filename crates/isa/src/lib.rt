@@ -8,7 +8,7 @@ ghost use Rattle.isa.specs.Condition.{condition_of, holds};
 ghost use Rattle.isa.specs.Decode.{word_bytes, word_at, opcode_of, operands_of, decode};
 
 // The operands of an instruction; one that it does not have is 0.
-#[derive(Drop)]
+#[derive(Clone, Copy)]
 pub struct Operands {
     pub dreg: u32,
     pub sreg1: u32,

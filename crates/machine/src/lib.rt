@@ -14,7 +14,7 @@ ghost use Rattle.machine.specs.Words.{REGISTERS, FLAGS, OFFSETS, SOURCES, TIMERS
 use word::{has_flag, with_flag, without_flag};
 
 // The program position (01 "Machine image"): six numbers.
-#[derive(Drop)]
+#[derive(Clone, Copy)]
 pub struct Position {
     pub pc: u32,
     // 1 while a branch slot waits.

@@ -19,7 +19,7 @@ pub struct Timer {
 }
 
 // A timer after a clock, and whether a tick left its count equal to the maximum.
-#[derive(Drop)]
+#[derive(Clone, Copy)]
 pub struct Ticked {
     pub timer: Timer,
     pub reached: bool,

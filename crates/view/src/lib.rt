@@ -13,7 +13,7 @@ pub use memory::{cell, place as place_at};
 pub use program::{check_nops, closed, fetch, misaligned};
 
 // What the reading of a word of program memory gives.
-#[derive(Drop)]
+#[derive(Clone, Copy)]
 pub enum Fetched {
     // An instruction word.
     Word(u32),
@@ -24,7 +24,7 @@ pub enum Fetched {
 }
 
 // Whether the nops that must follow an instruction do.
-#[derive(Drop)]
+#[derive(Clone, Copy)]
 pub enum NopCheck {
     // They do.
     Pass,
@@ -35,7 +35,7 @@ pub enum NopCheck {
 }
 
 // What a data address names.
-#[derive(Drop)]
+#[derive(Clone, Copy)]
 pub enum Place {
     // A register of the control block, by its offset.
     Block(u32),
