@@ -3,7 +3,6 @@ use Rattle.std.proofs.Common.{◌≡◌, ℕ, ◌+◌, ◌*◌, ◌%◌, ◌^◌
 use Rattle.word.specs.Choice.{choose◌then◌else◌}
 use Rattle.isa.specs.Decode.{word_bytes}
 use Rattle.machine.specs.Machine.{Machine, psr, width_of, with_conditions}
-use Rattle.machine.specs.declared.Position.{Position}
 use Rattle.effect.specs.Apply.{write_register, write_flags, words_on, next_pc}
 use Rattle.effect.proofs.Registers.{write_psr, write_position}
 

@@ -1,13 +1,11 @@
 -- What an effect changes: the only place where a machine or the data memory changes, but for interrupts. Assumes nothing.
-use Rattle.std.specs.Prelude.{◌≡◌, ℕ, zero, suc, ◌+◌, ◌*◌, ◌/◌, ◌%◌, ◌^◌, Bool, true, false, List, [], ◌∷◌, set, ◌==◌, slice_index, slice_index_or, slice_set}
+use Rattle.std.specs.Prelude.{◌≡◌, ℕ, zero, suc, ◌+◌, ◌*◌, ◌/◌, ◌%◌, ◌^◌, Bool, true, false, List, [], ◌∷◌, ◌==◌, slice_index, slice_index_or, slice_set}
 use Rattle.word.specs.Choice.{choose◌then◌else◌}
 use Rattle.isa.specs.Decode.{word_bytes}
 use Rattle.machine.specs.Machine.{Machine, Memory, memory_of, State, SPSR, LINK, SUPER, psr, user_mode, reads_set2, writes_set2, wide_words, interrupts_enabled, width_of, status_of, position_at, with_set2, written, with_conditions, with_control, with_position, with_psr}
 use Rattle.machine.specs.Control.{control_at, EXCEPTION_CS, EXCEPTION_PC, EXCEPTION_PSR, SYSTEM_ADDR, EXCEP_ADDR}
 use Rattle.machine.specs.Stack.{popped, shown_top, with_stack, store_control}
 use Rattle.machine.specs.Words.{state_of}
-use Rattle.machine.specs.declared.Position.{Position}
-use Rattle.machine.specs.declared.Entry.{Entry}
 use Rattle.effect.specs.Kind.{Kind}
 use Rattle.effect.specs.Kind as kind
 use Rattle.effect.specs.Update.{Update}

@@ -1,7 +1,6 @@
 -- Calls on programs that have the nops that must follow swm, scall, retu and reti (02, wish 8). No definition of a call rests on these. Assumes nothing.
 use Rattle.std.specs.Prelude.{◌≡◌, false, List, ℕ, zero, suc, get_or}
 use Rattle.machine.specs.Machine.{State}
-use Rattle.effect.specs.Apply.{Transition}
 use Rattle.step.specs.Step.{is_stop, step}
 use Rattle.step.specs.RequiredNops.{step_unchecked, NopsFollow}
 use Rattle.emulator.specs.Run.{run_by, run}

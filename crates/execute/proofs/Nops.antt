@@ -7,14 +7,13 @@ use native.Mathlib.Omega.{arith}
 use lib.Dec.{eqb}
 use Rattle.word.specs.Choice.{choose◌then◌else◌}
 use Rattle.word.proofs.Tests.{either}
-use Rattle.isa.specs.Operation.{operation_of, Width, w16, w32, Properties, properties, unavailable}
+use Rattle.isa.specs.Operation.{operation_of, Width, w16, w32, properties, unavailable}
 use Rattle.isa.specs.Computed.{instructions}
 use Rattle.isa.specs.Decode.{opcode_of, assembled, decode}
 use Rattle.isa.specs.declared.Instruction.{Instruction}
 use Rattle.isa.proofs.Table.{values, agree}
-use Rattle.isa.proofs.Decoded.{InRange, in_range}
+use Rattle.isa.proofs.Decoded.{in_range}
 use Rattle.machine.specs.Machine.{user_mode, width_of}
-use Rattle.machine.specs.declared.Position.{Position}
 use Rattle.view.specs.View.{Attempt, Found, Raises, Stops, found_then, View, with_following, condition_false, nops_from, nops_after}
 use Rattle.view.specs.Theorems.{NopAt, NotNopAt, protected, absent, other, FirstOther, Checked, all_nops, not_all}
 use Rattle.effect.specs.Effect.{Effect, Stopped, Raised}

@@ -5,12 +5,11 @@ use mathlib.Core.Bool.{Bool, true, false, ◌&&◌}
 use Prim.Native.Nat.{ℕ}
 use lib.Dec.{eqb}
 use Rattle.word.specs.Choice.{choose◌then◌else◌}
-use Rattle.isa.specs.Operation.{operation_of, unavailable, code_of, Properties, properties}
+use Rattle.isa.specs.Operation.{operation_of, unavailable, code_of, properties}
 use Rattle.isa.proofs.Rules.{available, refused}
 use Rattle.isa.specs.Decode.{decode}
 use Rattle.isa.specs.declared.Instruction.{Instruction}
 use Rattle.machine.specs.Machine.{user_mode, width_of}
-use Rattle.machine.specs.declared.Position.{Position}
 use Rattle.view.specs.View.{Attempt, Found, Raises, Stops, View, condition_false, nops_from, nops_after}
 use Rattle.operation.specs.Execute.{on_found}
 use Rattle.effect.specs.Effect.{Stopped, Raised, Next}

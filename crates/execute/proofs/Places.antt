@@ -9,13 +9,12 @@ use lib.IntN.{ℤ, pos, ◌+ℤ◌}
 use borrow.Author.Tests.{leb-false, le-leb, ltb-true, ltb-false}
 use Rattle.word.specs.Choice.{choose◌then◌else◌}
 use Rattle.word.proofs.Tests.{either, both_bounds}
-use Rattle.isa.specs.Operation.{operation_of, Properties, properties}
+use Rattle.isa.specs.Operation.{operation_of, properties}
 use Rattle.isa.specs.Computed.{instructions}
 use Rattle.isa.specs.Theorems.{between}
 use Rattle.isa.specs.declared.Instruction.{Instruction}
 use Rattle.isa.proofs.Table.{values, agree}
 use Rattle.isa.proofs.Groups.{usable_low, no_transfer, no_nops}
-use Rattle.machine.specs.declared.Position.{Position}
 use Rattle.view.specs.View.{Attempt, Raises, map_found, Location, View, with_places, condition_false, nops_after}
 use Rattle.effect.specs.Effect.{Effect, Stopped, Raised, Next}
 use Rattle.operation.specs.Execute.{on_found, after_this, target_by, jumped, branch, execute}

@@ -8,14 +8,13 @@ use native.Mathlib.Omega.{arith}
 use lib.Dec.{eqb}
 use borrow.Author.Tests.{ne_eqb}
 use Rattle.word.proofs.Tests.{either}
-use Rattle.isa.specs.Operation.{operation_of, width_by, Properties, properties, unavailable, code_of}
+use Rattle.isa.specs.Operation.{operation_of, width_by, properties, unavailable, code_of}
 use Rattle.isa.specs.Format.{fields_of, conditional_field}
 use Rattle.isa.specs.Decode.{opcode_of, assembled, decode}
 use Rattle.isa.specs.Computed.{instructions}
 use Rattle.isa.specs.declared.Instruction.{Instruction}
 use Rattle.isa.proofs.Decoded.{InRange, in_range}
-use Rattle.machine.specs.Machine.{Machine, psr, user_mode, wide_words, width_of, Memory}
-use Rattle.machine.specs.declared.Position.{Position}
+use Rattle.machine.specs.Machine.{psr, user_mode, wide_words, width_of, Memory}
 use Rattle.machine.specs.Words.{machine_of}
 use Rattle.view.specs.View.{Attempt, Found, View, view, view_of, condition_false, nops_after}
 use Rattle.effect.specs.Effect.{Effect, Stopped, Raised, Next}

@@ -10,7 +10,7 @@ use lib.Seq.{get_or-set_other}
 use lib.Dec.{eqb, lit<}
 use Rattle.word.specs.Flags.{is_among}
 use Rattle.word.proofs.Tests.{if_holds}
-use Rattle.machine.specs.Machine.{Machine, user_mode}
+use Rattle.machine.specs.Machine.{Machine}
 use Rattle.machine.specs.Control.{registers, register_at, holds_as, can_hold, kept_by, is_writable, INT_SERV, RETI_ADDR, RETI_PSR, RETI_CR0}
 use Rattle.machine.specs.Stack.{popped, service_flags, shown_top, show_stack, kept_status, return_stored}
 use Rattle.machine.specs.declared.Entry.{Entry}

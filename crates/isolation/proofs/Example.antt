@@ -10,7 +10,7 @@ use native.Mathlib.Omega.{arith}
 use native.Mathlib.Nat.{le_of_suc-le-suc}
 use lib.ListN.{length, get_or, set, get_elem?, replicate, length-set, length-map, get_or-map}
 use lib.Dec.{lit≤}
-use Rattle.isa.specs.Operation.{add, ld, st, Properties, properties}
+use Rattle.isa.specs.Operation.{add, ld, st, properties}
 use Rattle.codec.specs.Number.{bytes_of}
 use Rattle.machine.specs.Machine.{Machine, PSR, position_at, memory_of}
 use Rattle.machine.specs.Control.{reset, within, CCB_BASE, INT_VECTORS, INT_PEND, TMR0_CNT, TMR_CONF, DMEM_BOUND_LO, DMEM_BOUND_HI, IMEM_BOUND_LO, IMEM_BOUND_HI}

@@ -12,7 +12,6 @@ use Rattle.isa.specs.Condition as condition
 use Rattle.isa.specs.Decode.{word_bytes}
 use Rattle.isa.specs.declared.Instruction.{Instruction}
 use Rattle.machine.specs.Machine.{width_of}
-use Rattle.machine.specs.declared.Position.{Position}
 use Rattle.view.specs.View.{Attempt, Found, Raises, Stops, Location, Block, Cell, View}
 use Rattle.effect.specs.Effect.{Effect, Stopped, Raised, Next, Result, ResultFlags, ResultProduct, Compare, Conditions, StoreControl, StoreCell, Jump, JumpLink, EnableInterrupts, SwitchWidth, SystemCall, InterruptReturn, UserReturn, SelectSets}
 

@@ -10,8 +10,7 @@ use Rattle.word.specs.Word.{word_of, is_address}
 use Rattle.word.proofs.Tests.{either, if_holds}
 use Rattle.isa.specs.Decode.{decode}
 use Rattle.isa.specs.Theorems.{between}
-use Rattle.isa.specs.declared.Instruction.{Instruction}
-use Rattle.isa.proofs.Decoded.{InRange, in_range}
+use Rattle.isa.proofs.Decoded.{in_range}
 use Rattle.machine.specs.Machine.{State, psr, user_mode, width_of}
 use Rattle.machine.specs.Control.{protected_cell}
 use Rattle.view.specs.View.{Attempt, Found, Raises, Stops, Location, place_at, held_at, View, view, with_places, condition_false}

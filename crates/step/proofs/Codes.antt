@@ -11,7 +11,7 @@ use Rattle.execute.proofs.Answers.{Code, tests, traps}
 use Rattle.execute.specs.Decide.{decide}
 use Rattle.execute.proofs.Safe.{Safe, decide_safe}
 use Rattle.effect.specs.Effect.{Effect, Stopped, Raised, SystemCall, InterruptReturn, StoreCell, Updates}
-use Rattle.effect.specs.Apply.{Transition, machine_only, store_cell, apply}
+use Rattle.effect.specs.Apply.{machine_only, store_cell, apply}
 use Rattle.effect.specs.Kind.{Kind}
 use Rattle.effect.specs.Kind as kind
 use Rattle.step.specs.Step.{step}

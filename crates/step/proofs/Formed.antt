@@ -24,7 +24,6 @@ use Rattle.timer.specs.Timer.{source_of, clock_timer}
 use Rattle.timer.specs.Clock.{configuration_of, timer_in, with_timer, counted, notified, Clocked, clock_one, clock}
 use Rattle.timer.proofs.Laws.{source_small, TimerOk, timer_ok}
 use Rattle.timer.specs.declared.Timer.{Timer}
-use Rattle.timer.specs.declared.Ticked.{Ticked}
 use Rattle.view.specs.View.{View, view}
 use Rattle.effect.specs.Apply.{write_register, write_flags, unpacked, words_on, next_pc, advance, advance_holding, jump_to, raise, system_call, user_return, interrupt_return, enable_interrupts, switch_width, select_sets, Transition, machine_only, store_cell, updated, apply}
 use Rattle.execute.specs.Decide.{decide}

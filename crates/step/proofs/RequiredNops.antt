@@ -8,7 +8,7 @@ use Rattle.word.specs.Choice.{choose◌then◌else◌}
 use Rattle.isa.specs.Decode.{decode}
 use Rattle.machine.specs.Machine.{State, width_of}
 use Rattle.view.specs.View.{Attempt, Found, Raises, Stops, View, view, with_following}
-use Rattle.view.specs.Theorems.{NopAt, NotNopAt, protected, absent, other, FirstOther}
+use Rattle.view.specs.Theorems.{NopAt, NotNopAt, protected, absent, other}
 use Rattle.view.proofs.Nops.{checked_in_order}
 use Rattle.execute.specs.Decide.{fetched_then, decide, Passes}
 use Rattle.execute.proofs.Order.{fetched_same}

@@ -9,7 +9,7 @@ use Rattle.machine.specs.Machine.{State}
 use Rattle.view.specs.View.{View, view}
 use Rattle.execute.specs.Decide.{decide}
 use Rattle.effect.specs.Effect.{Effect, Stopped, Raised, SystemCall, InterruptReturn, StoreCell, Updates}
-use Rattle.effect.specs.Apply.{Transition, machine_only, store_cell, apply, stop_number}
+use Rattle.effect.specs.Apply.{machine_only, store_cell, apply, stop_number}
 use Rattle.effect.specs.Kind.{Kind, STOPS}
 use Rattle.effect.specs.Kind as kind
 use Rattle.step.specs.Step.{is_stop, unclocked, step}

@@ -7,7 +7,7 @@ use Rattle.machine.specs.Machine.{State}
 use Rattle.machine.specs.Control.{reset}
 use Rattle.machine.specs.Words.{ZEROS}
 use Rattle.machine.proofs.Flat.{same_dividers}
-use Rattle.timer.specs.Clock.{Clocked, goes_on, clock}
+use Rattle.timer.specs.Clock.{goes_on, clock}
 use Rattle.timer.proofs.Theorems.{idle_clock}
 use Rattle.view.specs.View.{view}
 use Rattle.execute.specs.Decide.{decide}

@@ -6,7 +6,6 @@ use Rattle.word.specs.Choice.{choose◌then◌else◌}
 use Rattle.word.specs.Word.{word_of, is_address}
 use Rattle.isa.specs.Decode.{decode}
 use Rattle.isa.specs.Theorems.{between}
-use Rattle.isa.specs.declared.Instruction.{Instruction}
 use Rattle.machine.specs.Machine.{State, psr, user_mode, width_of}
 use Rattle.machine.specs.Control.{protected_cell}
 use Rattle.view.specs.View.{Attempt, Found, Raises, Stops, Location, found_at, held_at, View, view, with_places, condition_false}

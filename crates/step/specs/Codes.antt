@@ -2,7 +2,6 @@
 use Rattle.std.specs.Prelude.{◌≡◌, ◌≢◌, Bool, true, ◌||◌, List, ℕ, eqb}
 use Rattle.isa.specs.Theorems.{between}
 use Rattle.machine.specs.Machine.{State}
-use Rattle.effect.specs.Apply.{Transition}
 use Rattle.effect.specs.Kind.{Exception}
 use Rattle.step.specs.Step.{step}
 

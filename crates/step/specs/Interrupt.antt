@@ -2,15 +2,14 @@
 use Rattle.std.specs.Prelude.{Bool, true, false, not, ◌&&◌, List, [], ◌∷◌, ℕ, zero, suc, ◌+◌, ◌-◌, ◌*◌, ◌%◌, ◌^◌, get_or, ltb, eqb}
 use Rattle.std.proofs.Math.Option.{Option, none, some}
 use Rattle.word.specs.Choice.{choose◌then◌else◌}
-use Rattle.word.specs.Word.{bit_at, Field, field_of}
+use Rattle.word.specs.Word.{bit_at, field_of}
 use Rattle.word.specs.Arithmetic.{or_of}
 use Rattle.word.specs.Flags.{without_flag}
-use Rattle.isa.specs.Operation.{mulhi, Properties, properties, Width}
+use Rattle.isa.specs.Operation.{mulhi, properties, Width}
 use Rattle.isa.specs.Decode.{opcode_of}
 use Rattle.machine.specs.Machine.{Machine, State, psr, interrupts_enabled, width_of, status_of, position_at, with_position, with_psr}
 use Rattle.machine.specs.Control.{control_at, with_pending, INT_VECTORS, INT_MODE_IL, INT_MODE_UM, INT_MASK, INT_PEND, EXT_INT_PRI, COP_INT_PRI}
 use Rattle.machine.specs.Stack.{with_stack}
-use Rattle.machine.specs.declared.Position.{Position}
 use Rattle.machine.specs.declared.Entry.{Entry}
 use Rattle.view.specs.View.{Attempt, Found, Raises, Stops, View}
 

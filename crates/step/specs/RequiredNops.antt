@@ -2,7 +2,7 @@
 -- of the step rests on these. Assumes nothing.
 use Rattle.std.specs.Prelude.{◌≡◌, List, ℕ, ◌≤◌}
 use Rattle.std.proofs.Math.Option.{none}
-use Rattle.isa.specs.Operation.{operation_of, Properties, properties}
+use Rattle.isa.specs.Operation.{operation_of, properties}
 use Rattle.isa.specs.Decode.{opcode_of, decode}
 use Rattle.machine.specs.Machine.{State, width_of}
 use Rattle.view.specs.View.{Attempt, Found, Raises, Stops, View, view, with_following}

@@ -3,7 +3,7 @@ use Rattle.std.specs.Prelude.{Bool, true, false, List, ℕ}
 use Rattle.std.proofs.Math.Option.{Option, none, some}
 use Rattle.word.specs.Choice.{choose◌then◌else◌}
 use Rattle.machine.specs.Machine.{State}
-use Rattle.timer.specs.Clock.{Clocked, clock}
+use Rattle.timer.specs.Clock.{clock}
 use Rattle.view.specs.View.{View, view}
 use Rattle.execute.specs.Decide.{decide}
 use Rattle.effect.specs.Apply.{Transition, machine_only, apply}

@@ -10,7 +10,6 @@ use Rattle.machine.specs.Words.{SOURCES, ZEROS}
 use Rattle.formed.specs.Questions.{well_formed}
 use Rattle.timer.specs.Timer.{enabled}
 use Rattle.timer.specs.Clock.{configuration_of}
-use Rattle.effect.specs.Apply.{Transition}
 use Rattle.effect.specs.Kind.{Reset}
 use Rattle.step.specs.Interrupt.{priority, below_all, candidate}
 use Rattle.step.specs.Step.{is_stop, unclocked, step}

@@ -1,15 +1,13 @@
 -- The worked examples of 01 that are marked *, and those of 02's wish 3, as a table: one step from a start, what is shown of it, and what that
 -- must be; a change of task, of 02's wish 6; and a table of the nops of 02's wish 8. Assumes nothing.
 use Rattle.std.specs.Prelude.{◌≡◌, List, [], ◌∷◌, ◌++◌, map, ℕ, zero, suc, ◌+◌, ◌*◌, ◌^◌, get_or, set, replicate}
-use Rattle.isa.specs.Operation.{Operation, add, sub, subu, muls, mulu, mulus, ld, jmp, Properties, properties}
+use Rattle.isa.specs.Operation.{Operation, add, sub, subu, muls, mulu, mulus, ld, jmp, properties}
 use Rattle.machine.specs.Machine.{Machine, memory_of, State, PSR, LINK, psr, position_at, with_set2}
 use Rattle.machine.specs.Words.{ZEROS}
-use Rattle.machine.specs.declared.Position.{Position}
 use Rattle.machine.specs.declared.Entry.{Entry}
 use Rattle.machine.specs.Stack.{with_stack}
 use Rattle.machine.specs.Control.{control_at, reset, EXCEPTION_CS, EXCEPTION_PC, EXCEPTION_PSR, DMEM_BOUND_LO, DMEM_BOUND_HI, IMEM_BOUND_LO, IMEM_BOUND_HI, INT_SERV, RETURNS}
 use Rattle.codec.specs.Number.{bytes_of}
-use Rattle.effect.specs.Apply.{Transition}
 use Rattle.step.specs.Step.{step}
 use Rattle.step.specs.AddressOrder.{step_before}
 use Rattle.effect.specs.Kind.{Kind, Ordinary, SystemCall, Exception, Stop}

@@ -8,7 +8,7 @@ use Rattle.machine.specs.Machine.{Machine, with_control, with_dividers}
 use Rattle.machine.specs.Control.{control_at, with_pending, reset, INT_PEND, TMR0_CNT, TMR0_MAX_CNT}
 use Rattle.machine.specs.Words.{SOURCES}
 use Rattle.timer.specs.Timer.{enabled, continuous, interrupts, watchdog, source_of, divisor, next_count, reaches, timer_of, ticked_to, clock_timer}
-use Rattle.timer.specs.Clock.{configuration_of, with_timer, Counted, counted, leaving, notified, Clocked, clock_one, clock}
+use Rattle.timer.specs.Clock.{configuration_of, with_timer, counted, leaving, notified, Clocked, clock_one, clock}
 use Rattle.timer.specs.declared.Timer.{Timer}
 use Rattle.timer.specs.declared.Ticked.{Ticked}
 

@@ -13,7 +13,7 @@ use Rattle.machine.specs.Words.{SOURCES, TIMERS}
 use Rattle.machine.proofs.Lists.{at_set_other, pair_set}
 use Rattle.timer.specs.Timer.{enabled, continuous, interrupts, watchdog, source_of, divisor, next_count, timer_of, ticked_to, clock_timer}
 use Rattle.timer.specs.Clock.{configuration_of, timer_in, with_timer, counted, leaving, notified, Clocked, goes_on, was_reset, clock_one, clock}
-use Rattle.timer.specs.Theorems.{Disabled, MaximumKept, clocks_of, Divided, FirstTick, Tick, Ticks, IdleClock, ResetClock, CLOCKED, ClockKept, ClockKeeps}
+use Rattle.timer.specs.Theorems.{Disabled, MaximumKept, clocks_of, FirstTick, Ticks, IdleClock, ResetClock, CLOCKED, ClockKept, ClockKeeps}
 use Rattle.timer.specs.declared.Timer.{Timer}
 use Rattle.timer.specs.declared.Ticked.{Ticked}
 use Rattle.timer.proofs.Laws.{divisor_is, TicksTo, restarts, stays, counts, clock_disabled, clock_divided, clock_ticks}

@@ -1,13 +1,12 @@
 -- One clock of the machine: both timers (02, wish 5). Assumes nothing.
 use Rattle.std.specs.Prelude.{ℕ, ◌+◌, ◌*◌, Bool, true, false, slice_index, slice_set}
 use Rattle.word.specs.Choice.{choose◌then◌else◌}
-use Rattle.word.specs.Word.{Field, field_of}
+use Rattle.word.specs.Word.{field_of}
 use Rattle.word.specs.Flags.{with_flag}
 use Rattle.machine.specs.Machine.{Machine, with_control, with_dividers}
 use Rattle.machine.specs.Control.{control_at, with_pending, reset, INT_PEND, TMR0_CNT, TMR0_MAX_CNT, TMR_CONF}
 use Rattle.timer.specs.Timer.{interrupts, watchdog, source_of, timer_of, clock_timer}
 use Rattle.timer.specs.declared.Timer.{Timer}
-use Rattle.timer.specs.declared.Ticked.{Ticked}
 
 -- ---- timer k, 0 or 1, of a machine
 

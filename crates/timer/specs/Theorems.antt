@@ -6,9 +6,8 @@ use Rattle.machine.specs.Machine.{Machine, with_dividers}
 use Rattle.machine.specs.Control.{reset, INT_PEND, TMR0_CNT, TMR1_CNT}
 use Rattle.machine.specs.Words.{TIMERS, ZEROS}
 use Rattle.timer.specs.Timer.{enabled, continuous, divisor, next_count, timer_of, ticked_to, clock_timer}
-use Rattle.timer.specs.Clock.{configuration_of, Clocked, goes_on, clock}
+use Rattle.timer.specs.Clock.{configuration_of, goes_on, clock}
 use Rattle.timer.specs.declared.Timer.{Timer}
-use Rattle.timer.specs.declared.Ticked.{Ticked}
 
 -- ---- one timer
 

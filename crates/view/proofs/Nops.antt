@@ -12,7 +12,7 @@ use Rattle.isa.specs.Decode.{opcode_of}
 use Rattle.machine.specs.Machine.{width_of}
 use Rattle.view.specs.View.{Attempt, Found, Raises, Stops, found_then, View, view, nops_from}
 use Rattle.view.proofs.Bytes.{Read, closed, missing, word_read}
-use Rattle.view.specs.Theorems.{NopAt, NotNopAt, protected, absent, other, FirstOther, Checked, all_nops, not_all, CheckedInOrder}
+use Rattle.view.specs.Theorems.{NopAt, NotNopAt, protected, absent, other, Checked, all_nops, not_all, CheckedInOrder}
 
 -- ---- one of them, and then the rest
 

@@ -8,7 +8,7 @@ use Rattle.isa.specs.Condition.{condition_of, holds}
 use Rattle.isa.specs.declared.Instruction.{Instruction}
 use Rattle.isa.specs.Operation.{Width}
 use Rattle.isa.specs.Decode.{word_bytes, opcode_of}
-use Rattle.machine.specs.Machine.{Machine, Memory, State, psr, user_mode, reads_set2, writes_set2, width_of, set_by}
+use Rattle.machine.specs.Machine.{Memory, State, psr, user_mode, reads_set2, writes_set2, width_of, set_by}
 use Rattle.machine.specs.Control.{control_at, within, protected_cell, CCB_BASE, IMEM_BOUND_LO, IMEM_BOUND_HI}
 use Rattle.machine.specs.Words.{state_of}
 use Rattle.machine.specs.declared.Position.{Position}

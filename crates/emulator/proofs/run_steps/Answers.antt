@@ -1,6 +1,5 @@
 -- `run_steps` meets its contract: what is left of the limit goes on from the state as the whole limit does from the first. Assumes nothing.
 use mathlib.Core.Path.{sym, ap, ◌∙◌}
-use mathlib.Core.Bool.{true}
 use native.Mathlib.Nat.{sub-zero}
 use borrow.Author.Rules.{rules}
 use Rattle.emulator.specs.Run.{reply_of, end_of}
