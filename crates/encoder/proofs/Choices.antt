@@ -14,7 +14,10 @@ use borrow.Author.Tests.{eqb-true, eqb-false}
 use Rattle.word.specs.Choice.{choose◌then◌else◌}
 use Rattle.word.specs.Word.{Field, word_of}
 use Rattle.word.proofs.Tests.{either, and_parts, and_both}
-use Rattle.isa.specs.Operation.{Operation, operation_of, Width, w16, w32, properties}
+use Rattle.isa.specs.declared.operation.Operation.{Operation}
+use Rattle.isa.specs.declared.width.Width.{Width}
+use Rattle.isa.specs.declared.width.Width.TheVariants.{Narrow, Wide}
+use Rattle.isa.specs.Operation.{operation_of, properties}
 use Rattle.isa.specs.Format.{fields_width, fields_of, placed_in, kept_in, operation_field, conditional_field, creg_field, condition_field}
 use Rattle.isa.specs.Decode.{opcode_of, assembled, decode}
 use Rattle.isa.specs.Used.{shown_fields, guard_fields, used_fields}
@@ -98,10 +101,10 @@ module _ (width : Width) (word : ℕ) where
 guard_pieces : (width : Width) (o : Operation) (g : Option Guard) (ps : List Part) → (given g ≡ true → (properties o).conditional ≡ true)
     → pieces_of (guard_parts width o g ++ ps) ≡ guard_fields width o (given g) ++ pieces_of ps
 unfolding guard_parts pieces_of guard_fields given choose◌then◌else◌ conditional_field creg_field condition_field
-guard_pieces w16 o none ps h = either (properties o).conditional (λ t. rw t) (λ t. rw t)
-guard_pieces w32 o none ps h = either (properties o).conditional (λ t. rw t) (λ t. rw t)
-guard_pieces w16 o (some g) ps h = rw (h refl)
-guard_pieces w32 o (some g) ps h = rw (h refl)
+guard_pieces Narrow o none ps h = either (properties o).conditional (λ t. rw t) (λ t. rw t)
+guard_pieces Wide o none ps h = either (properties o).conditional (λ t. rw t) (λ t. rw t)
+guard_pieces Narrow o (some g) ps h = rw (h refl)
+guard_pieces Wide o (some g) ps h = rw (h refl)
 
 pub pieces_used : (width : Width) (c : Choice) → (given c.guard ≡ true → (properties (operation_of c.operation)).conditional ≡ true)
     → pieces_of (parts_of width c) ≡ used_fields width (operation_of c.operation) (given c.guard)

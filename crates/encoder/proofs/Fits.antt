@@ -10,7 +10,9 @@ use borrow.Author.Tests.{ltb-true, ltb-false, lt-ltb, le-ltb, le-leb}
 use Rattle.word.specs.Word.{signed_of}
 use Rattle.word.proofs.Tests.{either}
 use Rattle.word.proofs.Integers.{double, signed_either}
-use Rattle.isa.specs.Operation.{Operation, Width, w16}
+use Rattle.isa.specs.declared.operation.Operation.{Operation}
+use Rattle.isa.specs.declared.width.Width.{Width}
+use Rattle.isa.specs.declared.width.Width.TheVariants.{Narrow}
 use Rattle.isa.specs.Used.{Natural, Signed, High, least_of}
 use Rattle.operands.specs.declared.OperandField.{OperandField}
 use Rattle.operands.proofs.Places.{FieldIs, field_is}
@@ -26,7 +28,7 @@ field_fits_law i z = rw (i.reading, i.bits)
 
 -- registers of 16-bit words
 pub narrow_bits : NarrowBits
-narrow_bits n k h l e = (field_is w16 n k h l).three e
+narrow_bits n k h l e = (field_is Narrow n k h l).three e
 
 -- ---- tests of a number in two's complement
 

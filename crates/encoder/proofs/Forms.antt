@@ -12,7 +12,10 @@ use Rattle.word.specs.Choice.{choose◌then◌else◌}
 use Rattle.word.specs.Word.{signed_of, mod_z}
 use Rattle.word.proofs.Tests.{either, and_parts, and_both}
 use Rattle.word.proofs.Integers.{word_signed, word_natural}
-use Rattle.isa.specs.Operation.{Operation, operation_of, Width, w16, w32, properties}
+use Rattle.isa.specs.declared.operation.Operation.{Operation}
+use Rattle.isa.specs.declared.width.Width.{Width}
+use Rattle.isa.specs.declared.width.Width.TheVariants.{Narrow, Wide}
+use Rattle.isa.specs.Operation.{operation_of, properties}
 use Rattle.isa.specs.Format.{fields_width, placed_in, operation_field, conditional_field, creg_field, condition_field}
 use Rattle.isa.specs.Decode.{word_bytes}
 use Rattle.isa.specs.Shown.{has_form}
@@ -32,14 +35,14 @@ use Rattle.encoder.proofs.Theorems.{asked_in_order, operation_bits, size}
 -- ---- the condition
 
 -- a condition is given in 32-bit words only
-no_condition : (n : ℕ) → chosen_form w16 n true ≡ true → ⊥
+no_condition : (n : ℕ) → chosen_form Narrow n true ≡ true → ⊥
 unfolding chosen_form conditional_form conditional_field fields_width
 no_condition n form =
     let p = (properties (operation_of n)).conditional in
-    true≢false (sym (and_parts p false (and_parts (ltb n 64 && has_form w16 (operation_of n)) (p && false) form).1).1)
+    true≢false (sym (and_parts p false (and_parts (ltb n 64 && has_form Narrow (operation_of n)) (p && false) form).1).1)
 
 condition_fits : (creg condition : ℕ)
-    → fits (fields_width (conditional_field w32)) (pos 0) (pos 1) && (fits (fields_width (creg_field w32)) (pos 0) (pos creg) && (fits (fields_width (condition_field w32)) (pos 0) (pos condition) && true))
+    → fits (fields_width (conditional_field Wide)) (pos 0) (pos 1) && (fits (fields_width (creg_field Wide)) (pos 0) (pos creg) && (fits (fields_width (condition_field Wide)) (pos 0) (pos condition) && true))
     ≡ ltb creg 8 && ltb condition 8
 unfolding fields_width conditional_field creg_field condition_field
 condition_fits creg condition = rw (natural_fits 1 1, natural_fits 3 creg, natural_fits 3 condition) (ap (λ (b : Bool). ltb creg 8 && b) (and-true (ltb condition 8)))
@@ -50,16 +53,16 @@ unfolding guard_by guard_parts all_fit part_fits choose◌then◌else◌
 guard_fits width n false creg condition form =
     let k = fields_width (conditional_field width) in
     either (properties (operation_of n)).conditional (λ t. rw (t, natural_fits k 0) (and_both _ true (lt-ltb 0 (2 ^ k) (pow_pos k)) refl)) (λ t. rw t)
-guard_fits w16 n true creg condition form = absurd (no_condition n form)
-guard_fits w32 n true creg condition form = condition_fits creg condition
+guard_fits Narrow n true creg condition form = absurd (no_condition n form)
+guard_fits Wide n true creg condition form = condition_fits creg condition
 
 guard_written : (width : Width) (n : ℕ) (conditional : Bool) (creg condition : ℕ) → chosen_form width n conditional ≡ true
     → guard_bits conditional creg condition ≡ written (guard_parts width (operation_of n) (guard_by conditional creg condition))
 unfolding guard_by guard_parts written placed_in fields_width conditional_field creg_field condition_field mod_z choose◌then◌else◌
-guard_written w16 n false creg condition form = either (properties (operation_of n)).conditional (λ t. rw t) (λ t. rw t)
-guard_written w32 n false creg condition form = either (properties (operation_of n)).conditional (λ t. rw t) (λ t. rw t)
-guard_written w16 n true creg condition form = absurd (no_condition n form)
-guard_written w32 n true creg condition form = omega arith
+guard_written Narrow n false creg condition form = either (properties (operation_of n)).conditional (λ t. rw t) (λ t. rw t)
+guard_written Wide n false creg condition form = either (properties (operation_of n)).conditional (λ t. rw t) (λ t. rw t)
+guard_written Narrow n true creg condition form = absurd (no_condition n form)
+guard_written Wide n true creg condition form = omega arith
 
 -- ---- all parts
 

@@ -13,7 +13,7 @@ use Rattle.isa.specs.Condition.{condition_of, name_of}
 use Rattle.isa.specs.Format.{Role, Creg}
 use Rattle.isa.specs.Decode.{decode}
 use Rattle.isa.specs.Shown.{shown_roles, shown_value}
-use Rattle.isa.specs.declared.Instruction.{Instruction}
+use Rattle.isa.specs.declared.instruction.Instruction.{Instruction}
 use Rattle.listing.specs.Line.{integer_text, prefix_of, operand_text, joined, operands_text, name_text, condition_text}
 use Rattle.listing.proofs.Rooms.{roles_few}
 use Rattle.encoder.specs.Encode.{Guard, Choice, guard_by, guard_of, value_for, choice_of}

@@ -13,7 +13,9 @@ use Rattle.word.specs.Choice.{choose◌then◌else◌}
 use Rattle.word.specs.Word.{Field, bits◌to◌, field_of, word_of}
 use Rattle.word.proofs.Tests.{either, and_parts, if_false}
 use Rattle.word.proofs.Bounds.{field_below}
-use Rattle.isa.specs.Operation.{operation_of, Width, w16, w32, Form, properties}
+use Rattle.isa.specs.declared.width.Width.{Width}
+use Rattle.isa.specs.declared.width.Width.TheVariants.{Narrow, Wide}
+use Rattle.isa.specs.Operation.{operation_of, Form, properties}
 use Rattle.isa.specs.Format.{fields_width, fields_of, operation_field, conditional_field, creg_field, condition_field, Role, Dreg, Sreg1, Sreg2, Creg, Imm, Length, Position, Immediate, layout_of, operand_fields}
 use Rattle.isa.specs.Decode.{register_of, immediate_of, operands_of, opcode_of, assembled, decode}
 use Rattle.isa.specs.Shown.{shown_roles, shown_value}
@@ -30,19 +32,19 @@ use Rattle.encoder.proofs.Values.{Held, natural_held, high_held, signed_held}
 
 -- a register of 16-bit words has three
 unfoldable register_bits : Width → List Field → Bool
-register_bits w32 fs = leb (fields_width fs) 32
-register_bits w16 fs = eqb (fields_width fs) 3
+register_bits Wide fs = leb (fields_width fs) 32
+register_bits Narrow fs = eqb (fields_width fs) 3
 
 register_held : (width : Width) (fs : List Field) (word : ℕ) → register_bits width fs ≡ true
     → Held (fields_width fs) (least_of (register_reading width) (fields_width fs)) (pos (register_of width fs word)) (fields_of fs word)
 unfolding register_bits register_of register_reading fields_width
-register_held w32 fs word e = natural_held (fields_width fs) (fields_of fs word) (leb-true _ _ e) (fields_below fs word)
-register_held w16 [] word e = absurd (true≢false (sym e))
-register_held w16 (f ∷ fs) word e =
+register_held Wide fs word e = natural_held (fields_width fs) (fields_of fs word) (leb-true _ _ e) (fields_below fs word)
+register_held Narrow [] word e = absurd (true≢false (sym e))
+register_held Narrow (f ∷ fs) word e =
     let n = fields_of (f ∷ fs) word in
     let three : fields_width (f ∷ fs) ≡ 3 = eqb-true _ _ e in
     let b : n < 2 ^ 3 = subst (λ (k : ℕ). n < 2 ^ k) three (fields_below (f ∷ fs) word) in
-    subst (λ (k : ℕ). Held k (least_of (register_reading w16) k) (pos (register_of w16 (f ∷ fs) word)) n) (sym three) (high_held n b)
+    subst (λ (k : ℕ). Held k (least_of (register_reading Narrow) k) (pos (register_of Narrow (f ∷ fs) word)) n) (sym three) (high_held n b)
 
 immediate_held : (i : Immediate) (word : ℕ) → immediate_fits i ≡ true
     → Held (fields_width i.fields) (least_of (immediate_reading i) (fields_width i.fields)) (immediate_of i word) (fields_of i.fields word)
@@ -124,8 +126,8 @@ unfolding instructions values register_bits two_parts part_bits readable all_rea
 rows_readable width = by_number (λ o. all_readable width (properties o).form (shown_roles width o)) (λ n. true) (computed width) (λ n h. refl)
   where
     computed : (width : Width) → values (λ n. all_readable width (properties (operation_of n)).form (shown_roles width (operation_of n))) 0 64 ≡ values (λ n. true) 0 64
-    computed w16 = refl
-    computed w32 = refl
+    computed Narrow = refl
+    computed Wide = refl
 
 -- a natural number that is what pieces hold
 pub field_held : (fs : List Field) (word n : ℕ) → n ≡ fields_of fs word → fields_width fs ≤ 32 → Held (fields_width fs) (pos 0) (pos n) (fields_of fs word)
@@ -141,8 +143,8 @@ pub record Short (width : Width) : Type 0 where
 
 pub short : (width : Width) → Short width
 unfolding fields_width operation_field conditional_field creg_field condition_field
-short w16 = record { operation = omega arith; conditional = omega arith; creg = omega arith; condition = omega arith }
-short w32 = record { operation = omega arith; conditional = omega arith; creg = omega arith; condition = omega arith }
+short Narrow = record { operation = omega arith; conditional = omega arith; creg = omega arith; condition = omega arith }
+short Wide = record { operation = omega arith; conditional = omega arith; creg = omega arith; condition = omega arith }
 
 module _ (width : Width) (word : ℕ) where
   abbrev form : Form

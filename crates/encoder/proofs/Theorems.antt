@@ -11,12 +11,15 @@ use borrow.Author.Tests.{lt-ltb}
 use Rattle.word.specs.Choice.{choose◌then◌else◌}
 use Rattle.word.specs.Word.{Field, mod_z, word_of}
 use Rattle.word.proofs.Tests.{either, and_parts, and_both, if_true, if_false}
-use Rattle.isa.specs.Operation.{Operation, operation_of, Width, w16, w32, width_by, properties}
+use Rattle.isa.specs.declared.operation.Operation.{Operation}
+use Rattle.isa.specs.declared.width.Width.{Width}
+use Rattle.isa.specs.declared.width.Width.TheVariants.{Narrow, Wide}
+use Rattle.isa.specs.Operation.{operation_of, width_by, properties}
 use Rattle.isa.specs.Format.{fields_width, fields_of, kept_in, lie_below, separate, operation_field, conditional_field, creg_field, condition_field}
 use Rattle.isa.specs.Decode.{word_bytes, opcode_of, assembled, decode}
 use Rattle.isa.specs.Shown.{has_form}
 use Rattle.isa.specs.Used.{shown_role, shown_fields, least_of, shown_reading, used_fields, cleared}
-use Rattle.isa.specs.declared.Instruction.{Instruction}
+use Rattle.isa.specs.declared.instruction.Instruction.{Instruction}
 use Rattle.isa.specs.Theorems.{between}
 use Rattle.isa.proofs.Rules as rules
 use Rattle.isa.proofs.Showing.{form_is}
@@ -79,10 +82,10 @@ given_is i = given_by i.conditional i.creg i.condition
 -- a word that is conditional has a conditional form
 read_conditional : (width : Width) (word : ℕ) → (decode width word).conditional ≡ true → conditional_form width (operation_of (opcode_of width word)) ≡ true
 unfolding decode assembled conditional_form conditional_field fields_of fields_width
-read_conditional w16 word e = absurd (true≢false (sym e))
-read_conditional w32 word e =
-    let p = (properties (operation_of (opcode_of w32 word))).conditional in
-    and_both p true (and_parts (eqb (fields_of (conditional_field w32) word) 1) p e).1 refl
+read_conditional Narrow word e = absurd (true≢false (sym e))
+read_conditional Wide word e =
+    let p = (properties (operation_of (opcode_of Wide word))).conditional in
+    and_both p true (and_parts (eqb (fields_of (conditional_field Wide) word) 1) p e).1 refl
 
 read_form : (width : Width) (word : ℕ) → has_form width (operation_of (decode width word).opcode) ≡ true → chosen_form width (choice_of width word).operation (given (choice_of width word).guard) ≡ true
 unfolding chosen_form choice_of decode assembled
@@ -114,8 +117,8 @@ fit_parts p ps e = and_parts (part_fits p) (all_fit ps) e
 
 pub operation_bits : (width : Width) → fields_width (operation_field width) ≡ 6
 unfolding operation_field fields_width
-operation_bits w16 = refl
-operation_bits w32 = refl
+operation_bits Narrow = refl
+operation_bits Wide = refl
 
 -- the condition that a word is read as, of an operation
 abbrev guard_in : Width → Operation → (word : ℕ) → Option Guard
@@ -124,19 +127,19 @@ guard_in width o word = guard_by (eqb (fields_of (conditional_field width) word)
 guard_back : (width : Width) (o : Operation) (g : Option Guard) (word : ℕ) → (given g ≡ true → conditional_form width o ≡ true)
     → AllHold (guard_parts width o g) word → all_fit (guard_parts width o g) ≡ true → guard_in width o word ≡ g
 unfolding AllHold guard_by guard_parts all_fit part_fits given conditional_form choose◌then◌else◌ fields_width conditional_field creg_field condition_field fields_of mod_z
-guard_back w16 o none word f h e = refl
-guard_back w32 o none word f h e =
+guard_back Narrow o none word f h e = refl
+guard_back Wide o none word f h e =
     either (properties o).conditional
     (λ t.
-    let held : AllHold (natural (conditional_field w32) 0 ∷ []) word = rw t at h in
+    let held : AllHold (natural (conditional_field Wide) 0 ∷ []) word = rw t at h in
     if_false _ _ none (ap (λ (n : ℕ). eqb n 1 && (properties o).conditional) held.0))
-    (λ t. if_false _ _ none (ap (λ (b : Bool). eqb (fields_of (conditional_field w32) word) 1 && b) t ∙ and-false (eqb (fields_of (conditional_field w32) word) 1)))
-guard_back w16 o (some g) word f h e = absurd (true≢false (sym (and_parts (properties o).conditional false (f refl)).1))
-guard_back w32 o (some g) word f h e =
+    (λ t. if_false _ _ none (ap (λ (b : Bool). eqb (fields_of (conditional_field Wide) word) 1 && b) t ∙ and-false (eqb (fields_of (conditional_field Wide) word) 1)))
+guard_back Narrow o (some g) word f h e = absurd (true≢false (sym (and_parts (properties o).conditional false (f refl)).1))
+guard_back Wide o (some g) word f h e =
     let t = (and_parts (properties o).conditional true (f refl)).0 in
-    let second = natural (creg_field w32) g.creg in
-    let third = natural (condition_field w32) g.condition in
-    let e' = fit_parts second (third ∷ []) (fit_parts (natural (conditional_field w32) 1) (second ∷ third ∷ []) e).1 in
+    let second = natural (creg_field Wide) g.creg in
+    let third = natural (condition_field Wide) g.condition in
+    let e' = fit_parts second (third ∷ []) (fit_parts (natural (conditional_field Wide) 1) (second ∷ third ∷ []) e).1 in
     let creg = natural_back 3 g.creg _ (omega arith) e'.0 h.1.0 in
     let condition = natural_back 3 g.condition _ (omega arith) (fit_parts third [] e'.1).0 h.1.1.0 in
     if_true _ _ none (and_both _ _ (ap (λ (n : ℕ). eqb n 1) h.0) t) ∙ ap some (λ i. record { creg = creg i; condition = condition i })

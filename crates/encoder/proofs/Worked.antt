@@ -4,7 +4,7 @@ use mathlib.Core.Bool.{true, false}
 use mathlib.Core.List.{List, [], ◌∷◌, map}
 use Prim.Native.Nat.{ℕ}
 use lib.IntN.{ℤ, pos, negsuc}
-use Rattle.isa.specs.Operation.{w16, w32}
+use Rattle.isa.specs.declared.width.Width.TheVariants.{Narrow, Wide}
 use Rattle.isa.specs.Used.{cleared}
 use Rattle.encoder.specs.Encode.{Choice, chosen, Encoding, Encodes, RefusedWith, encode_of}
 use Rattle.encoder.specs.Computed.{encodings}
@@ -66,18 +66,18 @@ cases16 =
     (under 0 0 1 (pos 25) (pos 26) (pos 0) (pos 0), RefusedWith 18) ∷  -- add under a condition
     []
 
-worked_32 : map (λ (r : Choice × Encoding). encode_of w32 r.0) cases32 ≡ map (λ (r : Choice × Encoding). r.1) cases32
+worked_32 : map (λ (r : Choice × Encoding). encode_of Wide r.0) cases32 ≡ map (λ (r : Choice × Encoding). r.1) cases32
 unfolding encodings cases32
 worked_32 = refl
 
-worked_16 : map (λ (r : Choice × Encoding). encode_of w16 r.0) cases16 ≡ map (λ (r : Choice × Encoding). r.1) cases16
+worked_16 : map (λ (r : Choice × Encoding). encode_of Narrow r.0) cases16 ≡ map (λ (r : Choice × Encoding). r.1) cases16
 unfolding encodings cases16
 worked_16 = refl
 
 -- ---- ignored bits
 
 -- add, trap, jmp with bit 25 at 1; 16-bit cmp, slli
-worked_cleared : (map (cleared w32) (0x05FF_FC43 ∷ 0xDFFF_FFFF ∷ 0x9200_FFFF ∷ []) ≡ 0x0400_7C43 ∷ 0xDC00_001F ∷ 0x9000_FFFF ∷ [])
-    × (map (cleared w16) (0x83FF ∷ 0x5FFF ∷ []) ≡ 0x803F ∷ 0x5CFF ∷ [])
+worked_cleared : (map (cleared Wide) (0x05FF_FC43 ∷ 0xDFFF_FFFF ∷ 0x9200_FFFF ∷ []) ≡ 0x0400_7C43 ∷ 0xDC00_001F ∷ 0x9000_FFFF ∷ [])
+    × (map (cleared Narrow) (0x83FF ∷ 0x5FFF ∷ []) ≡ 0x803F ∷ 0x5CFF ∷ [])
 unfolding encodings
 worked_cleared = (refl, refl)

@@ -3,12 +3,14 @@ use Rattle.std.specs.Prelude.{Bool, true, false, not, ◌&&◌, ◌||◌, List, 
 use Rattle.std.proofs.Math.Option.{Option, none, some}
 use Rattle.word.specs.Choice.{choose◌then◌else◌}
 use Rattle.word.specs.Word.{Field, word_of}
-use Rattle.isa.specs.Operation.{Operation, operation_of, Width, properties}
+use Rattle.isa.specs.declared.operation.Operation.{Operation}
+use Rattle.isa.specs.declared.width.Width.{Width}
+use Rattle.isa.specs.Operation.{operation_of, properties}
 use Rattle.isa.specs.Format.{fields_width, placed_in, operation_field, conditional_field, creg_field, condition_field, Role}
 use Rattle.isa.specs.Decode.{decode}
 use Rattle.isa.specs.Shown.{has_form, shown_value}
 use Rattle.isa.specs.Used.{shown_role, shown_fields, least_of, shown_reading}
-use Rattle.isa.specs.declared.Instruction.{Instruction}
+use Rattle.isa.specs.declared.instruction.Instruction.{Instruction}
 use Rattle.encoder.specs.declared.Encoded.{Encoded}
 use Rattle.encoder.specs.declared.Encoded.TheVariants.{Word, Refusal}
 

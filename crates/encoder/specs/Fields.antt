@@ -1,7 +1,7 @@
 -- What fits, as the code asks: by the numbers of operand fields; and the bits of a condition. Assumes nothing.
 use Rattle.std.specs.Prelude.{Bool, not, ◌&&◌, ◌||◌, ℕ, ◌+◌, ltb, ℤ}
 use Rattle.word.specs.Choice.{choose◌then◌else◌}
-use Rattle.isa.specs.Operation.{w32}
+use Rattle.isa.specs.declared.width.Width.TheVariants.{Wide}
 use Rattle.isa.specs.Format.{placed_in, conditional_field, creg_field, condition_field}
 use Rattle.isa.specs.Used.{least_of}
 use Rattle.operands.specs.Places.{bits_of, reading_by}
@@ -20,4 +20,4 @@ all_fields_fit f conditional creg condition a b c d =
 
 -- the bits of a condition in 32-bit words; without one there are none
 abbrev pub guard_bits : (conditional : Bool) (creg condition : ℕ) → ℕ
-guard_bits conditional creg condition = choose conditional then placed_in (conditional_field w32) 1 + placed_in (creg_field w32) creg + placed_in (condition_field w32) condition else 0
+guard_bits conditional creg condition = choose conditional then placed_in (conditional_field Wide) 1 + placed_in (creg_field Wide) creg + placed_in (condition_field Wide) condition else 0

@@ -1,13 +1,15 @@
 -- What is proved of writing words: the statements, each with the sentence of 02 wish 7 that it says. Assumes nothing.
 use Rattle.std.specs.Prelude.{◌≡◌, Bool, true, false, not, ◌&&◌, ◌||◌, List, [], ◌∷◌, ◌++◌, ℕ, ◌+◌, ◌-◌, ◌*◌, ◌%◌, ◌^◌, ◌≤◌, ◌<◌, leb, ltb, eqb, ℤ, pos, negsuc}
 use Rattle.word.specs.Word.{Field, word_of}
-use Rattle.isa.specs.Operation.{operation_of, Width, w16, width_by}
+use Rattle.isa.specs.declared.width.Width.{Width}
+use Rattle.isa.specs.declared.width.Width.TheVariants.{Narrow}
+use Rattle.isa.specs.Operation.{operation_of, width_by}
 use Rattle.isa.specs.Format.{fields_width, fields_of, lie_below, separate}
 use Rattle.isa.specs.Decode.{word_bytes, decode}
 use Rattle.isa.specs.Shown.{has_form}
 use Rattle.isa.specs.Used.{shown_fields, Natural, Signed, High, least_of, shown_reading, cleared}
 use Rattle.isa.specs.Theorems.{between}
-use Rattle.isa.specs.declared.Instruction.{Instruction}
+use Rattle.isa.specs.declared.instruction.Instruction.{Instruction}
 use Rattle.listing.specs.Line.{operands_text, name_text, condition_text}
 use Rattle.encoder.specs.Encode.{Choice, choice_of, Part, parts_of, fits, all_fit, written, given, chosen_form, Encodes, RefusedWith, encode_of}
 
@@ -58,7 +60,7 @@ RangesAre = (k n : ℕ) → Ranges k n
 
 -- "Registers of 16-bit words are given as 24 to 31": they have three bits
 abbrev pub NarrowBits : Type 0
-NarrowBits = (n k : ℕ) → n < 64 → k < 4 → shown_reading w16 (operation_of n) k ≡ High → fields_width (shown_fields w16 (operation_of n) k) ≡ 3
+NarrowBits = (n k : ℕ) → n < 64 → k < 4 → shown_reading Narrow (operation_of n) k ≡ High → fields_width (shown_fields Narrow (operation_of n) k) ≡ 3
 
 -- ---- the two ways between choices and words
 

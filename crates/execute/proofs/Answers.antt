@@ -7,7 +7,7 @@ use lib.IntN.{ℤ}
 use mathlib.Core.Bool.{Bool, true, ◌||◌}
 use Rattle.word.specs.Flags.{is_among}
 use Rattle.word.proofs.Tests.{if_holds}
-use Rattle.isa.specs.Operation.{Width}
+use Rattle.isa.specs.declared.width.Width.{Width}
 use Rattle.isa.specs.Theorems.{between}
 use Rattle.machine.specs.Machine.{State}
 use Rattle.view.specs.View.{Attempt, Found, Raises, Stops, map_found, found_then, fetch_at, found_at, place_at, View, view, nops_from}

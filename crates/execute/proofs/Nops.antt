@@ -7,10 +7,12 @@ use native.Mathlib.Omega.{arith}
 use lib.Dec.{eqb}
 use Rattle.word.specs.Choice.{choose◌then◌else◌}
 use Rattle.word.proofs.Tests.{either}
-use Rattle.isa.specs.Operation.{operation_of, Width, w16, w32, properties, unavailable}
+use Rattle.isa.specs.declared.width.Width.{Width}
+use Rattle.isa.specs.declared.width.Width.TheVariants.{Narrow, Wide}
+use Rattle.isa.specs.Operation.{operation_of, properties, unavailable}
 use Rattle.isa.specs.Computed.{instructions}
 use Rattle.isa.specs.Decode.{opcode_of, assembled, decode}
-use Rattle.isa.specs.declared.Instruction.{Instruction}
+use Rattle.isa.specs.declared.instruction.Instruction.{Instruction}
 use Rattle.isa.proofs.Table.{values, agree}
 use Rattle.isa.proofs.Decoded.{in_range}
 use Rattle.machine.specs.Machine.{user_mode, width_of}
@@ -24,8 +26,8 @@ use Rattle.execute.specs.Decide.{perform, if_available, instruction, fetched_the
 all_nops_law : (width : Width) (k n : ℕ) → nops_from width (λ j. Found 0) k n ≡ Found tt
 unfolding nops_from found_then instructions choose◌then◌else◌
 all_nops_law width k zero = refl
-all_nops_law w16 k (suc n) = all_nops_law w16 (suc k) n
-all_nops_law w32 k (suc n) = all_nops_law w32 (suc k) n
+all_nops_law Narrow k (suc n) = all_nops_law Narrow (suc k) n
+all_nops_law Wide k (suc n) = all_nops_law Wide (suc k) n
 
 -- the exception or the stop that comes of it
 abbrev pub Refuses : Attempt (Unit {0}) → Effect → Type 0

@@ -8,7 +8,7 @@ use Rattle.word.specs.Choice.{choose◌then◌else◌}
 use Rattle.isa.specs.Operation.{operation_of, unavailable, code_of, properties}
 use Rattle.isa.proofs.Rules.{available, refused}
 use Rattle.isa.specs.Decode.{decode}
-use Rattle.isa.specs.declared.Instruction.{Instruction}
+use Rattle.isa.specs.declared.instruction.Instruction.{Instruction}
 use Rattle.machine.specs.Machine.{user_mode, width_of}
 use Rattle.view.specs.View.{Attempt, Found, Raises, Stops, View, condition_false, nops_from, nops_after}
 use Rattle.operation.specs.Execute.{on_found}

@@ -12,7 +12,7 @@ use Rattle.word.proofs.Tests.{either, both_bounds}
 use Rattle.isa.specs.Operation.{operation_of, properties}
 use Rattle.isa.specs.Computed.{instructions}
 use Rattle.isa.specs.Theorems.{between}
-use Rattle.isa.specs.declared.Instruction.{Instruction}
+use Rattle.isa.specs.declared.instruction.Instruction.{Instruction}
 use Rattle.isa.proofs.Table.{values, agree}
 use Rattle.isa.proofs.Groups.{usable_low, no_transfer, no_nops}
 use Rattle.view.specs.View.{Attempt, Raises, map_found, Location, View, with_places, condition_false, nops_after}

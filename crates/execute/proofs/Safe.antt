@@ -10,10 +10,14 @@ use Rattle.word.specs.Choice.{choose◌then◌else◌}
 use Rattle.word.specs.Flags.{is_among}
 use Rattle.word.specs.Word.{word_of}
 use Rattle.word.specs.declared.Sum.{Sum}
-use Rattle.isa.specs.Operation.{Operation, nop, add, addu, sub, subu, and, or, xor, muls, mulu, mulus, muls16, mulu16, mulus16, sll, srl, sra, sext, addi, addiu, andi, ori, muli, slli, srli, srai, sexti, ld, st, mov, not, mulhi, cmp, cmpi, lli, lui, jmp, jal, jmpr, jalr, bc, begt, belt, beq, bgt, blt, bne, bnc, scall, retu, reti, chrs, di, ei, swm, trap, scon, rcon, conb, conh, exb, exh, exbf, exbfi, operation_of, Width, w16, w32, Availability, anywhere, wide_only, super_only, unavailable, code_of, properties}
-use Rattle.isa.specs.Condition.{Condition}
+use Rattle.isa.specs.declared.operation.Operation.{Operation}
+use Rattle.isa.specs.declared.width.Width.{Width}
+use Rattle.isa.specs.declared.width.Width.TheVariants.{Narrow, Wide}
+use Rattle.isa.specs.declared.operation.Operation.TheVariants.{Nop, Add, Addu, Sub, Subu, And, Or, Xor, Muls, Mulu, Mulus, Muls16, Mulu16, Mulus16, Sll, Srl, Sra, Sext, Addi, Addiu, Andi, Ori, Muli, Slli, Srli, Srai, Sexti, Ld, St, Mov, Not, Mulhi, Cmp, Cmpi, Lli, Lui, Jmp, Jal, Jmpr, Jalr, Bc, Begt, Belt, Beq, Bgt, Blt, Bne, Bnc, Scall, Retu, Reti, Chrs, Di, Ei, Swm, Trap, Scon, Rcon, Conb, Conh, Exb, Exh, Exbf, Exbfi}
+use Rattle.isa.specs.Operation.{operation_of, Availability, anywhere, wide_only, super_only, unavailable, code_of, properties}
+use Rattle.isa.specs.declared.condition.Condition.{Condition}
 use Rattle.isa.specs.Decode.{decode}
-use Rattle.isa.specs.declared.Instruction.{Instruction}
+use Rattle.isa.specs.declared.instruction.Instruction.{Instruction}
 use Rattle.machine.specs.Machine.{State, user_mode, width_of}
 use Rattle.view.specs.View.{Attempt, Found, Raises, Stops, Location, Block, Cell, View, view}
 use Rattle.view.proofs.Addresses.{Reached}
@@ -96,78 +100,78 @@ super_only_law w false e = refl
 unavailable_coded : (a : Availability) (w : Width) (user : Bool) → Code (code_of (unavailable a w user))
 unfolding unavailable code_of
 unavailable_coded anywhere w user = tests refl
-unavailable_coded wide_only w16 user = tests refl
-unavailable_coded wide_only w32 user = tests refl
+unavailable_coded wide_only Narrow user = tests refl
+unavailable_coded wide_only Wide user = tests refl
 unavailable_coded super_only w true = tests refl
 unavailable_coded super_only w false = tests refl
 
 module _ (v : View) (h : AnswersNumbered v) (i : Instruction) (x y : ℕ) where
   execute_safe : (op : Operation) → Available v op → Safe v (execute op v i x y)
   unfolding execute wrapped product properties is_among
-  execute_safe nop e = tt
-  execute_safe add e = checked_safe v i.dreg _
-  execute_safe addu e = tt
-  execute_safe sub e = checked_safe v i.dreg _
-  execute_safe subu e = tt
-  execute_safe and e = tt
-  execute_safe or e = tt
-  execute_safe xor e = tt
-  execute_safe muls e = tt
-  execute_safe mulu e = tt
-  execute_safe mulus e = tt
-  execute_safe muls16 e = tt
-  execute_safe mulu16 e = tt
-  execute_safe mulus16 e = tt
-  execute_safe sll e = tt
-  execute_safe srl e = tt
-  execute_safe sra e = tt
-  execute_safe sext e = tt
-  execute_safe addi e = checked_safe v i.dreg _
-  execute_safe addiu e = tt
-  execute_safe andi e = tt
-  execute_safe ori e = tt
-  execute_safe muli e = tt
-  execute_safe slli e = tt
-  execute_safe srli e = tt
-  execute_safe srai e = tt
-  execute_safe sexti e = tt
-  execute_safe ld e = found_safe v _ _ (h.loading _) (λ w _. tt)
-  execute_safe st e = found_safe v _ _ (h.access _) (λ l r. stored_safe v (v.source i.dreg) l (_, r))
-  execute_safe mov e = tt
-  execute_safe not e = tt
-  execute_safe mulhi e = if_safe v _ _ _ (λ _. tt) (λ _. refl)
-  execute_safe cmp e = tt
-  execute_safe cmpi e = tt
-  execute_safe lli e = tt
-  execute_safe lui e = tt
-  execute_safe jmp e = jumped_safe v _ Jump (λ t. tt)
-  execute_safe jal e = jumped_safe v _ JumpLink (λ t. tt)
-  execute_safe jmpr e = jumped_safe v _ Jump (λ t. tt)
-  execute_safe jalr e = jumped_safe v _ JumpLink (λ t. tt)
-  execute_safe bc e = branch_safe v _ i
-  execute_safe begt e = branch_safe v _ i
-  execute_safe belt e = branch_safe v _ i
-  execute_safe beq e = branch_safe v _ i
-  execute_safe bgt e = branch_safe v _ i
-  execute_safe blt e = branch_safe v _ i
-  execute_safe bne e = branch_safe v _ i
-  execute_safe bnc e = branch_safe v _ i
-  execute_safe scall e = tt
-  execute_safe retu e = super_only_law _ _ e
-  execute_safe reti e = if_safe v _ _ _ (λ b. b) (λ _. refl)
-  execute_safe chrs e = super_only_law _ _ e
-  execute_safe di e = tt
-  execute_safe ei e = tt
-  execute_safe swm e = tt
-  execute_safe trap e = traps _ (word_below 5 i.immediate) refl
-  execute_safe scon e = tt
-  execute_safe rcon e = tt
-  execute_safe conb e = tt
-  execute_safe conh e = tt
-  execute_safe exb e = tt
-  execute_safe exh e = tt
-  execute_safe exbf e = tt
-  execute_safe exbfi e = tt
+  execute_safe Nop e = tt
+  execute_safe Add e = checked_safe v i.dreg _
+  execute_safe Addu e = tt
+  execute_safe Sub e = checked_safe v i.dreg _
+  execute_safe Subu e = tt
+  execute_safe And e = tt
+  execute_safe Or e = tt
+  execute_safe Xor e = tt
+  execute_safe Muls e = tt
+  execute_safe Mulu e = tt
+  execute_safe Mulus e = tt
+  execute_safe Muls16 e = tt
+  execute_safe Mulu16 e = tt
+  execute_safe Mulus16 e = tt
+  execute_safe Sll e = tt
+  execute_safe Srl e = tt
+  execute_safe Sra e = tt
+  execute_safe Sext e = tt
+  execute_safe Addi e = checked_safe v i.dreg _
+  execute_safe Addiu e = tt
+  execute_safe Andi e = tt
+  execute_safe Ori e = tt
+  execute_safe Muli e = tt
+  execute_safe Slli e = tt
+  execute_safe Srli e = tt
+  execute_safe Srai e = tt
+  execute_safe Sexti e = tt
+  execute_safe Ld e = found_safe v _ _ (h.loading _) (λ w _. tt)
+  execute_safe St e = found_safe v _ _ (h.access _) (λ l r. stored_safe v (v.source i.dreg) l (_, r))
+  execute_safe Mov e = tt
+  execute_safe Not e = tt
+  execute_safe Mulhi e = if_safe v _ _ _ (λ _. tt) (λ _. refl)
+  execute_safe Cmp e = tt
+  execute_safe Cmpi e = tt
+  execute_safe Lli e = tt
+  execute_safe Lui e = tt
+  execute_safe Jmp e = jumped_safe v _ Jump (λ t. tt)
+  execute_safe Jal e = jumped_safe v _ JumpLink (λ t. tt)
+  execute_safe Jmpr e = jumped_safe v _ Jump (λ t. tt)
+  execute_safe Jalr e = jumped_safe v _ JumpLink (λ t. tt)
+  execute_safe Bc e = branch_safe v _ i
+  execute_safe Begt e = branch_safe v _ i
+  execute_safe Belt e = branch_safe v _ i
+  execute_safe Beq e = branch_safe v _ i
+  execute_safe Bgt e = branch_safe v _ i
+  execute_safe Blt e = branch_safe v _ i
+  execute_safe Bne e = branch_safe v _ i
+  execute_safe Bnc e = branch_safe v _ i
+  execute_safe Scall e = tt
+  execute_safe Retu e = super_only_law _ _ e
+  execute_safe Reti e = if_safe v _ _ _ (λ b. b) (λ _. refl)
+  execute_safe Chrs e = super_only_law _ _ e
+  execute_safe Di e = tt
+  execute_safe Ei e = tt
+  execute_safe Swm e = tt
+  execute_safe Trap e = traps _ (word_below 5 i.immediate) refl
+  execute_safe Scon e = tt
+  execute_safe Rcon e = tt
+  execute_safe Conb e = tt
+  execute_safe Conh e = tt
+  execute_safe Exb e = tt
+  execute_safe Exh e = tt
+  execute_safe Exbf e = tt
+  execute_safe Exbfi e = tt
 
 -- ---- the order of the tests
 

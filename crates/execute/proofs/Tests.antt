@@ -12,7 +12,7 @@ use Rattle.isa.specs.Operation.{operation_of, width_by, properties, unavailable,
 use Rattle.isa.specs.Format.{fields_of, conditional_field}
 use Rattle.isa.specs.Decode.{opcode_of, assembled, decode}
 use Rattle.isa.specs.Computed.{instructions}
-use Rattle.isa.specs.declared.Instruction.{Instruction}
+use Rattle.isa.specs.declared.instruction.Instruction.{Instruction}
 use Rattle.isa.proofs.Decoded.{InRange, in_range}
 use Rattle.machine.specs.Machine.{psr, user_mode, wide_words, width_of, Memory}
 use Rattle.machine.specs.Words.{machine_of}

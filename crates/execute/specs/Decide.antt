@@ -2,9 +2,10 @@
 use Rattle.std.specs.Prelude.{◌≡◌, false, ◌&&◌, ℕ, eqb}
 use Rattle.std.proofs.Math.Option.{Option, none, some}
 use Rattle.word.specs.Choice.{choose◌then◌else◌}
-use Rattle.isa.specs.Operation.{Operation, operation_of, properties, unavailable}
+use Rattle.isa.specs.declared.operation.Operation.{Operation}
+use Rattle.isa.specs.Operation.{operation_of, properties, unavailable}
 use Rattle.isa.specs.Decode.{decode}
-use Rattle.isa.specs.declared.Instruction.{Instruction}
+use Rattle.isa.specs.declared.instruction.Instruction.{Instruction}
 use Rattle.machine.specs.Machine.{user_mode, width_of}
 use Rattle.view.specs.View.{Attempt, View, condition_false, nops_after}
 use Rattle.operation.specs.Execute.{on_found, execute}

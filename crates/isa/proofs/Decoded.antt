@@ -13,11 +13,12 @@ use Rattle.word.specs.Choice.{choose◌then◌else◌}
 use Rattle.word.specs.Word.{Field}
 use Rattle.word.proofs.Tests.{either, and_parts}
 use Rattle.word.proofs.Integers.{signed_range}
-use Rattle.isa.specs.Operation.{Width, w16, w32}
+use Rattle.isa.specs.declared.width.Width.{Width}
+use Rattle.isa.specs.declared.width.Width.TheVariants.{Narrow, Wide}
 use Rattle.isa.specs.Format.{fields_width, fields_of, operation_field, creg_field, condition_field, Immediate}
 use Rattle.isa.specs.Decode.{word_bytes, register_of, immediate_of, operands_of, opcode_of, assembled, decode}
 use Rattle.isa.specs.Theorems.{NarrowRegisters}
-use Rattle.isa.specs.declared.Instruction.{Instruction}
+use Rattle.isa.specs.declared.instruction.Instruction.{Instruction}
 use Rattle.isa.proofs.Fields.{fields_below}
 use Rattle.isa.proofs.Rows.{register_width, immediate_fits, rows_sound}
 
@@ -27,16 +28,16 @@ fields_short k fs word h = lt_of_lt_of_le (fields_below fs word) (pow_mono h)
 
 register_below : (width : Width) (fs : List Field) (word : ℕ) → fields_width fs ≤ register_width width → register_of width fs word < 32
 unfolding register_of register_width
-register_below w32 fs word h = fields_short 5 fs word h
-register_below w16 [] word h = omega arith
-register_below w16 (f ∷ fs) word h = let l = fields_short 3 (f ∷ fs) word h in omega arith
+register_below Wide fs word h = fields_short 5 fs word h
+register_below Narrow [] word h = omega arith
+register_below Narrow (f ∷ fs) word h = let l = fields_short 3 (f ∷ fs) word h in omega arith
 
 -- one that is there is 24 or more in 16-bit words
-pub register_there : (f : Field) (fs : List Field) (word : ℕ) → 24 ≤ register_of w16 (f ∷ fs) word
+pub register_there : (f : Field) (fs : List Field) (word : ℕ) → 24 ≤ register_of Narrow (f ∷ fs) word
 unfolding register_of
 register_there f fs word = omega arith
 
-register_high : (fs : List Field) (word : ℕ) → (register_of w16 fs word ≡ 0) ⊎ (24 ≤ register_of w16 fs word)
+register_high : (fs : List Field) (word : ℕ) → (register_of Narrow fs word ≡ 0) ⊎ (24 ≤ register_of Narrow fs word)
 unfolding register_of
 register_high [] word = inl refl
 register_high (f ∷ fs) word = inr (register_there f fs word)
@@ -65,8 +66,8 @@ pub record InRange (i : Instruction) : Type 0 where
 -- at most six bits are an operation's, and three a condition's
 heads : (width : Width) → (fields_width (operation_field width) ≤ 6) × (fields_width (creg_field width) ≤ 3) × (fields_width (condition_field width) ≤ 3)
 unfolding operation_field creg_field condition_field fields_width
-heads w16 = (omega arith, omega arith, omega arith)
-heads w32 = (omega arith, omega arith, omega arith)
+heads Narrow = (omega arith, omega arith, omega arith)
+heads Wide = (omega arith, omega arith, omega arith)
 
 -- 64 operations
 pub opcode_below : (width : Width) (word : ℕ) → opcode_of width word < 64
@@ -95,10 +96,10 @@ narrow_registers word = record { dreg = register_high _ word; sreg1 = register_h
 
 pub bytes_positive : (width : Width) → 0 < word_bytes width
 unfolding word_bytes
-bytes_positive w16 = omega arith
-bytes_positive w32 = omega arith
+bytes_positive Narrow = omega arith
+bytes_positive Wide = omega arith
 
 pub bytes_most : (width : Width) → word_bytes width ≤ 4
 unfolding word_bytes
-bytes_most w16 = omega arith
-bytes_most w32 = omega arith
+bytes_most Narrow = omega arith
+bytes_most Wide = omega arith

@@ -3,7 +3,9 @@ use mathlib.Core.Path.{◌≡◌, refl}
 use mathlib.Core.Bool.{Bool, true, false}
 use Prim.Native.Nat.{ℕ, ◌≤◌, ◌<◌}
 use native.Mathlib.Omega.{arith}
-use Rattle.isa.specs.Operation.{operation_of, Width, w16, w32, properties}
+use Rattle.isa.specs.declared.width.Width.{Width}
+use Rattle.isa.specs.declared.width.Width.TheVariants.{Narrow, Wide}
+use Rattle.isa.specs.Operation.{operation_of, properties}
 use Rattle.isa.specs.Computed.{instructions}
 use Rattle.isa.specs.Theorems.{code_at}
 use Rattle.isa.proofs.Table.{values, agree}
@@ -14,10 +16,10 @@ unfolding instructions values
 usable_low width user n h = agree (code_at width user) (λ n. 0) 0 34 (computed width user) n (omega arith) h
   where
     computed : (width : Width) (user : Bool) → values (code_at width user) 0 34 ≡ values (λ n. 0) 0 34
-    computed w16 true = refl
-    computed w16 false = refl
-    computed w32 true = refl
-    computed w32 false = refl
+    computed Narrow true = refl
+    computed Narrow false = refl
+    computed Wide true = refl
+    computed Wide false = refl
 
 -- and jumps and branches
 pub usable_jump : (width : Width) (user : Bool) (n : ℕ) → 36 ≤ n → n < 48 → code_at width user n ≡ 0
@@ -25,10 +27,10 @@ unfolding instructions values
 usable_jump width user = agree (code_at width user) (λ n. 0) 36 12 (computed width user)
   where
     computed : (width : Width) (user : Bool) → values (code_at width user) 36 12 ≡ values (λ n. 0) 36 12
-    computed w16 true = refl
-    computed w16 false = refl
-    computed w32 true = refl
-    computed w32 false = refl
+    computed Narrow true = refl
+    computed Narrow false = refl
+    computed Wide true = refl
+    computed Wide false = refl
 
 -- nop to lui are no control transfers
 pub no_transfer : (n : ℕ) → n < 36 → (properties (operation_of n)).transfer ≡ false

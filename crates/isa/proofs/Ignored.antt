@@ -8,7 +8,10 @@ use lib.IntN.{pos}
 use Rattle.word.specs.Choice.{choose◌then◌else◌}
 use Rattle.word.specs.Word.{Field, signed_of}
 use Rattle.word.proofs.Tests.{either, and_parts, and_both}
-use Rattle.isa.specs.Operation.{Operation, operation_of, Width, w16, w32, properties}
+use Rattle.isa.specs.declared.operation.Operation.{Operation}
+use Rattle.isa.specs.declared.width.Width.{Width}
+use Rattle.isa.specs.declared.width.Width.TheVariants.{Narrow, Wide}
+use Rattle.isa.specs.Operation.{operation_of, properties}
 use Rattle.isa.specs.Format.{fields_width, fields_of, operation_field, conditional_field, creg_field, condition_field, Immediate, Layout, layout_of}
 use Rattle.isa.specs.Decode.{register_of, immediate_of, operands_of, opcode_of, assembled, decode}
 use Rattle.isa.specs.Used.{guard_fields, used_fields, cleared}
@@ -27,9 +30,9 @@ among_append (f ∷ fs) gs hs e =
 -- a register and an immediate, by what their pieces hold
 register_same : (width : Width) (fs : List Field) (word other : ℕ) → fields_of fs word ≡ fields_of fs other → register_of width fs word ≡ register_of width fs other
 unfolding register_of
-register_same w32 fs word other e = e
-register_same w16 [] word other e = refl
-register_same w16 (f ∷ fs) word other e = ap (λ (n : ℕ). n + 24) e
+register_same Wide fs word other e = e
+register_same Narrow [] word other e = refl
+register_same Narrow (f ∷ fs) word other e = ap (λ (n : ℕ). n + 24) e
 
 immediate_same : (i : Immediate) (word other : ℕ) → fields_of i.fields word ≡ fields_of i.fields other → immediate_of i word ≡ immediate_of i other
 unfolding immediate_of

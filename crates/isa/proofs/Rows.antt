@@ -8,7 +8,10 @@ use borrow.Author.Tests.{leb-true}
 use Rattle.word.specs.Word.{Field}
 use Rattle.word.specs.Choice.{choose◌then◌else◌}
 use Rattle.word.proofs.Tests.{either, and_parts}
-use Rattle.isa.specs.Operation.{Operation, operation_of, Width, w16, w32, properties}
+use Rattle.isa.specs.declared.operation.Operation.{Operation}
+use Rattle.isa.specs.declared.width.Width.{Width}
+use Rattle.isa.specs.declared.width.Width.TheVariants.{Narrow, Wide}
+use Rattle.isa.specs.Operation.{operation_of, properties}
 use Rattle.isa.specs.Format.{fields_width, lie_below, separate, operation_field, Immediate, layout_of}
 use Rattle.isa.specs.Decode.{word_bytes}
 use Rattle.isa.specs.Used.{guard_fields, used_fields}
@@ -17,8 +20,8 @@ use Rattle.isa.proofs.Table.{values, by_number}
 
 -- the bits of a register's number
 unfoldable pub register_width : Width → ℕ
-register_width w16 = 3
-register_width w32 = 5
+register_width Narrow = 3
+register_width Wide = 5
 
 -- a signed immediate has 1 to 25 bits, another one at most 24
 unfoldable pub immediate_fits : Immediate → Bool
@@ -90,8 +93,8 @@ sound_is width o e =
 
 computed : (width : Width) → values (λ n. sound width (operation_of n)) 0 64 ≡ values (λ n. true) 0 64
 unfolding instructions values register_width immediate_fits read_fields is_one are_among used_sound sound
-computed w16 = refl
-computed w32 = refl
+computed Narrow = refl
+computed Wide = refl
 
 -- every row is sound in both widths
 pub rows_sound : (width : Width) (n : ℕ) → Sound width (operation_of n)

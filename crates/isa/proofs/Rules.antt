@@ -1,7 +1,7 @@
 -- The table of operations against the sentences of 01 and 02, each by one computed test; mnemonic_short is for a listing. Assumes nothing.
 use mathlib.Core.Path.{◌≡◌, refl}
 use mathlib.Core.Logic.{◌≢◌}
-use mathlib.Core.Option.{Option, none, some}
+use Rattle.std.specs.Prelude.{Option, None, Some}
 use mathlib.Core.Bool.{Bool, true, false, ◌||◌, and-false}
 use Prim.Native.Nat.{ℕ, ◌≤◌, ◌<◌}
 use native.Mathlib.Omega.{arith}
@@ -9,7 +9,9 @@ use lib.Dec.{leb, ltb, eqb}
 use lib.ListN.{length}
 use borrow.Author.Tests.{leb-true, ltb-true, le-leb, lt-leb, ne_eqb}
 use Rattle.word.specs.Choice.{choose◌then◌else◌}
-use Rattle.isa.specs.Operation.{operation_of, Width, w16, w32, width_by, Availability, anywhere, wide_only, super_only, unavailable, code_of, Straight, properties}
+use Rattle.isa.specs.declared.width.Width.{Width}
+use Rattle.isa.specs.declared.width.Width.TheVariants.{Narrow, Wide}
+use Rattle.isa.specs.Operation.{operation_of, width_by, Availability, anywhere, wide_only, super_only, unavailable, code_of, Straight, properties}
 use Rattle.isa.specs.Computed.{instructions}
 use Rattle.isa.specs.Theorems.{Numbered, between, ConditionalIs, TransferIs, nops_by, NopsAre, flow_by, FlowIs, code_at, code_by, UnavailableIs}
 use Rattle.isa.proofs.Table.{values, agree, by_number}
@@ -89,16 +91,16 @@ unavailable_is wide user = by_number (λ o. code_of (unavailable (properties o).
 -- ---- the answer of `unavailability`
 
 -- 0: the operation may be used
-pub available : (a : Availability) (width : Width) (user : Bool) → code_of (unavailable a width user) ≡ 0 → unavailable a width user ≡ none
+pub available : (a : Availability) (width : Width) (user : Bool) → code_of (unavailable a width user) ≡ 0 → unavailable a width user ≡ None
 unfolding unavailable code_of
 available anywhere width user e = refl
-available wide_only w16 user e = let z : ⊥ = omega arith in absurd z
-available wide_only w32 user e = refl
+available wide_only Narrow user e = let z : ⊥ = omega arith in absurd z
+available wide_only Wide user e = refl
 available super_only width true e = let z : ⊥ = omega arith in absurd z
 available super_only width false e = refl
 
 -- another number: it is the exception's code
-pub refused : (o : Option ℕ) → code_of o ≢ 0 → o ≡ some (code_of o)
+pub refused : (o : Option ℕ) → code_of o ≢ 0 → o ≡ Some (code_of o)
 unfolding code_of
-refused none d = absurd (d refl)
-refused (some code) d = refl
+refused None d = absurd (d refl)
+refused (Some code) d = refl

@@ -10,13 +10,15 @@ use Rattle.word.specs.Choice.{choose◌then◌else◌}
 use Rattle.word.specs.Word.{Field}
 use Rattle.word.proofs.Tests.{either, and_parts}
 use Rattle.isa.specs.Text.{bytes}
-use Rattle.isa.specs.Operation.{operation_of, Width, w16, w32, properties}
+use Rattle.isa.specs.declared.width.Width.{Width}
+use Rattle.isa.specs.declared.width.Width.TheVariants.{Narrow, Wide}
+use Rattle.isa.specs.Operation.{operation_of, properties}
 use Rattle.isa.specs.Condition.{condition_of, name_of}
 use Rattle.isa.specs.Format.{fields_of, conditional_field, Role, Dreg, Sreg1, Sreg2, Creg, Imm, Length, Position, Layout, layout_of}
 use Rattle.isa.specs.Decode.{register_of, operands_of, opcode_of, assembled, decode}
 use Rattle.isa.specs.Shown.{has_form, shown_roles}
 use Rattle.isa.specs.Computed.{instructions}
-use Rattle.isa.specs.Theorems.{between, FormIs, BranchNames, SignedIs, Narrow, All, NarrowShown}
+use Rattle.isa.specs.Theorems.{between, FormIs, BranchNames, SignedIs, HighRegister, All, NarrowShown}
 use Rattle.isa.proofs.Table.{values, agree, by_number}
 use Rattle.isa.proofs.Rules.{not_between, unavailable_is}
 use Rattle.isa.proofs.Decoded.{register_there, in_range}
@@ -39,8 +41,8 @@ unfolding instructions values
 signed_is width = by_number (λ o. (layout_of width (properties o).form).immediate.signed) (λ n. ((eqb n 18 || eqb n 22) || (between 27 28 n || eqb n 33)) || (between 36 37 n || between 40 47 n)) (computed width) high
   where
     computed : (width : Width) → values (λ n. (layout_of width (properties (operation_of n)).form).immediate.signed) 0 64 ≡ values (λ n. ((eqb n 18 || eqb n 22) || (between 27 28 n || eqb n 33)) || (between 36 37 n || between 40 47 n)) 0 64
-    computed w16 = refl
-    computed w32 = refl
+    computed Narrow = refl
+    computed Wide = refl
 
     high : (n : ℕ) → 64 ≤ n → ((eqb n 18 || eqb n 22) || (between 27 28 n || eqb n 33)) || (between 36 37 n || between 40 47 n) ≡ false
     high n h = rw (ne_eqb n 18 (λ e. omega arith), ne_eqb n 22 (λ e. omega arith), not_between 27 28 n (omega arith), ne_eqb n 33 (λ e. omega arith), not_between 36 37 n (omega arith), not_between 40 47 n (omega arith))
@@ -66,34 +68,34 @@ all_present l [] = true
 all_present l (r ∷ rs) = present l r && all_present l rs
 
 -- so it is of the operands that are shown of every 16-bit word, computed
-rows_present : (n : ℕ) → all_present (layout_of w16 (properties (operation_of n)).form) (shown_roles w16 (operation_of n)) ≡ true
+rows_present : (n : ℕ) → all_present (layout_of Narrow (properties (operation_of n)).form) (shown_roles Narrow (operation_of n)) ≡ true
 unfolding instructions values there present all_present
-rows_present = by_number (λ o. all_present (layout_of w16 (properties o).form) (shown_roles w16 o)) (λ n. true) refl (λ n h. refl)
+rows_present = by_number (λ o. all_present (layout_of Narrow (properties o).form) (shown_roles Narrow o)) (λ n. true) refl (λ n h. refl)
 
-there_high : (fs : List Field) (word : ℕ) → there fs ≡ true → 24 ≤ register_of w16 fs word
+there_high : (fs : List Field) (word : ℕ) → there fs ≡ true → 24 ≤ register_of Narrow fs word
 unfolding there
 there_high [] word e = let z : ◌≡◌ {A = ℕ} 0 1 = cc in absurd (omega arith)
 there_high (f ∷ fs) word e = register_there f fs word
 
 module _ (word : ℕ) where
   abbrev l : Layout
-  l = layout_of w16 (properties (operation_of (opcode_of w16 word))).form
+  l = layout_of Narrow (properties (operation_of (opcode_of Narrow word))).form
 
-  narrow : (r : Role) → present l r ≡ true → Narrow (decode w16 word) r
-  unfolding Narrow present decode assembled operands_of
-  narrow Dreg e = (there_high l.dreg word e, omega (arith, (in_range w16 word).dreg))
-  narrow Sreg1 e = (there_high l.sreg1 word e, omega (arith, (in_range w16 word).sreg1))
-  narrow Sreg2 e = (there_high l.sreg2 word e, omega (arith, (in_range w16 word).sreg2))
+  narrow : (r : Role) → present l r ≡ true → HighRegister (decode Narrow word) r
+  unfolding HighRegister present decode assembled operands_of
+  narrow Dreg e = (there_high l.dreg word e, omega (arith, (in_range Narrow word).dreg))
+  narrow Sreg1 e = (there_high l.sreg1 word e, omega (arith, (in_range Narrow word).sreg1))
+  narrow Sreg2 e = (there_high l.sreg2 word e, omega (arith, (in_range Narrow word).sreg2))
   narrow Creg e = let z : ◌≡◌ {A = ℕ} 0 1 = cc in omega arith
   narrow Imm e = tt
   narrow Length e = tt
   narrow Position e = tt
 
-  all_narrow : (rs : List Role) → all_present l rs ≡ true → All (Narrow (decode w16 word)) rs
+  all_narrow : (rs : List Role) → all_present l rs ≡ true → All (HighRegister (decode Narrow word)) rs
   unfolding All all_present
   all_narrow [] e = tt
   all_narrow (r ∷ rs) e = let t = and_parts (present l r) (all_present l rs) e in (narrow r t.0, all_narrow rs t.1)
 
 pub narrow_shown : NarrowShown
 unfolding decode assembled conditional_field fields_of
-narrow_shown word = (refl, all_narrow word (shown_roles w16 (operation_of (opcode_of w16 word))) (rows_present (opcode_of w16 word)))
+narrow_shown word = (refl, all_narrow word (shown_roles Narrow (operation_of (opcode_of Narrow word))) (rows_present (opcode_of Narrow word)))

@@ -3,26 +3,28 @@ use Rattle.std.specs.Prelude.{Bool, ◌&&◌, List, [], ◌∷◌, ℕ, ◌+◌,
 use Rattle.word.specs.Choice.{choose◌then◌else◌}
 use Rattle.word.specs.Word.{Field, signed_of}
 use Rattle.codec.specs.Number.{number_at}
-use Rattle.isa.specs.Operation.{operation_of, properties, Width, w16, w32, Form}
+use Rattle.isa.specs.declared.width.Width.{Width}
+use Rattle.isa.specs.declared.width.Width.TheVariants.{Narrow, Wide}
+use Rattle.isa.specs.Operation.{operation_of, properties, Form}
 use Rattle.isa.specs.Format.{fields_width, fields_of, operation_field, conditional_field, creg_field, condition_field, Immediate, layout_of}
-use Rattle.isa.specs.declared.Operands.{Operands}
-use Rattle.isa.specs.declared.Instruction.{Instruction}
+use Rattle.isa.specs.declared.instruction.Operands.{Operands}
+use Rattle.isa.specs.declared.instruction.Instruction.{Instruction}
 
 -- how many bytes a word is
 unfoldable pub word_bytes : Width → ℕ
-word_bytes w16 = 2
-word_bytes w32 = 4
+word_bytes Narrow = 2
+word_bytes Wide = 4
 
 -- the word at an address of a program that has its bytes ("Program memory is bytes, high byte first")
 unfoldable pub word_at : Width → (program : List ℕ) (address : ℕ) → ℕ
-word_at w16 program a = get_or program a 0 * 256 + get_or program (a + 1) 0
-word_at w32 program a = number_at program a
+word_at Narrow program a = get_or program a 0 * 256 + get_or program (a + 1) 0
+word_at Wide program a = number_at program a
 
 -- a register's number: registers n of 16-bit words mean n + 24; one that is absent reads 0
 unfoldable pub register_of : Width → List Field → (word : ℕ) → ℕ
-register_of w32 fs word = fields_of fs word
-register_of w16 [] word = 0
-register_of w16 (f ∷ fs) word = fields_of (f ∷ fs) word + 24
+register_of Wide fs word = fields_of fs word
+register_of Narrow [] word = 0
+register_of Narrow (f ∷ fs) word = fields_of (f ∷ fs) word + 24
 
 -- an immediate, its sign extended or filled with zeros
 unfoldable pub immediate_of : Immediate → (word : ℕ) → ℤ

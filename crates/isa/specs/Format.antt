@@ -2,7 +2,9 @@
 -- Assumes nothing.
 use Rattle.std.specs.Prelude.{Bool, true, false, ◌&&◌, ◌||◌, List, [], ◌∷◌, ℕ, ◌+◌, ◌-◌, ◌*◌, ◌/◌, ◌%◌, ◌^◌, leb, ltb, take, drop}
 use Rattle.word.specs.Word.{Field, bits◌to◌, field_of}
-use Rattle.isa.specs.Operation.{Width, w16, w32, Form, NoOperands, ThreeRegisters, ReversedRegisters, TwoRegisters, Destination, Source, CompareRegisters, CompareImmediate, SignedImmediate, UnsignedImmediate, Count, BitField, Memory, Halfword, Jump, Branch, LowBits}
+use Rattle.isa.specs.declared.width.Width.{Width}
+use Rattle.isa.specs.declared.width.Width.TheVariants.{Narrow, Wide}
+use Rattle.isa.specs.Operation.{Form, NoOperands, ThreeRegisters, ReversedRegisters, TwoRegisters, Destination, Source, CompareRegisters, CompareImmediate, SignedImmediate, UnsignedImmediate, Count, BitField, Memory, Halfword, Jump, Branch, LowBits}
 
 -- ---- fields in pieces: the first piece above the others. No pieces: there is no such field, and it reads 0
 
@@ -52,22 +54,22 @@ separate (f ∷ fs) = disjoint_from f fs && separate fs
 -- ---- fields of every word of a width
 
 unfoldable pub operation_field : Width → List Field
-operation_field w32 = bits 31 to 26 ∷ []
-operation_field w16 = bits 15 to 10 ∷ []
+operation_field Wide = bits 31 to 26 ∷ []
+operation_field Narrow = bits 15 to 10 ∷ []
 
 -- the conditional bit
 unfoldable pub conditional_field : Width → List Field
-conditional_field w32 = bits 25 to 25 ∷ []
-conditional_field w16 = []
+conditional_field Wide = bits 25 to 25 ∷ []
+conditional_field Narrow = []
 
 -- the condition register: tested by a conditional operation or a branch, written by cmp and cmpi; in 16-bit words always C0
 unfoldable pub creg_field : Width → List Field
-creg_field w32 = bits 24 to 22 ∷ []
-creg_field w16 = []
+creg_field Wide = bits 24 to 22 ∷ []
+creg_field Narrow = []
 
 unfoldable pub condition_field : Width → List Field
-condition_field w32 = bits 21 to 19 ∷ []
-condition_field w16 = []
+condition_field Wide = bits 21 to 19 ∷ []
+condition_field Narrow = []
 
 -- ---- operands
 
@@ -131,40 +133,40 @@ low n = bits n - 1 to 0 ∷ []
 -- dreg, sreg1, sreg2, immediate; shown.
 -- 16-bit: the first source is sr, the second is dr; with an immediate, but for ld and st, dr is source and target
 unfoldable pub layout_of : Width → Form → Layout
-layout_of w32 NoOperands = layout [] [] [] absent []
-layout_of w32 ThreeRegisters = layout d s₁ s₂ absent (Dreg ∷ Sreg1 ∷ Sreg2 ∷ [])
-layout_of w32 ReversedRegisters = layout d s₁ s₂ absent (Dreg ∷ Sreg2 ∷ Sreg1 ∷ [])
-layout_of w32 TwoRegisters = layout d s₁ [] absent (Dreg ∷ Sreg1 ∷ [])
-layout_of w32 Destination = layout d [] [] absent (Dreg ∷ [])
-layout_of w32 Source = layout [] s₁ [] absent (Sreg1 ∷ [])
-layout_of w32 CompareRegisters = layout [] s₁ s₂ absent (Creg ∷ Sreg1 ∷ Sreg2 ∷ [])
-layout_of w32 CompareImmediate = layout [] s₁ [] (signed imm9) (Creg ∷ Sreg1 ∷ Imm ∷ [])
-layout_of w32 SignedImmediate = layout d s₁ [] (signed imm9) (Dreg ∷ Sreg1 ∷ Imm ∷ [])
-layout_of w32 UnsignedImmediate = layout d s₁ [] (unsigned imm9) (Dreg ∷ Sreg1 ∷ Imm ∷ [])
-layout_of w32 (Count n) = layout d s₁ [] (unsigned (low n)) (Dreg ∷ Sreg1 ∷ Imm ∷ [])
-layout_of w32 BitField = layout d s₁ [] (unsigned (bits 24 to 19 ∷ bits 4 to 0 ∷ [])) (Dreg ∷ Sreg1 ∷ Length ∷ Position ∷ [])
-layout_of w32 Memory = layout d s₁ [] (signed imm9) (Dreg ∷ Sreg1 ∷ Imm ∷ [])
-layout_of w32 Halfword = layout (bits 20 to 16 ∷ []) [] [] (unsigned (bits 15 to 0 ∷ [])) (Dreg ∷ Imm ∷ [])
-layout_of w32 Jump = layout [] [] [] (signed (bits 24 to 0 ∷ [])) (Imm ∷ [])
-layout_of w32 Branch = layout [] [] [] (signed (bits 21 to 0 ∷ [])) (Creg ∷ Imm ∷ [])
-layout_of w32 (LowBits n) = layout [] [] [] (unsigned (low n)) (Imm ∷ [])
-layout_of w16 NoOperands = layout [] [] [] absent []
-layout_of w16 ThreeRegisters = layout dr sr dr absent (Dreg ∷ Sreg1 ∷ [])
-layout_of w16 ReversedRegisters = layout dr sr dr absent (Dreg ∷ Sreg1 ∷ [])
-layout_of w16 TwoRegisters = layout dr sr [] absent (Dreg ∷ Sreg1 ∷ [])
-layout_of w16 Destination = layout dr [] [] absent (Dreg ∷ [])
-layout_of w16 Source = layout [] sr [] absent (Sreg1 ∷ [])
-layout_of w16 CompareRegisters = layout [] sr dr absent (Sreg1 ∷ Sreg2 ∷ [])
-layout_of w16 CompareImmediate = layout [] dr [] (signed imm7) (Sreg1 ∷ Imm ∷ [])
-layout_of w16 SignedImmediate = layout dr dr [] (signed imm7) (Dreg ∷ Imm ∷ [])
-layout_of w16 UnsignedImmediate = layout dr dr [] (unsigned imm7) (Dreg ∷ Imm ∷ [])
-layout_of w16 (Count n) = layout dr dr [] (unsigned (bits n + 2 to 3 ∷ [])) (Dreg ∷ Imm ∷ [])
-layout_of w16 BitField = layout [] [] [] absent []
-layout_of w16 Memory = layout dr sr [] (signed (bits 9 to 6 ∷ [])) (Dreg ∷ Sreg1 ∷ Imm ∷ [])
-layout_of w16 Halfword = layout [] [] [] absent []
-layout_of w16 Jump = layout [] [] [] (signed (bits 9 to 0 ∷ [])) (Imm ∷ [])
-layout_of w16 Branch = layout [] [] [] (signed (bits 9 to 0 ∷ [])) (Imm ∷ [])
-layout_of w16 (LowBits n) = layout [] [] [] (unsigned (low n)) (Imm ∷ [])
+layout_of Wide NoOperands = layout [] [] [] absent []
+layout_of Wide ThreeRegisters = layout d s₁ s₂ absent (Dreg ∷ Sreg1 ∷ Sreg2 ∷ [])
+layout_of Wide ReversedRegisters = layout d s₁ s₂ absent (Dreg ∷ Sreg2 ∷ Sreg1 ∷ [])
+layout_of Wide TwoRegisters = layout d s₁ [] absent (Dreg ∷ Sreg1 ∷ [])
+layout_of Wide Destination = layout d [] [] absent (Dreg ∷ [])
+layout_of Wide Source = layout [] s₁ [] absent (Sreg1 ∷ [])
+layout_of Wide CompareRegisters = layout [] s₁ s₂ absent (Creg ∷ Sreg1 ∷ Sreg2 ∷ [])
+layout_of Wide CompareImmediate = layout [] s₁ [] (signed imm9) (Creg ∷ Sreg1 ∷ Imm ∷ [])
+layout_of Wide SignedImmediate = layout d s₁ [] (signed imm9) (Dreg ∷ Sreg1 ∷ Imm ∷ [])
+layout_of Wide UnsignedImmediate = layout d s₁ [] (unsigned imm9) (Dreg ∷ Sreg1 ∷ Imm ∷ [])
+layout_of Wide (Count n) = layout d s₁ [] (unsigned (low n)) (Dreg ∷ Sreg1 ∷ Imm ∷ [])
+layout_of Wide BitField = layout d s₁ [] (unsigned (bits 24 to 19 ∷ bits 4 to 0 ∷ [])) (Dreg ∷ Sreg1 ∷ Length ∷ Position ∷ [])
+layout_of Wide Memory = layout d s₁ [] (signed imm9) (Dreg ∷ Sreg1 ∷ Imm ∷ [])
+layout_of Wide Halfword = layout (bits 20 to 16 ∷ []) [] [] (unsigned (bits 15 to 0 ∷ [])) (Dreg ∷ Imm ∷ [])
+layout_of Wide Jump = layout [] [] [] (signed (bits 24 to 0 ∷ [])) (Imm ∷ [])
+layout_of Wide Branch = layout [] [] [] (signed (bits 21 to 0 ∷ [])) (Creg ∷ Imm ∷ [])
+layout_of Wide (LowBits n) = layout [] [] [] (unsigned (low n)) (Imm ∷ [])
+layout_of Narrow NoOperands = layout [] [] [] absent []
+layout_of Narrow ThreeRegisters = layout dr sr dr absent (Dreg ∷ Sreg1 ∷ [])
+layout_of Narrow ReversedRegisters = layout dr sr dr absent (Dreg ∷ Sreg1 ∷ [])
+layout_of Narrow TwoRegisters = layout dr sr [] absent (Dreg ∷ Sreg1 ∷ [])
+layout_of Narrow Destination = layout dr [] [] absent (Dreg ∷ [])
+layout_of Narrow Source = layout [] sr [] absent (Sreg1 ∷ [])
+layout_of Narrow CompareRegisters = layout [] sr dr absent (Sreg1 ∷ Sreg2 ∷ [])
+layout_of Narrow CompareImmediate = layout [] dr [] (signed imm7) (Sreg1 ∷ Imm ∷ [])
+layout_of Narrow SignedImmediate = layout dr dr [] (signed imm7) (Dreg ∷ Imm ∷ [])
+layout_of Narrow UnsignedImmediate = layout dr dr [] (unsigned imm7) (Dreg ∷ Imm ∷ [])
+layout_of Narrow (Count n) = layout dr dr [] (unsigned (bits n + 2 to 3 ∷ [])) (Dreg ∷ Imm ∷ [])
+layout_of Narrow BitField = layout [] [] [] absent []
+layout_of Narrow Memory = layout dr sr [] (signed (bits 9 to 6 ∷ [])) (Dreg ∷ Sreg1 ∷ Imm ∷ [])
+layout_of Narrow Halfword = layout [] [] [] absent []
+layout_of Narrow Jump = layout [] [] [] (signed (bits 9 to 0 ∷ [])) (Imm ∷ [])
+layout_of Narrow Branch = layout [] [] [] (signed (bits 9 to 0 ∷ [])) (Imm ∷ [])
+layout_of Narrow (LowBits n) = layout [] [] [] (unsigned (low n)) (Imm ∷ [])
 
 -- the fields of an operand
 unfoldable pub operand_fields : Width → Form → Role → List Field

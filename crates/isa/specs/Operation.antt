@@ -1,47 +1,41 @@
 -- The operations, one row for each (01 "Operations", "Never conditional", "Super user only", stop 13; 02 wishes 1, 8 and 13; mnemonics: 002 section 6.2).
 -- Assumes nothing.
-use Rattle.std.specs.Prelude.{Bool, true, false, List, [], ◌∷◌, ℕ, get_or}
-use Rattle.std.proofs.Math.Option.{Option, none, some}
+use Rattle.std.specs.Prelude.{Bool, true, false, Option, Some, None, Result, Ok, Err, List, [], ◌∷◌, ℕ, nat_lt, get_or, if◌then◌else◌}
 use Prim.Native.String.{String}
 use Rattle.isa.specs.Text.{bytes}
-
--- muls16, mulu16 and mulus16 are 002's muls_16, mulu_16 and mulus_16; bc to bnc branch on conditions 0 to 7
-pub data Operation : Type 0 where
-  nop add addu sub subu and or xor : Operation
-  muls mulu mulus muls16 mulu16 mulus16 sll srl sra sext : Operation
-  addi addiu andi ori muli slli srli srai sexti : Operation
-  ld st mov not mulhi cmp cmpi lli lui : Operation
-  jmp jal jmpr jalr bc begt belt beq bgt blt bne bnc : Operation
-  scall retu reti chrs di ei swm trap scon rcon : Operation
-  conb conh exb exh exbf exbfi : Operation
+use Rattle.isa.specs.declared.width.Width.{Width}
+use Rattle.isa.specs.declared.width.Width.TheVariants.{Narrow, Wide}
+use Rattle.isa.specs.declared.operation.Operation.{Operation}
+use Rattle.isa.specs.declared.operation.UnknownOperation.{UnknownOperation}
+use Rattle.isa.specs.declared.operation.Operation.TheVariants.{Nop, Add, Addu, Sub, Subu, And, Or, Xor, Muls, Mulu, Mulus, Muls16, Mulu16, Mulus16, Sll, Srl, Sra, Sext, Addi, Addiu, Andi, Ori, Muli, Slli, Srli, Srai, Sexti, Ld, St, Mov, Not, Mulhi, Cmp, Cmpi, Lli, Lui, Jmp, Jal, Jmpr, Jalr, Bc, Begt, Belt, Beq, Bgt, Blt, Bne, Bnc, Scall, Retu, Reti, Chrs, Di, Ei, Swm, Trap, Scon, Rcon, Conb, Conh, Exb, Exh, Exbf, Exbfi}
 
 -- by number, 0 to 63
 unfoldable pub operations : List Operation
 operations =
-    nop ∷ add ∷ addu ∷ sub ∷ subu ∷ and ∷ or ∷ xor ∷  -- 0 to 7
-    muls ∷ mulu ∷ mulus ∷ muls16 ∷ mulu16 ∷ mulus16 ∷ sll ∷ srl ∷  -- 8 to 15
-    sra ∷ sext ∷ addi ∷ addiu ∷ andi ∷ ori ∷ muli ∷ slli ∷  -- 16 to 23
-    srli ∷ srai ∷ sexti ∷ ld ∷ st ∷ mov ∷ not ∷ mulhi ∷  -- 24 to 31
-    cmp ∷ cmpi ∷ lli ∷ lui ∷ jmp ∷ jal ∷ jmpr ∷ jalr ∷  -- 32 to 39
-    bc ∷ begt ∷ belt ∷ beq ∷ bgt ∷ blt ∷ bne ∷ bnc ∷  -- 40 to 47
-    scall ∷ retu ∷ reti ∷ chrs ∷ di ∷ ei ∷ swm ∷ trap ∷  -- 48 to 55
-    scon ∷ rcon ∷ conb ∷ conh ∷ exb ∷ exh ∷ exbf ∷ exbfi ∷  -- 56 to 63
+    Nop ∷ Add ∷ Addu ∷ Sub ∷ Subu ∷ And ∷ Or ∷ Xor ∷  -- 0 to 7
+    Muls ∷ Mulu ∷ Mulus ∷ Muls16 ∷ Mulu16 ∷ Mulus16 ∷ Sll ∷ Srl ∷  -- 8 to 15
+    Sra ∷ Sext ∷ Addi ∷ Addiu ∷ Andi ∷ Ori ∷ Muli ∷ Slli ∷  -- 16 to 23
+    Srli ∷ Srai ∷ Sexti ∷ Ld ∷ St ∷ Mov ∷ Not ∷ Mulhi ∷  -- 24 to 31
+    Cmp ∷ Cmpi ∷ Lli ∷ Lui ∷ Jmp ∷ Jal ∷ Jmpr ∷ Jalr ∷  -- 32 to 39
+    Bc ∷ Begt ∷ Belt ∷ Beq ∷ Bgt ∷ Blt ∷ Bne ∷ Bnc ∷  -- 40 to 47
+    Scall ∷ Retu ∷ Reti ∷ Chrs ∷ Di ∷ Ei ∷ Swm ∷ Trap ∷  -- 48 to 55
+    Scon ∷ Rcon ∷ Conb ∷ Conh ∷ Exb ∷ Exh ∷ Exbf ∷ Exbfi ∷  -- 56 to 63
     []
 
 -- the operation of a number; a word has one below 64
 unfoldable pub operation_of : ℕ → Operation
-operation_of n = get_or operations n exbfi
+operation_of n = get_or operations n Exbfi
+
+-- the operation of a number, or the refusal of one that no operation has
+unfoldable pub numbered : ℕ → Result Operation UnknownOperation
+numbered n = if nat_lt n 64 then Ok (operation_of n) else Err (record { number = n })
 
 -- ---- properties
 
--- the length of an instruction word
-pub data Width : Type 0 where
-  w16 w32 : Width
-
 -- by PSR's bit IL, 1 for 32-bit words
 unfoldable pub width_by : (wide : Bool) → Width
-width_by true = w32
-width_by false = w16
+width_by true = Wide
+width_by false = Narrow
 
 -- which operands an operation has; Format says where they stand
 pub data Form : Type 0 where
@@ -69,23 +63,23 @@ pub data Availability : Type 0 where
 
 -- the code of the exception where it may not: 02h not in this width or not in user mode
 unfoldable pub unavailable : Availability → Width → (user : Bool) → Option ℕ
-unavailable anywhere w user = none
-unavailable wide_only w16 user = some 0x02
-unavailable wide_only w32 user = none
-unavailable super_only w true = some 0x02
-unavailable super_only w false = none
+unavailable anywhere w user = None
+unavailable wide_only Narrow user = Some 0x02
+unavailable wide_only Wide user = None
+unavailable super_only w true = Some 0x02
+unavailable super_only w false = None
 
 -- that code as a number, 0 where the operation may be used (00h is no code of this kind)
 unfoldable pub code_of : Option ℕ → ℕ
-code_of none = 0
-code_of (some code) = code
+code_of None = 0
+code_of (Some code) = code
 
 -- how control goes on after an operation; where to, 02's wish 13 says
 pub data Flow : Type 0 where
   Straight : Flow  -- with the next word
   ImmediateJump ImmediateLink RegisterJump RegisterLink : Flow  -- jmp, jal, jmpr, jalr
   ConditionalBranch : Flow  -- 40 to 47
-  SystemCall UserReturn InterruptReturn WidthSwitch Trap : Flow  -- scall, retu, reti, swm, trap
+  SystemCall UserReturn InterruptReturn WidthSwitch TrapCall : Flow  -- scall, retu, reti, swm, trap
 
 pub record Properties : Type 0 where
   pub number : ℕ
@@ -123,72 +117,72 @@ with_flow to p =
 -- the table: each operation's number, mnemonic, operands, whether it may be conditional, where it is available, whether it is a control transfer,
 -- how many nops must follow it: "the nops after swm, scall, retu and reti" (02, wish 8), "two, one, one, three"; and how it goes on
 unfoldable pub properties : Operation → Properties
-properties nop = always 0 "nop" NoOperands anywhere
-properties add = optional 1 "add" ThreeRegisters
-properties addu = optional 2 "addu" ThreeRegisters
-properties sub = optional 3 "sub" ThreeRegisters
-properties subu = optional 4 "subu" ThreeRegisters
-properties and = optional 5 "and" ThreeRegisters
-properties or = optional 6 "or" ThreeRegisters
-properties xor = optional 7 "xor" ThreeRegisters
-properties muls = optional 8 "muls" ThreeRegisters
-properties mulu = optional 9 "mulu" ThreeRegisters
-properties mulus = optional 10 "mulus" ThreeRegisters
-properties muls16 = optional 11 "muls_16" ThreeRegisters
-properties mulu16 = optional 12 "mulu_16" ThreeRegisters
-properties mulus16 = optional 13 "mulus_16" ThreeRegisters
-properties sll = optional 14 "sll" ThreeRegisters
-properties srl = optional 15 "srl" ThreeRegisters
-properties sra = optional 16 "sra" ThreeRegisters
-properties sext = optional 17 "sext" ThreeRegisters
-properties addi = optional 18 "addi" SignedImmediate
-properties addiu = optional 19 "addiu" UnsignedImmediate
-properties andi = optional 20 "andi" UnsignedImmediate
-properties ori = optional 21 "ori" UnsignedImmediate
-properties muli = optional 22 "muli" SignedImmediate
-properties slli = optional 23 "slli" (Count 5)
-properties srli = optional 24 "srli" (Count 5)
-properties srai = optional 25 "srai" (Count 5)
-properties sexti = optional 26 "sexti" (Count 5)
-properties ld = optional 27 "ld" Memory
-properties st = optional 28 "st" Memory
-properties mov = optional 29 "mov" TwoRegisters
-properties not = optional 30 "not" TwoRegisters
-properties mulhi = optional 31 "mulhi" Destination
-properties cmp = always 32 "cmp" CompareRegisters anywhere
-properties cmpi = always 33 "cmpi" CompareImmediate anywhere
-properties lli = always 34 "lli" Halfword wide_only
-properties lui = always 35 "lui" Halfword wide_only
-properties jmp = always_transfer 36 "jmp" Jump anywhere ImmediateJump
-properties jal = always_transfer 37 "jal" Jump anywhere ImmediateLink
-properties jmpr = optional_transfer 38 "jmpr" Source RegisterJump
-properties jalr = optional_transfer 39 "jalr" Source RegisterLink
-properties bc = always_transfer 40 "bc" Branch anywhere ConditionalBranch
-properties begt = always_transfer 41 "begt" Branch anywhere ConditionalBranch
-properties belt = always_transfer 42 "belt" Branch anywhere ConditionalBranch
-properties beq = always_transfer 43 "beq" Branch anywhere ConditionalBranch
-properties bgt = always_transfer 44 "bgt" Branch anywhere ConditionalBranch
-properties blt = always_transfer 45 "blt" Branch anywhere ConditionalBranch
-properties bne = always_transfer 46 "bne" Branch anywhere ConditionalBranch
-properties bnc = always_transfer 47 "bnc" Branch anywhere ConditionalBranch
-properties scall = followed_by 1 (optional_transfer 48 "scall" NoOperands SystemCall)
-properties retu = followed_by 1 (always_transfer 49 "retu" NoOperands super_only UserReturn)
-properties reti = followed_by 3 (always_transfer 50 "reti" NoOperands anywhere InterruptReturn)
-properties chrs = always 51 "chrs" (LowBits 2) super_only
-properties di = always 52 "di" NoOperands anywhere
-properties ei = always 53 "ei" NoOperands anywhere
-properties swm = followed_by 2 (always_transfer 54 "swm" (LowBits 1) anywhere WidthSwitch)
-properties trap = with_flow Trap (always 55 "trap" (LowBits 5) anywhere)
-properties scon = always 56 "scon" Destination anywhere
-properties rcon = always 57 "rcon" Source anywhere
-properties conb = optional 58 "conb" ThreeRegisters
-properties conh = optional 59 "conh" ReversedRegisters
-properties exb = optional 60 "exb" (Count 2)
-properties exh = optional 61 "exh" (Count 1)
-properties exbf = optional 62 "exbf" ThreeRegisters
-properties exbfi = always 63 "exbfi" BitField wide_only
+properties Nop = always 0 "nop" NoOperands anywhere
+properties Add = optional 1 "add" ThreeRegisters
+properties Addu = optional 2 "addu" ThreeRegisters
+properties Sub = optional 3 "sub" ThreeRegisters
+properties Subu = optional 4 "subu" ThreeRegisters
+properties And = optional 5 "and" ThreeRegisters
+properties Or = optional 6 "or" ThreeRegisters
+properties Xor = optional 7 "xor" ThreeRegisters
+properties Muls = optional 8 "muls" ThreeRegisters
+properties Mulu = optional 9 "mulu" ThreeRegisters
+properties Mulus = optional 10 "mulus" ThreeRegisters
+properties Muls16 = optional 11 "muls_16" ThreeRegisters
+properties Mulu16 = optional 12 "mulu_16" ThreeRegisters
+properties Mulus16 = optional 13 "mulus_16" ThreeRegisters
+properties Sll = optional 14 "sll" ThreeRegisters
+properties Srl = optional 15 "srl" ThreeRegisters
+properties Sra = optional 16 "sra" ThreeRegisters
+properties Sext = optional 17 "sext" ThreeRegisters
+properties Addi = optional 18 "addi" SignedImmediate
+properties Addiu = optional 19 "addiu" UnsignedImmediate
+properties Andi = optional 20 "andi" UnsignedImmediate
+properties Ori = optional 21 "ori" UnsignedImmediate
+properties Muli = optional 22 "muli" SignedImmediate
+properties Slli = optional 23 "slli" (Count 5)
+properties Srli = optional 24 "srli" (Count 5)
+properties Srai = optional 25 "srai" (Count 5)
+properties Sexti = optional 26 "sexti" (Count 5)
+properties Ld = optional 27 "ld" Memory
+properties St = optional 28 "st" Memory
+properties Mov = optional 29 "mov" TwoRegisters
+properties Not = optional 30 "not" TwoRegisters
+properties Mulhi = optional 31 "mulhi" Destination
+properties Cmp = always 32 "cmp" CompareRegisters anywhere
+properties Cmpi = always 33 "cmpi" CompareImmediate anywhere
+properties Lli = always 34 "lli" Halfword wide_only
+properties Lui = always 35 "lui" Halfword wide_only
+properties Jmp = always_transfer 36 "jmp" Jump anywhere ImmediateJump
+properties Jal = always_transfer 37 "jal" Jump anywhere ImmediateLink
+properties Jmpr = optional_transfer 38 "jmpr" Source RegisterJump
+properties Jalr = optional_transfer 39 "jalr" Source RegisterLink
+properties Bc = always_transfer 40 "bc" Branch anywhere ConditionalBranch
+properties Begt = always_transfer 41 "begt" Branch anywhere ConditionalBranch
+properties Belt = always_transfer 42 "belt" Branch anywhere ConditionalBranch
+properties Beq = always_transfer 43 "beq" Branch anywhere ConditionalBranch
+properties Bgt = always_transfer 44 "bgt" Branch anywhere ConditionalBranch
+properties Blt = always_transfer 45 "blt" Branch anywhere ConditionalBranch
+properties Bne = always_transfer 46 "bne" Branch anywhere ConditionalBranch
+properties Bnc = always_transfer 47 "bnc" Branch anywhere ConditionalBranch
+properties Scall = followed_by 1 (optional_transfer 48 "scall" NoOperands SystemCall)
+properties Retu = followed_by 1 (always_transfer 49 "retu" NoOperands super_only UserReturn)
+properties Reti = followed_by 3 (always_transfer 50 "reti" NoOperands anywhere InterruptReturn)
+properties Chrs = always 51 "chrs" (LowBits 2) super_only
+properties Di = always 52 "di" NoOperands anywhere
+properties Ei = always 53 "ei" NoOperands anywhere
+properties Swm = followed_by 2 (always_transfer 54 "swm" (LowBits 1) anywhere WidthSwitch)
+properties Trap = with_flow TrapCall (always 55 "trap" (LowBits 5) anywhere)
+properties Scon = always 56 "scon" Destination anywhere
+properties Rcon = always 57 "rcon" Source anywhere
+properties Conb = optional 58 "conb" ThreeRegisters
+properties Conh = optional 59 "conh" ReversedRegisters
+properties Exb = optional 60 "exb" (Count 2)
+properties Exh = optional 61 "exh" (Count 1)
+properties Exbf = optional 62 "exbf" ThreeRegisters
+properties Exbfi = always 63 "exbfi" BitField wide_only
 
 -- to unfold all of these
 unfoldable pub table : Unit {0}
-unfolding operations operation_of width_by unavailable code_of properties
+unfolding operations operation_of numbered width_by unavailable code_of properties
 table = tt

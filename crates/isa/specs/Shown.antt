@@ -2,9 +2,11 @@
 use Rattle.std.specs.Prelude.{Bool, false, List, [], eqb, ℤ, pos}
 use Rattle.word.specs.Choice.{choose◌then◌else◌}
 use Rattle.word.specs.Word.{bits◌to◌, field_of, word_of}
-use Rattle.isa.specs.Operation.{Operation, Width, unavailable, code_of, properties}
+use Rattle.isa.specs.declared.operation.Operation.{Operation}
+use Rattle.isa.specs.declared.width.Width.{Width}
+use Rattle.isa.specs.Operation.{unavailable, code_of, properties}
 use Rattle.isa.specs.Format.{Role, Dreg, Sreg1, Sreg2, Creg, Imm, Length, Position, layout_of}
-use Rattle.isa.specs.declared.Instruction.{Instruction}
+use Rattle.isa.specs.declared.instruction.Instruction.{Instruction}
 
 -- an operation has no form in a width where it is 02h for the super user too: "Code 02h: lli, lui in 16-bit" (01), "63 exbfi: .. code 02h in
 -- 16-bit" (02 wish 1)

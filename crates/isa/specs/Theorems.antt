@@ -2,14 +2,16 @@
 use Rattle.std.specs.Prelude.{◌≡◌, ◌⊎◌, Bool, true, false, not, ◌&&◌, ◌||◌, List, [], ◌∷◌, ◌++◌, ℕ, ◌+◌, ◌≤◌, ◌<◌, leb, eqb, pos}
 use Rattle.word.specs.Choice.{choose◌then◌else◌}
 use Rattle.word.specs.Word.{bits◌to◌, field_of, bit_at}
-use Rattle.isa.specs.Operation.{operation_of, Width, w16, w32, width_by, unavailable, code_of, Flow, Straight, ImmediateJump, ImmediateLink, RegisterJump, RegisterLink, ConditionalBranch, SystemCall, UserReturn, InterruptReturn, WidthSwitch, Trap, properties}
+use Rattle.isa.specs.declared.width.Width.{Width}
+use Rattle.isa.specs.declared.width.Width.TheVariants.{Narrow, Wide}
+use Rattle.isa.specs.Operation.{operation_of, width_by, unavailable, code_of, Flow, Straight, ImmediateJump, ImmediateLink, RegisterJump, RegisterLink, ConditionalBranch, SystemCall, UserReturn, InterruptReturn, WidthSwitch, TrapCall, properties}
 use Rattle.isa.specs.Text.{bytes}
 use Rattle.isa.specs.Condition.{condition_of, name_of}
 use Rattle.isa.specs.Format.{has_bit, Role, Dreg, Sreg1, Sreg2, Creg, Imm, Length, Position, layout_of}
 use Rattle.isa.specs.Decode.{opcode_of, decode}
 use Rattle.isa.specs.Shown.{has_form, shown_roles, shown_value}
 use Rattle.isa.specs.Used.{used_fields, cleared}
-use Rattle.isa.specs.declared.Instruction.{Instruction}
+use Rattle.isa.specs.declared.instruction.Instruction.{Instruction}
 
 -- ---- the table, of all operations at once
 
@@ -48,7 +50,7 @@ flow_by n =
     else choose eqb n 49 then UserReturn
     else choose eqb n 50 then InterruptReturn
     else choose eqb n 54 then WidthSwitch
-    else choose eqb n 55 then Trap
+    else choose eqb n 55 then TrapCall
     else Straight
 
 abbrev pub FlowIs : Type 0
@@ -74,7 +76,7 @@ pub record HighRegisters (i : Instruction) : Type 0 where
   pub sreg2 : (i.sreg2 ≡ 0) ⊎ (24 ≤ i.sreg2)
 
 abbrev pub NarrowRegisters : Type 0
-NarrowRegisters = (word : ℕ) → HighRegisters (decode w16 word)
+NarrowRegisters = (word : ℕ) → HighRegisters (decode Narrow word)
 
 -- ---- what a listing shows (02 wish 2)
 
@@ -93,14 +95,14 @@ SignedIs =
     ≡ ((eqb n 18 || eqb n 22) || (between 27 28 n || eqb n 33)) || (between 36 37 n || between 40 47 n)
 
 -- "16-bit registers as R24 to R31 and no C0"; "Nothing is conditional" (01)
-unfoldable pub Narrow : Instruction → Role → Type 0
-Narrow i Dreg = (24 ≤ i.dreg) × (i.dreg ≤ 31)
-Narrow i Sreg1 = (24 ≤ i.sreg1) × (i.sreg1 ≤ 31)
-Narrow i Sreg2 = (24 ≤ i.sreg2) × (i.sreg2 ≤ 31)
-Narrow i Creg = ⊥
-Narrow i Imm = Unit {0}
-Narrow i Length = Unit {0}
-Narrow i Position = Unit {0}
+unfoldable pub HighRegister : Instruction → Role → Type 0
+HighRegister i Dreg = (24 ≤ i.dreg) × (i.dreg ≤ 31)
+HighRegister i Sreg1 = (24 ≤ i.sreg1) × (i.sreg1 ≤ 31)
+HighRegister i Sreg2 = (24 ≤ i.sreg2) × (i.sreg2 ≤ 31)
+HighRegister i Creg = ⊥
+HighRegister i Imm = Unit {0}
+HighRegister i Length = Unit {0}
+HighRegister i Position = Unit {0}
 
 -- of every role of a list
 unfoldable pub All : (Role → Type 0) → List Role → Type 0
@@ -108,13 +110,13 @@ All P [] = Unit {0}
 All P (r ∷ rs) = P r × All P rs
 
 abbrev pub NarrowShown : Type 0
-NarrowShown = (word : ℕ) → ((decode w16 word).conditional ≡ false) × All (Narrow (decode w16 word)) (shown_roles w16 (operation_of (decode w16 word).opcode))
+NarrowShown = (word : ℕ) → ((decode Narrow word).conditional ≡ false) × All (HighRegister (decode Narrow word)) (shown_roles Narrow (operation_of (decode Narrow word).opcode))
 
 -- "immediates by the bits used": exbfi has its length "in bits 24..19, position in 4..0" (wish 1)
 abbrev pub BitFieldShown : Type 0
 BitFieldShown =
-    (word : ℕ) → opcode_of w32 word ≡ 63
-    → (shown_value (decode w32 word) Length ≡ pos (field_of (bits 24 to 19) word)) × (shown_value (decode w32 word) Position ≡ pos (field_of (bits 4 to 0) word))
+    (word : ℕ) → opcode_of Wide word ≡ 63
+    → (shown_value (decode Wide word) Length ≡ pos (field_of (bits 24 to 19) word)) × (shown_value (decode Wide word) Position ≡ pos (field_of (bits 4 to 0) word))
 
 -- ---- ignored bits (01 "Bits that an operation does not use are ignored", 02 wish 7)
 

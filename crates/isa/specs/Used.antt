@@ -5,7 +5,10 @@ use Rattle.std.proofs.Math.Option.{Option, none, some}
 use Rattle.std.proofs.Math.ListN.{get_elem?}
 use Rattle.word.specs.Choice.{choose◌then◌else◌}
 use Rattle.word.specs.Word.{Field}
-use Rattle.isa.specs.Operation.{Operation, operation_of, Width, w16, w32, Form, properties}
+use Rattle.isa.specs.declared.operation.Operation.{Operation}
+use Rattle.isa.specs.declared.width.Width.{Width}
+use Rattle.isa.specs.declared.width.Width.TheVariants.{Narrow, Wide}
+use Rattle.isa.specs.Operation.{operation_of, Form, properties}
 use Rattle.isa.specs.Format.{kept_in, operation_field, conditional_field, creg_field, condition_field, Role, Dreg, Sreg1, Sreg2, Creg, Imm, Length, Position, Immediate, layout_of, operand_fields}
 use Rattle.isa.specs.Decode.{decode}
 use Rattle.isa.specs.Shown.{shown_roles}
@@ -37,8 +40,8 @@ least_of Signed k = neg_ℤ (pos (2 ^ (k - 1)))
 least_of High k = pos 24
 
 unfoldable pub register_reading : Width → Reading
-register_reading w32 = Natural
-register_reading w16 = High
+register_reading Wide = Natural
+register_reading Narrow = High
 
 unfoldable pub immediate_reading : Immediate → Reading
 immediate_reading i = choose i.signed then Signed else Natural

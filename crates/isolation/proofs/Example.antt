@@ -10,7 +10,8 @@ use native.Mathlib.Omega.{arith}
 use native.Mathlib.Nat.{le_of_suc-le-suc}
 use lib.ListN.{length, get_or, set, get_elem?, replicate, length-set, length-map, get_or-map}
 use lib.Dec.{lit≤}
-use Rattle.isa.specs.Operation.{add, ld, st, properties}
+use Rattle.isa.specs.declared.operation.Operation.TheVariants.{Add, Ld, St}
+use Rattle.isa.specs.Operation.{properties}
 use Rattle.codec.specs.Number.{bytes_of}
 use Rattle.machine.specs.Machine.{Machine, PSR, position_at, memory_of}
 use Rattle.machine.specs.Control.{reset, within, CCB_BASE, INT_VECTORS, INT_PEND, TMR0_CNT, TMR_CONF, DMEM_BOUND_LO, DMEM_BOUND_HI, IMEM_BOUND_LO, IMEM_BOUND_HI}
@@ -48,10 +49,10 @@ entry source address = record { source = source; address = address; psr = 0x0E; 
 program : List ℕ
 program =
     bytes_of (
-    ((properties add).number * 2 ^ 26 + 3 * 2 ^ 10 + 1 * 2 ^ 5 + 1) ∷
-    ((properties st).number * 2 ^ 26 + 3 * 2 ^ 10 + 1 * 2 ^ 5) ∷
-    ((properties ld).number * 2 ^ 26 + 4 * 2 ^ 10 + 1 * 2 ^ 5) ∷
-    ((properties ld).number * 2 ^ 26 + 4 * 2 ^ 10 + 2 * 2 ^ 5) ∷
+    ((properties Add).number * 2 ^ 26 + 3 * 2 ^ 10 + 1 * 2 ^ 5 + 1) ∷
+    ((properties St).number * 2 ^ 26 + 3 * 2 ^ 10 + 1 * 2 ^ 5) ∷
+    ((properties Ld).number * 2 ^ 26 + 4 * 2 ^ 10 + 1 * 2 ^ 5) ∷
+    ((properties Ld).number * 2 ^ 26 + 4 * 2 ^ 10 + 2 * 2 ^ 5) ∷
     0 ∷
     []
     )

@@ -11,7 +11,8 @@ use borrow.Author.Tests.{le-leb, lt-leb, eq-eqb, ne_eqb}
 use Rattle.word.specs.Choice.{choose◌then◌else◌}
 use Rattle.codec.specs.Number.{put_at, over}
 use Rattle.codec.proofs.Laws.{length_put_at, put_at_append, part_put}
-use Rattle.isa.specs.Operation.{Width, w16, w32}
+use Rattle.isa.specs.declared.width.Width.{Width}
+use Rattle.isa.specs.declared.width.Width.TheVariants.{Narrow, Wide}
 use Rattle.isa.specs.Decode.{word_bytes, word_at}
 use Rattle.machine.specs.Machine.{MOST_MEMORY}
 use Rattle.listing.specs.Line.{word_line}
@@ -46,20 +47,20 @@ module _ (width : Width) (program text : List ℕ) where
 -- word n of a program lies in it
 pub inside : (width : Width) (size n : ℕ) → n < size / word_bytes width → word_bytes width * n + word_bytes width ≤ size
 unfolding word_bytes
-inside w16 size n h = omega arith
-inside w32 size n h = omega arith
+inside Narrow size n h = omega arith
+inside Wide size n h = omega arith
 
 -- where the one after it begins
 pub next_word : (width : Width) (n : ℕ) → word_bytes width * n + word_bytes width ≡ word_bytes width * (n + 1)
 unfolding word_bytes
-next_word w16 n = omega arith
-next_word w32 n = omega arith
+next_word Narrow n = omega arith
+next_word Wide n = omega arith
 
 -- no more words than bytes
 pub words_le : (width : Width) (size : ℕ) → size / word_bytes width ≤ size
 unfolding word_bytes
-words_le w16 size = omega arith
-words_le w32 size = omega arith
+words_le Narrow size = omega arith
+words_le Wide size = omega arith
 
 -- ---- the lines
 

@@ -13,7 +13,7 @@ use Rattle.word.proofs.Integers.{signed_low}
 use Rattle.codec.specs.Number.{put_at}
 use Rattle.codec.proofs.Laws.{put_at_nothing, put_at_append}
 use Rattle.isa.specs.Text.{bytes}
-use Rattle.isa.specs.declared.Instruction.{Instruction}
+use Rattle.isa.specs.declared.instruction.Instruction.{Instruction}
 use Rattle.isa.specs.Format.{Creg}
 use Rattle.isa.specs.Shown.{shown_value}
 use Rattle.operands.specs.Letters.{role_of}

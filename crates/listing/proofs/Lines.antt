@@ -8,11 +8,13 @@ use Rattle.word.specs.Choice.{choose◌then◌else◌}
 use Rattle.word.proofs.Tests.{either}
 use Rattle.codec.specs.Number.{put_at}
 use Rattle.isa.specs.Text.{bytes}
-use Rattle.isa.specs.Operation.{operation_of, Width, w16, w32}
+use Rattle.isa.specs.declared.width.Width.{Width}
+use Rattle.isa.specs.declared.width.Width.TheVariants.{Narrow, Wide}
+use Rattle.isa.specs.Operation.{operation_of}
 use Rattle.isa.specs.Format.{Creg}
 use Rattle.isa.specs.Decode.{word_bytes, decode}
 use Rattle.isa.specs.Shown.{has_form}
-use Rattle.isa.specs.declared.Instruction.{Instruction}
+use Rattle.isa.specs.declared.instruction.Instruction.{Instruction}
 use Rattle.isa.proofs.Decoded.{in_range}
 use Rattle.console.specs.Digits.{blank, digits_of, hex8}
 use Rattle.console.proofs.Digits.{length_digits_of}
@@ -34,8 +36,8 @@ address_fits address = omega (arith, length_digits_of 16 8 address)
 
 pub word_fits : (width : Width) (word : ℕ) → length (word_text width word) ≤ 8
 unfolding word_bytes
-word_fits w16 word = omega (arith, length_digits_of 16 4 word)
-word_fits w32 word = omega (arith, length_digits_of 16 8 word)
+word_fits Narrow word = omega (arith, length_digits_of 16 4 word)
+word_fits Wide word = omega (arith, length_digits_of 16 8 word)
 
 pub condition_fits : (i : Instruction) → i.creg < 8 → length (condition_text i) ≤ 6
 condition_fits i h =

@@ -10,7 +10,8 @@ use lib.ListN.{length, take, drop, replicate, length-append, length-replicate, g
 use lib.Seq.{take_at, drop-append-add, take-take, take-append_seam}
 use borrow.Author.Tests.{leb-true, ltb-true, ltb-false}
 use Rattle.word.proofs.Tests.{either}
-use Rattle.isa.specs.Condition.{nc, conditions}
+use Rattle.isa.specs.declared.condition.Condition.TheVariants.{NoCarry}
+use Rattle.isa.specs.Condition.{conditions}
 use Rattle.isa.proofs.Table.{values, agree}
 use Rattle.console.specs.Digits.{blank}
 use Rattle.isa.proofs.Rules.{mnemonic_short}
@@ -73,7 +74,7 @@ unfolding listings values
 condition_short n =
     either (ltb n 8)
     (λ t. leb-true _ 3 (agree (λ n. leb (length (condition_name n)) 3) (λ n. true) 0 8 refl n (omega arith) (ltb-true n 8 t)))
-    (λ t. rw (get_or-eq_default conditions nc (ltb-false n 8 t)) (omega arith))
+    (λ t. rw (get_or-eq_default conditions NoCarry (ltb-false n 8 t)) (omega arith))
 
 pub condition_at : (n : ℕ) → n < 8 → take (length (condition_name n)) (drop (n * 3) condition_names) ≡ condition_name n
 unfolding padded

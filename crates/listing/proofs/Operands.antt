@@ -13,7 +13,7 @@ use Rattle.codec.specs.Number.{put_at}
 use Rattle.codec.proofs.Laws.{put_at_append}
 use Rattle.isa.specs.Format.{Role}
 use Rattle.isa.specs.Shown.{shown_value}
-use Rattle.isa.specs.declared.Instruction.{Instruction}
+use Rattle.isa.specs.declared.instruction.Instruction.{Instruction}
 use Rattle.operands.specs.Letters.{letter_in, role_of}
 use Rattle.operands.proofs.Roles.{next_role}
 use Rattle.console.specs.Digits.{blank}

@@ -15,7 +15,10 @@ use Rattle.word.specs.Word.{bits◌to◌, signed_of, word_of}
 use Rattle.word.proofs.Tests.{either, and_parts}
 use Rattle.word.proofs.Integers.{signed_range}
 use Rattle.word.proofs.Bounds.{field_below}
-use Rattle.isa.specs.Operation.{Operation, operation_of, Width, w16, w32, properties}
+use Rattle.isa.specs.declared.operation.Operation.{Operation}
+use Rattle.isa.specs.declared.width.Width.{Width}
+use Rattle.isa.specs.declared.width.Width.TheVariants.{Narrow, Wide}
+use Rattle.isa.specs.Operation.{operation_of, properties}
 use Rattle.isa.specs.Format.{Role, Dreg, Sreg1, Sreg2, Creg, Imm, Length, Position, Immediate, Layout, layout_of, fields_width, fields_of}
 use Rattle.isa.specs.Text.{bytes}
 use Rattle.isa.specs.Decode.{immediate_of, operands_of, opcode_of, assembled, decode}
@@ -34,8 +37,8 @@ use Rattle.listing.specs.Computed.{listings}
 
 pub roles_few : (width : Width) (n : ℕ) → length (shown_roles width (operation_of n)) ≤ 4
 unfolding listings values
-roles_few w16 n = leb-true _ 4 (by_number (λ o. leb (length (shown_roles w16 o)) 4) (λ n. true) refl (λ n h. refl) n)
-roles_few w32 n = leb-true _ 4 (by_number (λ o. leb (length (shown_roles w32 o)) 4) (λ n. true) refl (λ n h. refl) n)
+roles_few Narrow n = leb-true _ 4 (by_number (λ o. leb (length (shown_roles Narrow o)) 4) (λ n. true) refl (λ n h. refl) n)
+roles_few Wide n = leb-true _ 4 (by_number (λ o. leb (length (shown_roles Wide o)) 4) (λ n. true) refl (λ n h. refl) n)
 
 -- ---- how long the text of each can be
 
@@ -66,8 +69,8 @@ fourteen width o = leb (roles_room (role_room (layout_of width (properties o).fo
 
 rows_fit : (width : Width) (n : ℕ) → fourteen width (operation_of n) ≡ true
 unfolding listings values immediate_room role_room roles_room
-rows_fit w16 n = by_number (fourteen w16) (λ n. true) refl (λ n h. refl) n
-rows_fit w32 n = by_number (fourteen w32) (λ n. true) refl (λ n h. refl) n
+rows_fit Narrow n = by_number (fourteen Narrow) (λ n. true) refl (λ n h. refl) n
+rows_fit Wide n = by_number (fourteen Wide) (λ n. true) refl (λ n h. refl) n
 
 -- digits
 digits_few : (k n : ℕ) → n < 10 ^ suc k → length (decimal n) ≤ suc k

@@ -13,7 +13,8 @@ use Rattle.word.specs.Choice.{choose◌then◌else◌}
 use Rattle.word.proofs.Tests.{either}
 use Rattle.codec.specs.Number.{over}
 use Rattle.codec.proofs.Laws.{length_over}
-use Rattle.isa.specs.Operation.{operation_of, Width}
+use Rattle.isa.specs.declared.width.Width.{Width}
+use Rattle.isa.specs.Operation.{operation_of}
 use Rattle.isa.specs.Decode.{word_bytes, word_at, decode}
 use Rattle.isa.specs.Shown.{shown_roles}
 use Rattle.machine.specs.Machine.{MOST_MEMORY}

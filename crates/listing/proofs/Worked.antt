@@ -5,7 +5,7 @@ use Prim.Native.Nat.{ℕ}
 use Prim.Native.String.{String}
 use Rattle.codec.specs.Number.{bytes_of}
 use Rattle.isa.specs.Text.{bytes}
-use Rattle.isa.specs.Operation.{w16, w32}
+use Rattle.isa.specs.declared.width.Width.TheVariants.{Narrow, Wide}
 use Rattle.console.specs.Digits.{newline}
 use Rattle.listing.specs.Listing.{lines_from}
 use Rattle.listing.specs.Computed.{listings}
@@ -74,7 +74,7 @@ lines32 =
     "000000AC FC0000A6        exbfi    R0 R5 0 6    " ∷
     []
 
-worked_32 : lines_from w32 (bytes_of program32) 0 44 ≡ text lines32
+worked_32 : lines_from Wide (bytes_of program32) 0 44 ≡ text lines32
 unfolding listings bytes_of text program32 lines32
 worked_32 = refl
 
@@ -126,6 +126,6 @@ lines16 =
     "00000046 FC00            ?                     " ∷
     []
 
-worked_16 : lines_from w16 (bytes_of program16) 0 36 ≡ text lines16
+worked_16 : lines_from Narrow (bytes_of program16) 0 36 ≡ text lines16
 unfolding listings bytes_of text program16 lines16
 worked_16 = refl

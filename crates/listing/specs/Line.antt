@@ -2,12 +2,14 @@
 use Rattle.std.specs.Prelude.{List, [], ◌∷◌, ◌++◌, map, ℕ, suc, ◌-◌, ◌*◌, length, replicate, ℤ, pos, negsuc}
 use Rattle.word.specs.Choice.{choose◌then◌else◌}
 use Rattle.isa.specs.Text.{bytes}
-use Rattle.isa.specs.Operation.{Operation, operation_of, Width, properties}
+use Rattle.isa.specs.declared.operation.Operation.{Operation}
+use Rattle.isa.specs.declared.width.Width.{Width}
+use Rattle.isa.specs.Operation.{operation_of, properties}
 use Rattle.isa.specs.Condition.{condition_of, name_of}
 use Rattle.isa.specs.Format.{Role, Dreg, Sreg1, Sreg2, Creg, Imm, Length, Position}
 use Rattle.isa.specs.Decode.{word_bytes, decode}
 use Rattle.isa.specs.Shown.{has_form, shown_roles, shown_value}
-use Rattle.isa.specs.declared.Instruction.{Instruction}
+use Rattle.isa.specs.declared.instruction.Instruction.{Instruction}
 use Rattle.console.specs.Digits.{blank, newline, digits_of, decimal, hex8}
 
 -- ---- operands

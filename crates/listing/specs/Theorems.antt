@@ -1,10 +1,11 @@
 -- What is proved of listings: the statements, each with the sentence of 02 wish 2 that it says. Assumes nothing.
 use Rattle.std.specs.Prelude.{◌≡◌, false, ◌≢◌, List, [], ◌∷◌, ◌++◌, ℕ, suc, ◌*◌, ◌%◌, ◌≤◌, ◌<◌, length, take, drop}
 use Rattle.isa.specs.Text.{bytes}
-use Rattle.isa.specs.Operation.{operation_of, Width}
+use Rattle.isa.specs.declared.width.Width.{Width}
+use Rattle.isa.specs.Operation.{operation_of}
 use Rattle.isa.specs.Decode.{word_bytes, word_at, decode}
 use Rattle.isa.specs.Shown.{has_form}
-use Rattle.isa.specs.declared.Instruction.{Instruction}
+use Rattle.isa.specs.declared.instruction.Instruction.{Instruction}
 use Rattle.machine.specs.Machine.{MOST_MEMORY}
 use Rattle.console.specs.Digits.{blank, newline, digits_of, hex8}
 use Rattle.listing.specs.Line.{operands_text, name_text, condition_text, padded, WORD_COLUMN, CONDITION_COLUMN, NAME_COLUMN, OPERANDS_COLUMN, word_line}

@@ -2,7 +2,8 @@
 use Rattle.std.specs.Prelude.{Bool, true, false, ◌&&◌, List, ℕ, ◌+◌, ◌*◌, get_or, set, eqb}
 use Rattle.word.specs.Choice.{choose◌then◌else◌}
 use Rattle.word.specs.Word.{bit_at, bit_of}
-use Rattle.isa.specs.Operation.{Width, width_by}
+use Rattle.isa.specs.declared.width.Width.{Width}
+use Rattle.isa.specs.Operation.{width_by}
 use Rattle.machine.specs.declared.Position.{Position}
 use Rattle.machine.specs.declared.Entry.{Entry}
 

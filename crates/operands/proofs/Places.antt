@@ -11,7 +11,10 @@ use borrow.Author.Tests.{ltb-true, leb-true, eqb-true, eq-eqb}
 use Rattle.word.specs.Choice.{choose◌then◌else◌}
 use Rattle.word.specs.Word.{Field, bit_of}
 use Rattle.word.proofs.Tests.{and_parts}
-use Rattle.isa.specs.Operation.{Operation, operation_of, Width, w16, w32}
+use Rattle.isa.specs.declared.operation.Operation.{Operation}
+use Rattle.isa.specs.declared.width.Width.{Width}
+use Rattle.isa.specs.declared.width.Width.TheVariants.{Narrow, Wide}
+use Rattle.isa.specs.Operation.{operation_of}
 use Rattle.isa.specs.Format.{fields_width, placed_in, lie_below, separate}
 use Rattle.isa.specs.Used.{shown_fields, Reading, Natural, Signed, High, shown_reading}
 use Rattle.isa.specs.Computed.{instructions}
@@ -71,8 +74,8 @@ sizes width o k =
 
 computed : (width : Width) → values_from (λ o k. bit_of (sizes width o k)) 0 256 ≡ values_from (λ o k. 1) 0 256
 unfolding instructions placing sizes values_from
-computed w16 = refl
-computed w32 = refl
+computed Narrow = refl
+computed Wide = refl
 
 -- what holds of the field of operand k, as the code has it
 pub record FieldIs (width : Width) (o : Operation) (k : ℕ) (f : OperandField) : Type 0 where

@@ -5,7 +5,8 @@ use Prim.Native.Nat.{ℕ, zero, suc, ◌+◌, ◌*◌, ◌/◌, ◌%◌, ◌<◌
 use native.Mathlib.Omega.{arith}
 use native.Mathlib.Nat.{add-zero}
 use lib.ListN.{get_or}
-use Rattle.isa.specs.Operation.{Operation, operation_of}
+use Rattle.isa.specs.declared.operation.Operation.{Operation}
+use Rattle.isa.specs.Operation.{operation_of}
 use Rattle.operands.specs.Table.{entry_in, entries_in}
 use Rattle.operands.specs.declared.Entries.{Entries}
 

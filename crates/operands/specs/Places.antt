@@ -3,7 +3,8 @@
 use Rattle.std.specs.Prelude.{◌≡◌, List, [], ◌∷◌, ℕ, ◌+◌, ◌*◌, ◌/◌, ◌%◌, ◌^◌, ◌≤◌, ◌<◌, eqb}
 use Rattle.word.specs.Choice.{choose◌then◌else◌}
 use Rattle.word.specs.Word.{Field}
-use Rattle.isa.specs.Operation.{Operation, Width}
+use Rattle.isa.specs.declared.operation.Operation.{Operation}
+use Rattle.isa.specs.declared.width.Width.{Width}
 use Rattle.isa.specs.Used.{shown_fields, Reading, Natural, Signed, High, shown_reading}
 use Rattle.operands.specs.declared.OperandField.{OperandField}
 use Rattle.operands.specs.declared.OperandFields.{OperandFields}

@@ -7,8 +7,8 @@ use lib.Signed.{mag}
 use mir.Syntax.{w32, w64}
 use mir.Val.{to_z, of_z, hbits}
 use Rattle.word.proofs.Integers.{back}
-use Rattle.isa.specs.Operation.{ld, st}
-use Rattle.isa.specs.declared.Instruction.{Instruction}
+use Rattle.isa.specs.declared.operation.Operation.TheVariants.{Ld, St}
+use Rattle.isa.specs.declared.instruction.Instruction.{Instruction}
 use Rattle.machine.specs.Machine.{memory_of, State}
 use Rattle.machine.specs.Words.{state_of}
 use Rattle.view.specs.View.{map_found, place_at, place_as, held_at, view}
@@ -22,11 +22,11 @@ module _ (w cells : List ℕ) (i : Instruction) (x : ℕ) (p : Place) where
 
   -- what ld does where its address leads to p
   abbrev pub Loads : Type 0
-  Loads = (program : List ℕ) (y : ℕ) → execute ld (view program s) i x y ≡ on_found (Result i.dreg) (map_found (held_at s) (place_as p))
+  Loads = (program : List ℕ) (y : ℕ) → execute Ld (view program s) i x y ≡ on_found (Result i.dreg) (map_found (held_at s) (place_as p))
 
   -- what st does there
   abbrev pub Stores : Type 0
-  Stores = (program : List ℕ) (y : ℕ) → execute st (view program s) i x y ≡ on_found (stored ((view program s).source i.dreg)) (place_as p)
+  Stores = (program : List ℕ) (y : ℕ) → execute St (view program s) i x y ≡ on_found (stored ((view program s).source i.dreg)) (place_as p)
 
   -- it leads to p where the code finds p, at the sum of base and immediate
   module _ (q : Place) (t : q ≡ p) (address : ℤ) (fits : mag i.immediate < 2 ^ hbits w32) (wide : mag address < 2 ^ hbits w64)

@@ -4,7 +4,7 @@ use Prim.Native.Nat.{ℕ, ◌-◌, ◌≤◌, ◌<◌}
 use Rattle.isa.specs.Operation.{operation_of}
 use Rattle.isa.specs.Condition.{condition_of}
 use Rattle.isa.specs.Computed.{instructions}
-use Rattle.isa.specs.declared.Instruction.{Instruction}
+use Rattle.isa.specs.declared.instruction.Instruction.{Instruction}
 use Rattle.isa.proofs.Table.{values, agree}
 use Rattle.view.specs.View.{View}
 use Rattle.operation.specs.Execute.{branch, execute}

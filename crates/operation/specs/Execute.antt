@@ -6,11 +6,13 @@ use Rattle.word.specs.Word.{signed_of, word_of, is_address}
 use Rattle.word.specs.Arithmetic.{add_of, sub_of, cmp_of, product_of, short_product_of, half, signed_half, sll_of, srl_of, sra_of, sext_of, and_of, or_of, xor_of, not_of, join_of, piece_of, extract_of}
 use Rattle.word.specs.declared.Sum.{Sum}
 use Rattle.word.specs.declared.Product.{Product}
-use Rattle.isa.specs.Operation.{Operation, nop, add, addu, sub, subu, and, or, xor, muls, mulu, mulus, muls16, mulu16, mulus16, sll, srl, sra, sext, addi, addiu, andi, ori, muli, slli, srli, srai, sexti, ld, st, mov, not, mulhi, cmp, cmpi, lli, lui, jmp, jal, jmpr, jalr, bc, begt, belt, beq, bgt, blt, bne, bnc, scall, retu, reti, chrs, di, ei, swm, trap, scon, rcon, conb, conh, exb, exh, exbf, exbfi}
-use Rattle.isa.specs.Condition.{Condition, holds}
-use Rattle.isa.specs.Condition as condition
+use Rattle.isa.specs.declared.operation.Operation.{Operation}
+use Rattle.isa.specs.declared.operation.Operation.TheVariants.{Nop, Add, Addu, Sub, Subu, And, Or, Xor, Muls, Mulu, Mulus, Muls16, Mulu16, Mulus16, Sll, Srl, Sra, Sext, Addi, Addiu, Andi, Ori, Muli, Slli, Srli, Srai, Sexti, Ld, St, Mov, Not, Mulhi, Cmp, Cmpi, Lli, Lui, Jmp, Jal, Jmpr, Jalr, Bc, Begt, Belt, Beq, Bgt, Blt, Bne, Bnc, Scall, Retu, Reti, Chrs, Di, Ei, Swm, Trap, Scon, Rcon, Conb, Conh, Exb, Exh, Exbf, Exbfi}
+use Rattle.isa.specs.declared.condition.Condition.{Condition}
+use Rattle.isa.specs.Condition.{holds}
+use Rattle.isa.specs.declared.condition.Condition.TheVariants as condition
 use Rattle.isa.specs.Decode.{word_bytes}
-use Rattle.isa.specs.declared.Instruction.{Instruction}
+use Rattle.isa.specs.declared.instruction.Instruction.{Instruction}
 use Rattle.machine.specs.Machine.{width_of}
 use Rattle.view.specs.View.{Attempt, Found, Raises, Stops, Location, Block, Cell, View}
 use Rattle.effect.specs.Effect.{Effect, Stopped, Raised, Next, Result, ResultFlags, ResultProduct, Compare, Conditions, StoreControl, StoreCell, Jump, JumpLink, EnableInterrupts, SwitchWidth, SystemCall, InterruptReturn, UserReturn, SelectSets}
@@ -75,70 +77,70 @@ packed (c ∷ cs) = c % 8 + 8 * packed cs
 -- st and lui look at dreg: st in the set that registers are read from, lui in the one that they are written in
 
 unfoldable pub execute : Operation → View → Instruction → (x y : ℕ) → Effect
-execute nop v i x y = Next
-execute add v i x y = checked i.dreg (add_of x y)
-execute addu v i x y = wrapped i.dreg (add_of x y)
-execute sub v i x y = checked i.dreg (sub_of x y)
-execute subu v i x y = wrapped i.dreg (sub_of x y)
-execute and v i x y = Result i.dreg (and_of x y)
-execute or v i x y = Result i.dreg (or_of x y)
-execute xor v i x y = Result i.dreg (xor_of x y)
-execute muls v i x y = product i.dreg (product_of (signed_of 32 x) (signed_of 32 y))
-execute mulu v i x y = product i.dreg (product_of (pos x) (pos y))
-execute mulus v i x y = product i.dreg (product_of (pos x) (signed_of 32 y))
-execute muls16 v i x y = Result i.dreg (short_product_of (signed_half x) (signed_half y))
-execute mulu16 v i x y = Result i.dreg (short_product_of (half x) (half y))
-execute mulus16 v i x y = Result i.dreg (short_product_of (half x) (signed_half y))
-execute sll v i x y = Result i.dreg (sll_of x y)
-execute srl v i x y = Result i.dreg (srl_of x y)
-execute sra v i x y = Result i.dreg (sra_of x y)
-execute sext v i x y = Result i.dreg (sext_of x y)
-execute addi v i x y = checked i.dreg (add_of x (word_of 32 i.immediate))
-execute addiu v i x y = wrapped i.dreg (add_of x (word_of 32 i.immediate))
-execute andi v i x y = Result i.dreg (and_of x (word_of 32 i.immediate))
-execute ori v i x y = Result i.dreg (or_of x (word_of 32 i.immediate))
-execute muli v i x y = product i.dreg (product_of (signed_of 32 x) i.immediate)
-execute slli v i x y = Result i.dreg (sll_of x (word_of 32 i.immediate))
-execute srli v i x y = Result i.dreg (srl_of x (word_of 32 i.immediate))
-execute srai v i x y = Result i.dreg (sra_of x (word_of 32 i.immediate))
-execute sexti v i x y = Result i.dreg (sext_of x (word_of 32 i.immediate))
-execute ld v i x y = on_found (Result i.dreg) (v.load (pos x +ℤ i.immediate))
-execute st v i x y = on_found (stored (v.source i.dreg)) (v.place (pos x +ℤ i.immediate))
-execute mov v i x y = Result i.dreg x
-execute not v i x y = Result i.dreg (not_of x)
-execute mulhi v i x y = choose eqb v.position.held 1 then Result i.dreg v.position.high else Stopped 14
-execute cmp v i x y = Compare i.creg (cmp_of x y)
-execute cmpi v i x y = Compare i.creg (cmp_of x (word_of 32 i.immediate))
-execute lli v i x y = Result i.dreg (word_of 16 i.immediate)
-execute lui v i x y = Result i.dreg (word_of 16 i.immediate * 2 ^ 16 + v.target i.dreg % 2 ^ 16)
-execute jmp v i x y = jumped v (target_by v i.immediate) Jump
-execute jal v i x y = jumped v (target_by v i.immediate) JumpLink
-execute jmpr v i x y = jumped v (pos x) Jump
-execute jalr v i x y = jumped v (pos x) JumpLink
-execute bc v i x y = branch condition.c v i
-execute begt v i x y = branch condition.egt v i
-execute belt v i x y = branch condition.elt v i
-execute beq v i x y = branch condition.eq v i
-execute bgt v i x y = branch condition.gt v i
-execute blt v i x y = branch condition.lt v i
-execute bne v i x y = branch condition.ne v i
-execute bnc v i x y = branch condition.nc v i
-execute scall v i x y = SystemCall
-execute retu v i x y = UserReturn
-execute reti v i x y = choose v.nested then InterruptReturn else Stopped 15
-execute chrs v i x y = SelectSets (word_of 2 i.immediate)
-execute di v i x y = EnableInterrupts false
-execute ei v i x y = EnableInterrupts true
-execute swm v i x y = SwitchWidth (eqb (word_of 1 i.immediate) 1)
-execute trap v i x y = Raised (224 + word_of 5 i.immediate)
-execute scon v i x y = Result i.dreg (packed v.conditions)
-execute rcon v i x y = Conditions x
-execute conb v i x y = Result i.dreg (join_of 8 x y)
-execute conh v i x y = Result i.dreg (join_of 16 x y)
-execute exb v i x y = Result i.dreg (piece_of 8 x (word_of 2 i.immediate))
-execute exh v i x y = Result i.dreg (piece_of 16 x (word_of 1 i.immediate))
-execute exbf v i x y = Result i.dreg (extract_of x y)
-execute exbfi v i x y = Result i.dreg (extract_of x (word_of 32 i.immediate))
+execute Nop v i x y = Next
+execute Add v i x y = checked i.dreg (add_of x y)
+execute Addu v i x y = wrapped i.dreg (add_of x y)
+execute Sub v i x y = checked i.dreg (sub_of x y)
+execute Subu v i x y = wrapped i.dreg (sub_of x y)
+execute And v i x y = Result i.dreg (and_of x y)
+execute Or v i x y = Result i.dreg (or_of x y)
+execute Xor v i x y = Result i.dreg (xor_of x y)
+execute Muls v i x y = product i.dreg (product_of (signed_of 32 x) (signed_of 32 y))
+execute Mulu v i x y = product i.dreg (product_of (pos x) (pos y))
+execute Mulus v i x y = product i.dreg (product_of (pos x) (signed_of 32 y))
+execute Muls16 v i x y = Result i.dreg (short_product_of (signed_half x) (signed_half y))
+execute Mulu16 v i x y = Result i.dreg (short_product_of (half x) (half y))
+execute Mulus16 v i x y = Result i.dreg (short_product_of (half x) (signed_half y))
+execute Sll v i x y = Result i.dreg (sll_of x y)
+execute Srl v i x y = Result i.dreg (srl_of x y)
+execute Sra v i x y = Result i.dreg (sra_of x y)
+execute Sext v i x y = Result i.dreg (sext_of x y)
+execute Addi v i x y = checked i.dreg (add_of x (word_of 32 i.immediate))
+execute Addiu v i x y = wrapped i.dreg (add_of x (word_of 32 i.immediate))
+execute Andi v i x y = Result i.dreg (and_of x (word_of 32 i.immediate))
+execute Ori v i x y = Result i.dreg (or_of x (word_of 32 i.immediate))
+execute Muli v i x y = product i.dreg (product_of (signed_of 32 x) i.immediate)
+execute Slli v i x y = Result i.dreg (sll_of x (word_of 32 i.immediate))
+execute Srli v i x y = Result i.dreg (srl_of x (word_of 32 i.immediate))
+execute Srai v i x y = Result i.dreg (sra_of x (word_of 32 i.immediate))
+execute Sexti v i x y = Result i.dreg (sext_of x (word_of 32 i.immediate))
+execute Ld v i x y = on_found (Result i.dreg) (v.load (pos x +ℤ i.immediate))
+execute St v i x y = on_found (stored (v.source i.dreg)) (v.place (pos x +ℤ i.immediate))
+execute Mov v i x y = Result i.dreg x
+execute Not v i x y = Result i.dreg (not_of x)
+execute Mulhi v i x y = choose eqb v.position.held 1 then Result i.dreg v.position.high else Stopped 14
+execute Cmp v i x y = Compare i.creg (cmp_of x y)
+execute Cmpi v i x y = Compare i.creg (cmp_of x (word_of 32 i.immediate))
+execute Lli v i x y = Result i.dreg (word_of 16 i.immediate)
+execute Lui v i x y = Result i.dreg (word_of 16 i.immediate * 2 ^ 16 + v.target i.dreg % 2 ^ 16)
+execute Jmp v i x y = jumped v (target_by v i.immediate) Jump
+execute Jal v i x y = jumped v (target_by v i.immediate) JumpLink
+execute Jmpr v i x y = jumped v (pos x) Jump
+execute Jalr v i x y = jumped v (pos x) JumpLink
+execute Bc v i x y = branch condition.Carry v i
+execute Begt v i x y = branch condition.EqualOrGreater v i
+execute Belt v i x y = branch condition.EqualOrLess v i
+execute Beq v i x y = branch condition.Equal v i
+execute Bgt v i x y = branch condition.Greater v i
+execute Blt v i x y = branch condition.Less v i
+execute Bne v i x y = branch condition.NotEqual v i
+execute Bnc v i x y = branch condition.NoCarry v i
+execute Scall v i x y = SystemCall
+execute Retu v i x y = UserReturn
+execute Reti v i x y = choose v.nested then InterruptReturn else Stopped 15
+execute Chrs v i x y = SelectSets (word_of 2 i.immediate)
+execute Di v i x y = EnableInterrupts false
+execute Ei v i x y = EnableInterrupts true
+execute Swm v i x y = SwitchWidth (eqb (word_of 1 i.immediate) 1)
+execute Trap v i x y = Raised (224 + word_of 5 i.immediate)
+execute Scon v i x y = Result i.dreg (packed v.conditions)
+execute Rcon v i x y = Conditions x
+execute Conb v i x y = Result i.dreg (join_of 8 x y)
+execute Conh v i x y = Result i.dreg (join_of 16 x y)
+execute Exb v i x y = Result i.dreg (piece_of 8 x (word_of 2 i.immediate))
+execute Exh v i x y = Result i.dreg (piece_of 16 x (word_of 1 i.immediate))
+execute Exbf v i x y = Result i.dreg (extract_of x y)
+execute Exbfi v i x y = Result i.dreg (extract_of x (word_of 32 i.immediate))
 
 -- to unfold all of these
 unfoldable pub executing : Unit {0}

@@ -1,6 +1,6 @@
 // Loads and stores: on the control block, a cell, or neither.
 ghost use Rattle.std.specs.Prelude.{ℕ, ◌<◌};
-ghost use Rattle.isa.specs.Operation.{ld, st};
+ghost use Rattle.isa.specs.declared.operation.Operation.TheVariants.{Ld, St};
 ghost use Rattle.machine.specs.Stack.{StackShown};
 ghost use Rattle.machine.specs.Words.{MachineWords, machine_of};
 ghost use Rattle.operation.specs.Execute.{execute};
@@ -12,10 +12,10 @@ use view::Place;
 // The stop where there is neither block nor cell.
 const NO_DATA: u32 = 12;
 
-// Operation 27, ld: the register takes what is there. No cell changes.
+// Operation 27, Ld: the register takes what is there. No cell changes.
 pub fn load(w: &mut [u32], cells: &[u32], i: Instruction, x: u32) -> u32
     requires { MachineWords w.old × (i.dreg < 32) }
-    ensures { (y : ℕ) → PerformsStoring (λ v. execute ld v i x y) result w.old cells.now w.new cells.now }
+    ensures { (y : ℕ) → PerformsStoring (λ v. execute Ld v i x y) result w.old cells.now w.new cells.now }
 {
     let d = i.dreg;
     let address = word::offset_by(x, i.immediate);
@@ -31,10 +31,10 @@ pub fn load(w: &mut [u32], cells: &[u32], i: Instruction, x: u32) -> u32
     }
 }
 
-// Operation 28, st: the control register or the cell takes the register's value.
+// Operation 28, St: the control register or the cell takes the register's value.
 pub fn store(w: &mut [u32], cells: &mut [u32], i: Instruction, x: u32) -> u32
     requires { MachineWords w.old × StackShown (machine_of w.old) × (i.dreg < 32) }
-    ensures { (y : ℕ) → PerformsStoring (λ v. execute st v i x y) result w.old cells.old w.new cells.new }
+    ensures { (y : ℕ) → PerformsStoring (λ v. execute St v i x y) result w.old cells.old w.new cells.new }
 {
     let d = i.dreg;
     let address = word::offset_by(x, i.immediate);

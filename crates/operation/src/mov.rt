@@ -1,7 +1,8 @@
-// Operations that move a value: mov, not, mulhi, cmp, cmpi, lli, lui.
+// Operations that move a value: mov, not, Mulhi, cmp, cmpi, lli, lui.
 ghost use Rattle.std.specs.Prelude.{ℕ, ◌+◌, ◌*◌, ◌%◌, ◌^◌, ◌≤◌, ◌<◌};
 ghost use Rattle.word.specs.Word.{word_of};
-ghost use Rattle.isa.specs.Operation.{operation_of, mulhi};
+ghost use Rattle.isa.specs.declared.operation.Operation.TheVariants.{Mulhi};
+ghost use Rattle.isa.specs.Operation.{operation_of};
 ghost use Rattle.machine.specs.Words.{MachineWords};
 ghost use Rattle.view.specs.View.{Shows};
 ghost use Rattle.operation.specs.Execute.{execute};
@@ -14,7 +15,7 @@ use isa::Instruction;
 // The high half of a held product, or stop 14.
 fn high_half(w: &mut [u32], i: Instruction) -> u32
     requires { MachineWords w.old }
-    ensures { (x y : ℕ) → PerformsSeen (λ v. execute mulhi v i x y) result w.old w.new }
+    ensures { (x y : ℕ) → PerformsSeen (λ v. execute Mulhi v i x y) result w.old w.new }
 {
     if machine::held(w) == 1 {
         let high = machine::high(w);

@@ -1,6 +1,7 @@
 // Operations on the machine's status: calls and returns, modes, all condition registers at once.
 ghost use Rattle.std.specs.Prelude.{◌≡◌, ℕ, ◌≤◌};
-ghost use Rattle.isa.specs.Operation.{operation_of, reti};
+ghost use Rattle.isa.specs.declared.operation.Operation.TheVariants.{Reti};
+ghost use Rattle.isa.specs.Operation.{operation_of};
 ghost use Rattle.machine.specs.Words.{MachineWords, machine_of};
 ghost use Rattle.operation.specs.Execute.{packed, execute};
 ghost use Rattle.machine.specs.Stack.{StackShown};
@@ -26,7 +27,7 @@ fn packed(w: &[u32]) -> u32
 // Back from the interrupt in service, or stop 15.
 fn interrupt_return(w: &mut [u32], i: Instruction) -> u32
     requires { MachineWords w.old × StackShown (machine_of w.old) }
-    ensures { (x y : ℕ) → PerformsSeen (λ v. execute reti v i x y) result w.old w.new }
+    ensures { (x y : ℕ) → PerformsSeen (λ v. execute Reti v i x y) result w.old w.new }
 {
     if machine::depth(w) == 0 {
         15

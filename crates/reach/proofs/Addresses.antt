@@ -9,9 +9,10 @@ use lib.IntN.{ℤ, pos, ◌+ℤ◌, ◌*ℤ◌}
 use mir.Syntax.{w64}
 use mir.Val.{to_z}
 use mir.Facts.{to_z_pos}
-use Rattle.isa.specs.Operation.{operation_of, Width, properties}
+use Rattle.isa.specs.declared.width.Width.{Width}
+use Rattle.isa.specs.Operation.{operation_of, properties}
 use Rattle.isa.specs.Decode.{word_bytes}
-use Rattle.isa.specs.declared.Instruction.{Instruction}
+use Rattle.isa.specs.declared.instruction.Instruction.{Instruction}
 use Rattle.isa.proofs.Decoded.{bytes_most}
 use Rattle.machine.specs.Machine.{MOST_MEMORY}
 use Rattle.reach.specs.Successors.{falls_through, has_target, resume_words, keeps_width, given, next_of, target_of, resumption_of}

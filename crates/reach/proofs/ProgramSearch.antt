@@ -7,7 +7,7 @@ use Prim.Native.Nat.{ℕ, ◌+◌, ◌-◌, ◌≤◌, ◌<◌}
 use native.Mathlib.Nat.{sub-zero}
 use native.Mathlib.Omega.{arith}
 use lib.ListN.{length, get_or, replicate}
-use Rattle.isa.specs.Operation.{Width}
+use Rattle.isa.specs.declared.width.Width.{Width}
 use Rattle.isa.specs.Decode.{word_bytes}
 use Rattle.reach.specs.Successors.{is_word, successors}
 use Rattle.reach.specs.Reachable.{Among, InFull}

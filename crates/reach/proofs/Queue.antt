@@ -15,9 +15,9 @@ use Rattle.word.specs.Choice.{choose◌then◌else◌}
 use Rattle.word.specs.Word.{word_of, is_address}
 use Rattle.word.proofs.Tests.{either, and_parts}
 use Rattle.word.proofs.Integers.{address_word}
-use Rattle.isa.specs.Operation.{Width}
+use Rattle.isa.specs.declared.width.Width.{Width}
 use Rattle.isa.specs.Decode.{word_at, decode}
-use Rattle.isa.specs.declared.Instruction.{Instruction}
+use Rattle.isa.specs.declared.instruction.Instruction.{Instruction}
 use Rattle.machine.specs.Machine.{MOST_MEMORY}
 use Rattle.reach.specs.Successors.{is_word, words_among, given, next_of, target_of, resumption_of, successors}
 use Rattle.reach.specs.Search.{Search, visit, visit_all, follow, search_by}

@@ -12,7 +12,7 @@ use borrow.Author.Tests.{leb-true, leb-false, lt-leb, ne_eqb}
 use Rattle.word.proofs.Tests.{either}
 use Rattle.codec.specs.Number.{over}
 use Rattle.codec.proofs.Laws.{length_over}
-use Rattle.isa.specs.Operation.{Width}
+use Rattle.isa.specs.declared.width.Width.{Width}
 use Rattle.isa.specs.Decode.{word_bytes}
 use Rattle.machine.specs.Machine.{MOST_MEMORY}
 use Rattle.reach.specs.Successors.{is_word, successors, slots}

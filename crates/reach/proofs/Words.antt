@@ -11,7 +11,7 @@ use lib.ListN.{length}
 use borrow.Author.Tests.{eqb-true, leb-true, lt-leb, eq-eqb, le-leb}
 use Rattle.word.specs.Choice.{choose◌then◌else◌}
 use Rattle.word.proofs.Tests.{and_parts, and_both}
-use Rattle.isa.specs.Operation.{Width}
+use Rattle.isa.specs.declared.width.Width.{Width}
 use Rattle.isa.specs.Decode.{word_bytes}
 use Rattle.isa.proofs.Decoded.{bytes_positive}
 use Rattle.reach.specs.Successors.{is_word, words_among, successors, next_addresses, slots}

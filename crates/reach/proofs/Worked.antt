@@ -4,7 +4,8 @@ use mathlib.Core.List.{List, [], ◌∷◌, ◌++◌, map}
 use Prim.Native.Nat.{ℕ, ◌+◌, ◌-◌}
 use lib.ListN.{length, replicate}
 use Rattle.codec.specs.Number.{bytes_of}
-use Rattle.isa.specs.Operation.{Width, w16, w32}
+use Rattle.isa.specs.declared.width.Width.{Width}
+use Rattle.isa.specs.declared.width.Width.TheVariants.{Narrow, Wide}
 use Rattle.isa.specs.Decode.{word_bytes}
 use Rattle.reach.specs.Call.{Mapped, mapped, reach_call}
 use Rattle.reach.specs.Computed.{reaching}
@@ -60,17 +61,17 @@ targets = bytes_of (0xA000_0001 ∷ 0xA03F_FFFA ∷ 0xA000_0006 ∷ 0x9400_0006 
 
 unfoldable cases : List Case
 cases =
-    record { width = w32; program = slots_only; start = 0; marks = 1 ∷ 1 ∷ 0 ∷ 0 ∷ 1 ∷ 1 ∷ 1 ∷ 1 ∷ 1 ∷ 0 ∷ [] } ∷
-    record { width = w32; program = slots_only; start = 0x24; marks = 0 ∷ 0 ∷ 0 ∷ 0 ∷ 0 ∷ 0 ∷ 0 ∷ 0 ∷ 0 ∷ 1 ∷ [] } ∷
-    record { width = w32; program = every; start = 0; marks = 1 ∷ 1 ∷ 1 ∷ 1 ∷ 1 ∷ 1 ∷ 1 ∷ 1 ∷ 1 ∷ 1 ∷ 1 ∷ 1 ∷ 0 ∷ 0 ∷ [] } ∷
-    record { width = w32; program = every; start = 0x30; marks = 0 ∷ 0 ∷ 0 ∷ 0 ∷ 0 ∷ 0 ∷ 0 ∷ 0 ∷ 0 ∷ 0 ∷ 0 ∷ 0 ∷ 1 ∷ 0 ∷ [] } ∷
-    record { width = w16; program = narrow; start = 0; marks = 1 ∷ 1 ∷ 1 ∷ 1 ∷ 1 ∷ 1 ∷ 0 ∷ [] } ∷
-    record { width = w16; program = narrow; start = 0x0C; marks = 0 ∷ 0 ∷ 0 ∷ 0 ∷ 0 ∷ 0 ∷ 1 ∷ [] } ∷
-    record { width = w32; program = conditional; start = 0; marks = 1 ∷ 1 ∷ 1 ∷ 1 ∷ 1 ∷ 1 ∷ 0 ∷ 0 ∷ 0 ∷ 0 ∷ [] } ∷
-    record { width = w32; program = conditional; start = 0x18; marks = 0 ∷ 0 ∷ 0 ∷ 0 ∷ 0 ∷ 0 ∷ 1 ∷ 1 ∷ 1 ∷ 0 ∷ [] } ∷
-    record { width = w16; program = narrow_switch; start = 0; marks = 1 ∷ 1 ∷ 1 ∷ 1 ∷ 1 ∷ 1 ∷ 1 ∷ 0 ∷ [] } ∷
-    record { width = w32; program = targets; start = 0; marks = 1 ∷ 1 ∷ 1 ∷ 1 ∷ 1 ∷ 1 ∷ 1 ∷ [] } ∷
-    record { width = w32; program = targets; start = 0x14; marks = 0 ∷ 0 ∷ 0 ∷ 0 ∷ 0 ∷ 1 ∷ 1 ∷ [] } ∷
+    record { width = Wide; program = slots_only; start = 0; marks = 1 ∷ 1 ∷ 0 ∷ 0 ∷ 1 ∷ 1 ∷ 1 ∷ 1 ∷ 1 ∷ 0 ∷ [] } ∷
+    record { width = Wide; program = slots_only; start = 0x24; marks = 0 ∷ 0 ∷ 0 ∷ 0 ∷ 0 ∷ 0 ∷ 0 ∷ 0 ∷ 0 ∷ 1 ∷ [] } ∷
+    record { width = Wide; program = every; start = 0; marks = 1 ∷ 1 ∷ 1 ∷ 1 ∷ 1 ∷ 1 ∷ 1 ∷ 1 ∷ 1 ∷ 1 ∷ 1 ∷ 1 ∷ 0 ∷ 0 ∷ [] } ∷
+    record { width = Wide; program = every; start = 0x30; marks = 0 ∷ 0 ∷ 0 ∷ 0 ∷ 0 ∷ 0 ∷ 0 ∷ 0 ∷ 0 ∷ 0 ∷ 0 ∷ 0 ∷ 1 ∷ 0 ∷ [] } ∷
+    record { width = Narrow; program = narrow; start = 0; marks = 1 ∷ 1 ∷ 1 ∷ 1 ∷ 1 ∷ 1 ∷ 0 ∷ [] } ∷
+    record { width = Narrow; program = narrow; start = 0x0C; marks = 0 ∷ 0 ∷ 0 ∷ 0 ∷ 0 ∷ 0 ∷ 1 ∷ [] } ∷
+    record { width = Wide; program = conditional; start = 0; marks = 1 ∷ 1 ∷ 1 ∷ 1 ∷ 1 ∷ 1 ∷ 0 ∷ 0 ∷ 0 ∷ 0 ∷ [] } ∷
+    record { width = Wide; program = conditional; start = 0x18; marks = 0 ∷ 0 ∷ 0 ∷ 0 ∷ 0 ∷ 0 ∷ 1 ∷ 1 ∷ 1 ∷ 0 ∷ [] } ∷
+    record { width = Narrow; program = narrow_switch; start = 0; marks = 1 ∷ 1 ∷ 1 ∷ 1 ∷ 1 ∷ 1 ∷ 1 ∷ 0 ∷ [] } ∷
+    record { width = Wide; program = targets; start = 0; marks = 1 ∷ 1 ∷ 1 ∷ 1 ∷ 1 ∷ 1 ∷ 1 ∷ [] } ∷
+    record { width = Wide; program = targets; start = 0x14; marks = 0 ∷ 0 ∷ 0 ∷ 0 ∷ 0 ∷ 1 ∷ 1 ∷ [] } ∷
     []
 
 worked : map called cases ≡ map expected cases
@@ -78,6 +79,6 @@ unfolding reaching bytes_of called spread rest expected slots_only every narrow 
 worked = refl
 
 -- start 2 in 32-bit words: 28 where the map is one byte short, else 27
-worked_refused : (reach_call w32 slots_only 2 (replicate 39 7) ≡ mapped 28 (replicate 39 7)) × (reach_call w32 slots_only 2 (replicate 40 7) ≡ mapped 27 (replicate 40 7))
+worked_refused : (reach_call Wide slots_only 2 (replicate 39 7) ≡ mapped 28 (replicate 39 7)) × (reach_call Wide slots_only 2 (replicate 40 7) ≡ mapped 27 (replicate 40 7))
 unfolding reaching bytes_of slots_only
 worked_refused = (refl, refl)

@@ -2,7 +2,7 @@
 use Rattle.std.specs.Prelude.{not, List, ℕ, leb, length}
 use Rattle.word.specs.Choice.{choose◌then◌else◌}
 use Rattle.codec.specs.Number.{over}
-use Rattle.isa.specs.Operation.{Width}
+use Rattle.isa.specs.declared.width.Width.{Width}
 use Rattle.machine.specs.Machine.{MOST_MEMORY}
 use Rattle.reach.specs.Successors.{is_word, successors, slots}
 use Rattle.reach.specs.Search.{searched, with_slots}

@@ -1,6 +1,6 @@
 -- The words that can be reached (02 wish 13): what a reader has to believe of them, whatever way they are found. Assumes nothing.
 use Rattle.std.specs.Prelude.{◌≡◌, ◌⊎◌, List, [], ◌∷◌, ℕ}
-use Rattle.isa.specs.Operation.{Width}
+use Rattle.isa.specs.declared.width.Width.{Width}
 use Rattle.reach.specs.Successors.{successors, slots}
 
 -- b is an element of a list; a type, so that what is reached can be one

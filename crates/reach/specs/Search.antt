@@ -1,7 +1,7 @@
 -- A search that finds what is reached in full, and a pass that adds the slots. Assumes nothing.
 use Rattle.std.specs.Prelude.{◌≡◌, true, List, [], ◌∷◌, ◌++◌, ℕ, zero, suc, ltb, eqb, length, get_or, set, replicate, take}
 use Rattle.word.specs.Choice.{choose◌then◌else◌}
-use Rattle.isa.specs.Operation.{Width}
+use Rattle.isa.specs.declared.width.Width.{Width}
 use Rattle.reach.specs.Successors.{is_word}
 
 -- ---- what is reached in full

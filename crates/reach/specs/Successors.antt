@@ -2,9 +2,11 @@
 use Rattle.std.specs.Prelude.{Bool, true, false, not, ◌&&◌, List, [], ◌∷◌, ◌++◌, ℕ, zero, suc, ◌+◌, ◌*◌, ◌%◌, leb, eqb, ℤ, pos, negsuc, ◌+ℤ◌, ◌*ℤ◌, length}
 use Rattle.word.specs.Choice.{choose◌then◌else◌}
 use Rattle.word.specs.Word.{word_of}
-use Rattle.isa.specs.Operation.{operation_of, Width, w16, w32, Flow, Straight, ImmediateJump, ImmediateLink, RegisterJump, RegisterLink, ConditionalBranch, SystemCall, UserReturn, InterruptReturn, WidthSwitch, Trap, properties}
+use Rattle.isa.specs.declared.width.Width.{Width}
+use Rattle.isa.specs.declared.width.Width.TheVariants.{Narrow, Wide}
+use Rattle.isa.specs.Operation.{operation_of, Flow, Straight, ImmediateJump, ImmediateLink, RegisterJump, RegisterLink, ConditionalBranch, SystemCall, UserReturn, InterruptReturn, WidthSwitch, TrapCall, properties}
 use Rattle.isa.specs.Decode.{word_bytes, word_at, decode}
-use Rattle.isa.specs.declared.Instruction.{Instruction}
+use Rattle.isa.specs.declared.instruction.Instruction.{Instruction}
 
 -- ---- words
 
@@ -32,7 +34,7 @@ falls_through SystemCall conditional = conditional
 falls_through UserReturn conditional = false
 falls_through InterruptReturn conditional = false
 falls_through WidthSwitch conditional = false
-falls_through Trap conditional = false
+falls_through TrapCall conditional = false
 
 -- "jmp, jal and branches to their target"; "Operands in registers are not followed"
 unfoldable pub has_target : Flow → Bool
@@ -46,7 +48,7 @@ has_target SystemCall = false
 has_target UserReturn = false
 has_target InterruptReturn = false
 has_target WidthSwitch = false
-has_target Trap = false
+has_target TrapCall = false
 
 -- how many words on a call returns, or a swm goes on, 0 for nowhere: "jal and jalr to the word after the slot; scall to the word after its nop, a
 -- swm that keeps the width to the word three later"
@@ -61,7 +63,7 @@ resume_words SystemCall keeps_width = 2
 resume_words UserReturn keeps_width = 0
 resume_words InterruptReturn keeps_width = 0
 resume_words WidthSwitch keeps_width = choose keeps_width then 3 else 0
-resume_words Trap keeps_width = 0
+resume_words TrapCall keeps_width = 0
 
 -- how many of the next words are slots: "Jumps 36 to 39 lead to their slot as a slot"; "scall and retu to the next word, swm to the next two, reti
 -- to the next three, as slots", which are the nops that must follow these four
@@ -76,14 +78,14 @@ slot_words SystemCall nops = nops
 slot_words UserReturn nops = nops
 slot_words InterruptReturn nops = nops
 slot_words WidthSwitch nops = nops
-slot_words Trap nops = 0
+slot_words TrapCall nops = 0
 
 -- ---- by a word
 
 -- a swm with this immediate keeps the width: its bit 0 is IL (01), 1 for 32-bit words
 unfoldable pub keeps_width : Width → (immediate : ℤ) → Bool
-keeps_width w16 n = not (eqb (word_of 1 n) 1)
-keeps_width w32 n = eqb (word_of 1 n) 1
+keeps_width Narrow n = not (eqb (word_of 1 n) 1)
+keeps_width Wide n = eqb (word_of 1 n) 1
 
 -- an address, where there is one
 unfoldable pub given : Bool → ℤ → List ℤ

@@ -1,7 +1,8 @@
 -- What is proved of reachable code: the statements, each with the sentence of 02 wish 13 that it says. Assumes nothing.
 use Rattle.std.specs.Prelude.{◌≡◌, ◌≢◌, ◌↔◌, Bool, not, ◌&&◌, ◌||◌, List, ℕ, ◌+◌, ◌%◌, ◌≤◌, ◌<◌, eqb, length, get_or, drop}
 use Rattle.word.specs.Choice.{choose◌then◌else◌}
-use Rattle.isa.specs.Operation.{operation_of, Width, properties}
+use Rattle.isa.specs.declared.width.Width.{Width}
+use Rattle.isa.specs.Operation.{operation_of, properties}
 use Rattle.isa.specs.Theorems.{between}
 use Rattle.isa.specs.Decode.{word_bytes}
 use Rattle.machine.specs.Machine.{MOST_MEMORY}

@@ -5,7 +5,9 @@ use Rattle.word.specs.Choice.{choose◌then◌else◌}
 use Rattle.word.specs.Word.{bit_at, field_of}
 use Rattle.word.specs.Arithmetic.{or_of}
 use Rattle.word.specs.Flags.{without_flag}
-use Rattle.isa.specs.Operation.{mulhi, properties, Width}
+use Rattle.isa.specs.declared.width.Width.{Width}
+use Rattle.isa.specs.declared.operation.Operation.TheVariants.{Mulhi}
+use Rattle.isa.specs.Operation.{properties}
 use Rattle.isa.specs.Decode.{opcode_of}
 use Rattle.machine.specs.Machine.{Machine, State, psr, interrupts_enabled, width_of, status_of, position_at, with_position, with_psr}
 use Rattle.machine.specs.Control.{control_at, with_pending, INT_VECTORS, INT_MODE_IL, INT_MODE_UM, INT_MASK, INT_PEND, EXT_INT_PRI, COP_INT_PRI}
@@ -54,7 +56,7 @@ candidate m (suc k) =
 
 -- the next word, with no 05h, 00h or stop 11 for it, is mulhi
 unfoldable pub is_mulhi : Width → Attempt ℕ → Bool
-is_mulhi width (Found w) = eqb (opcode_of width w) (properties mulhi).number
+is_mulhi width (Found w) = eqb (opcode_of width w) (properties Mulhi).number
 is_mulhi width (Raises c) = false
 is_mulhi width (Stops n) = false
 

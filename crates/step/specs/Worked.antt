@@ -1,7 +1,9 @@
 -- The worked examples of 01 that are marked *, and those of 02's wish 3, as a table: one step from a start, what is shown of it, and what that
 -- must be; a change of task, of 02's wish 6; and a table of the nops of 02's wish 8. Assumes nothing.
 use Rattle.std.specs.Prelude.{◌≡◌, List, [], ◌∷◌, ◌++◌, map, ℕ, zero, suc, ◌+◌, ◌*◌, ◌^◌, get_or, set, replicate}
-use Rattle.isa.specs.Operation.{Operation, add, sub, subu, muls, mulu, mulus, ld, jmp, properties}
+use Rattle.isa.specs.declared.operation.Operation.{Operation}
+use Rattle.isa.specs.declared.operation.Operation.TheVariants.{Add, Sub, Subu, Muls, Mulu, Mulus, Ld, Jmp}
+use Rattle.isa.specs.Operation.{properties}
 use Rattle.machine.specs.Machine.{Machine, memory_of, State, PSR, LINK, psr, position_at, with_set2}
 use Rattle.machine.specs.Words.{ZEROS}
 use Rattle.machine.specs.declared.Entry.{Entry}
@@ -65,12 +67,12 @@ product op x y expected =
 -- jmp n at 0: the slot's flag and the target
 abbrev jump : ℕ → Kind → List ℕ → Case
 jump n kind expected =
-    wide (word ((properties jmp).number * 2 ^ 26 + n)) 0 0 (λ s. s.machine.position.slot ∷ s.machine.position.target ∷ []) kind expected
+    wide (word ((properties Jmp).number * 2 ^ 26 + n)) 0 0 (λ s. s.machine.position.slot ∷ s.machine.position.target ∷ []) kind expected
 
 -- ld R3, R1, 0: R3
 abbrev load : ℕ → Kind → List ℕ → Case
 load a kind expected =
-    wide (word ((properties ld).number * 2 ^ 26 + 3 * 2 ^ 10 + 1 * 2 ^ 5)) a 0 (λ s. get_or s.machine.set1 3 0 ∷ []) kind expected
+    wide (word ((properties Ld).number * 2 ^ 26 + 3 * 2 ^ 10 + 1 * 2 ^ 5)) a 0 (λ s. get_or s.machine.set1 3 0 ∷ []) kind expected
 
 -- a load or store of R3 that is an exception: EXCEPTION_CS, _PC and _PSR, R3 and the cells
 abbrev refused : (psr high w x code : ℕ) → Case
@@ -103,15 +105,15 @@ wrapped_cases =
 unfoldable pub cases : List Case
 cases =
     -- "add 7FFFFFFFh + 0 passes; + 1 is 06h, C0 untouched"
-    sum add 0x7FFF_FFFF 0 Ordinary (0x7FFF_FFFF ∷ 0 ∷ []) ∷
-    sum add 0x7FFF_FFFF 1 (Exception 0x06) (0 ∷ 5 ∷ []) ∷
+    sum Add 0x7FFF_FFFF 0 Ordinary (0x7FFF_FFFF ∷ 0 ∷ []) ∷
+    sum Add 0x7FFF_FFFF 1 (Exception 0x06) (0 ∷ 5 ∷ []) ∷
     -- "sub 80000000h − 1 is 06h; subu gives 7FFFFFFFh"
-    sum sub 0x8000_0000 1 (Exception 0x06) (0 ∷ 5 ∷ []) ∷
-    sum subu 0x8000_0000 1 Ordinary (0x7FFF_FFFF ∷ 1 ∷ []) ∷
+    sum Sub 0x8000_0000 1 (Exception 0x06) (0 ∷ 5 ∷ []) ∷
+    sum Subu 0x8000_0000 1 Ordinary (0x7FFF_FFFF ∷ 1 ∷ []) ∷
     -- "mulu FFFFFFFFh by itself: low 1, high FFFFFFFEh; mulus: low 1, high FFFFFFFFh; muls: 1, 0"
-    product mulu 0xFFFF_FFFF 0xFFFF_FFFF (1 ∷ 0xFFFF_FFFE ∷ []) ∷
-    product mulus 0xFFFF_FFFF 0xFFFF_FFFF (1 ∷ 0xFFFF_FFFF ∷ []) ∷
-    product muls 0xFFFF_FFFF 0xFFFF_FFFF (1 ∷ 0 ∷ []) ∷
+    product Mulu 0xFFFF_FFFF 0xFFFF_FFFF (1 ∷ 0xFFFF_FFFE ∷ []) ∷
+    product Mulus 0xFFFF_FFFF 0xFFFF_FFFF (1 ∷ 0xFFFF_FFFF ∷ []) ∷
+    product Muls 0xFFFF_FFFF 0xFFFF_FFFF (1 ∷ 0 ∷ []) ∷
     -- "0C11h: R25 becomes R26 − R25", a 16-bit word
     record { psr = 0x01; high = 0x13; program = 0x0C ∷ 0x11 ∷ []; r1 = 0; r2 = 0; r25 = 3; r26 = 10; shown = λ s. get_or s.machine.set1 25 0 ∷ []; kind = Ordinary; expected = 7 ∷ [] } ∷
     -- "at 0, jmp 1 is 03h, jmp 2 goes to 8"

@@ -12,7 +12,9 @@ use lib.ListN.{length, get_or, get_elem?}
 use borrow.Author.Tests.{leb-true, leb-false, le-leb, lt-leb, ltb-true, ltb-false, eqb-true, eqb-false, eq-eqb, ne_eqb}
 use Rattle.word.specs.Choice.{choose◌then◌else◌}
 use Rattle.word.proofs.Tests.{either, and_parts, both_bounds, false_unless, if_holds}
-use Rattle.isa.specs.Operation.{Width, w16, w32, width_by}
+use Rattle.isa.specs.declared.width.Width.{Width}
+use Rattle.isa.specs.declared.width.Width.TheVariants.{Narrow, Wide}
+use Rattle.isa.specs.Operation.{width_by}
 use Rattle.isa.specs.Decode.{word_bytes, word_at}
 use Rattle.machine.specs.Control.{within}
 use Rattle.view.specs.Theorems.{FetchedWord}
@@ -134,8 +136,8 @@ fetched_inside program low high user n pc w p e =
 -- the word whose bytes are there is that of `word_at`
 pub fetched_word : FetchedWord
 unfolding word_bytes word_at bytes_from
-fetched_word w16 program a h = rw (bytes_there program 2 a 0 h) (simp (zero-mul, zero-add, towards_suc))
-fetched_word w32 program a h = rw (bytes_there program 4 a 0 h) (simp (zero-mul, zero-add, towards_suc))
+fetched_word Narrow program a h = rw (bytes_there program 2 a 0 h) (simp (zero-mul, zero-add, towards_suc))
+fetched_word Wide program a h = rw (bytes_there program 4 a 0 h) (simp (zero-mul, zero-add, towards_suc))
 
 -- ---- reading
 
@@ -164,11 +166,11 @@ word_read program low high user n a = if_holds Read _ (λ _. closed) (λ _. byte
 -- a word at an aligned address lies below 2 ^ 32
 pub aligned_fits : (width : Width) (n a : ℕ) → n ≡ word_bytes width → a < 2 ^ 32 → a % n ≡ 0 → a + n ≤ 2 ^ 32
 unfolding word_bytes
-aligned_fits w16 n a e h z = rw e (let t : a % 2 ≡ 0 = rw e at z in omega arith)
-aligned_fits w32 n a e h z = rw e (let t : a % 4 ≡ 0 = rw e at z in omega arith)
+aligned_fits Narrow n a e h z = rw e (let t : a % 2 ≡ 0 = rw e at z in omega arith)
+aligned_fits Wide n a e h z = rw e (let t : a % 4 ≡ 0 = rw e at z in omega arith)
 
 -- up to four words have at most sixteen bytes
 pub words_on_law : (width : Width) (n k : ℕ) → n ≡ word_bytes width → k < 4 → k * n + n ≤ 16
 unfolding word_bytes
-words_on_law w16 n k e h = rw e (omega arith)
-words_on_law w32 n k e h = rw e (omega arith)
+words_on_law Narrow n k e h = rw e (omega arith)
+words_on_law Wide n k e h = rw e (omega arith)

@@ -7,7 +7,7 @@ use lib.Dec.{eqb}
 use borrow.Author.Tests.{eqb-true, eqb-false}
 use Rattle.word.specs.Choice.{choose◌then◌else◌}
 use Rattle.word.proofs.Tests.{either, if_holds}
-use Rattle.isa.specs.Operation.{Width}
+use Rattle.isa.specs.declared.width.Width.{Width}
 use Rattle.isa.specs.Decode.{opcode_of}
 use Rattle.machine.specs.Machine.{width_of}
 use Rattle.view.specs.View.{Attempt, Found, Raises, Stops, found_then, View, view, nops_from}

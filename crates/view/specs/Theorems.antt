@@ -1,6 +1,6 @@
 -- What is proved of the fetch and of the words after an instruction. Assumes nothing.
 use Rattle.std.specs.Prelude.{◌≡◌, ◌≢◌, List, ℕ, ◌+◌, ◌≤◌, ◌<◌, length}
-use Rattle.isa.specs.Operation.{Width}
+use Rattle.isa.specs.declared.width.Width.{Width}
 use Rattle.isa.specs.Decode.{word_bytes, word_at, opcode_of}
 use Rattle.machine.specs.Machine.{State, width_of}
 use Rattle.view.specs.View.{Attempt, Found, Raises, Stops, bytes_at, View, view, nops_after}

@@ -5,8 +5,8 @@ use Rattle.std.proofs.Math.ListN.{get_elem?}
 use Rattle.word.specs.Choice.{choose◌then◌else◌}
 use Rattle.word.specs.Word.{word_of, is_address}
 use Rattle.isa.specs.Condition.{condition_of, holds}
-use Rattle.isa.specs.declared.Instruction.{Instruction}
-use Rattle.isa.specs.Operation.{Width}
+use Rattle.isa.specs.declared.instruction.Instruction.{Instruction}
+use Rattle.isa.specs.declared.width.Width.{Width}
 use Rattle.isa.specs.Decode.{word_bytes, opcode_of}
 use Rattle.machine.specs.Machine.{Memory, State, psr, user_mode, reads_set2, writes_set2, width_of, set_by}
 use Rattle.machine.specs.Control.{control_at, within, protected_cell, CCB_BASE, IMEM_BOUND_LO, IMEM_BOUND_HI}

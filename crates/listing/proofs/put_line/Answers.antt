@@ -4,7 +4,7 @@ use Prim.Native.Nat.{◌-◌}
 use native.Mathlib.Omega.{arith}
 use Rattle.codec.specs.Number.{put_at}
 use Rattle.isa.specs.Operation.{operation_of, width_by}
-use Rattle.isa.specs.declared.Instruction.{Instruction}
+use Rattle.isa.specs.declared.instruction.Instruction.{Instruction}
 use Rattle.isa.proofs.Decoded.{InRange, in_range}
 use Rattle.listing.specs.Line.{shown_texts, name_text, condition_text, CONDITION_COLUMN, NAME_COLUMN, OPERANDS_COLUMN, padded}
 use Rattle.listing.specs.Parts.{spaced}

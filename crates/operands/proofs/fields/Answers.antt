@@ -1,7 +1,9 @@
 -- `operands::fields` meets its contract: each table is that of one number of the fields, by a computed test. Assumes nothing.
 use mathlib.Core.Path.{◌≡◌, refl, ◌∙◌}
 use Prim.Native.Nat.{ℕ, ◌%◌}
-use Rattle.isa.specs.Operation.{Operation, Width, w16, w32}
+use Rattle.isa.specs.declared.operation.Operation.{Operation}
+use Rattle.isa.specs.declared.width.Width.{Width}
+use Rattle.isa.specs.declared.width.Width.TheVariants.{Narrow, Wide}
 use Rattle.isa.specs.Computed.{instructions}
 use Rattle.operands.specs.Places.{field_at, fields_at, fields_by, placing}
 use Rattle.operands.specs.declared.Entries.{Entries}
@@ -31,12 +33,12 @@ returns-then-wide c =
     let op = c.args.op in
     rw c.if-wide.true
     (c.fields_by.ensures
-    ∙ fields_are w32 _
-    (column_is (λ o k. (field_at w32 o k).place) number op _ h c.entries_of.ensures refl)
-    (column_is (λ o k. (field_at w32 o k).width) number op _ h c.entries_of-then-wide.ensures refl)
-    (column_is (λ o k. (field_at w32 o k).upper) number op _ h c.entries_of-then-wide-2.ensures refl)
-    (column_is (λ o k. (field_at w32 o k).extra) number op _ h c.entries_of-then-wide-3.ensures refl)
-    (column_is (λ o k. (field_at w32 o k).reading) (λ b. b) op _ h c.entries_of-then-wide-4.ensures refl))
+    ∙ fields_are Wide _
+    (column_is (λ o k. (field_at Wide o k).place) number op _ h c.entries_of.ensures refl)
+    (column_is (λ o k. (field_at Wide o k).width) number op _ h c.entries_of-then-wide.ensures refl)
+    (column_is (λ o k. (field_at Wide o k).upper) number op _ h c.entries_of-then-wide-2.ensures refl)
+    (column_is (λ o k. (field_at Wide o k).extra) number op _ h c.entries_of-then-wide-3.ensures refl)
+    (column_is (λ o k. (field_at Wide o k).reading) (λ b. b) op _ h c.entries_of-then-wide-4.ensures refl))
 
 pub returns-else-wide : goal.returns-else-wide
 unfolding instructions placing values_from
@@ -45,9 +47,9 @@ returns-else-wide c =
     let op = c.args.op in
     rw c.if-wide.false
     (c.fields_by-else-wide.ensures
-    ∙ fields_are w16 _
-    (column_is (λ o k. (field_at w16 o k).place) number op _ h c.entries_of-else-wide.ensures refl)
-    (column_is (λ o k. (field_at w16 o k).width) number op _ h c.entries_of-else-wide-2.ensures refl)
-    (constant_column (λ o k. (field_at w16 o k).upper) number 32 op h refl)
-    (constant_column (λ o k. (field_at w16 o k).extra) number 32 op h refl)
-    (column_is (λ o k. (field_at w16 o k).reading) (λ b. b) op _ h c.entries_of-else-wide-3.ensures refl))
+    ∙ fields_are Narrow _
+    (column_is (λ o k. (field_at Narrow o k).place) number op _ h c.entries_of-else-wide.ensures refl)
+    (column_is (λ o k. (field_at Narrow o k).width) number op _ h c.entries_of-else-wide-2.ensures refl)
+    (constant_column (λ o k. (field_at Narrow o k).upper) number 32 op h refl)
+    (constant_column (λ o k. (field_at Narrow o k).extra) number 32 op h refl)
+    (column_is (λ o k. (field_at Narrow o k).reading) (λ b. b) op _ h c.entries_of-else-wide-3.ensures refl))

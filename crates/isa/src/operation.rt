@@ -1,0 +1,238 @@
+//! The operations, by number, and what the table says of each.
+#![tactic(auto, unfolding(crate::specs::Operation::table, crate::specs::Shown::showing))]
+
+ghost use Rattle.std.specs.Prelude.{◌≡◌};
+ghost use Rattle.isa.specs.Operation.{operation_of, numbered, properties, unavailable};
+ghost use Rattle.isa.specs.Shown.{has_form};
+
+use crate::width::Width;
+
+/// What an instruction does, in the order of its number (COFFEE Core user manual (July 2007), section 6.2).
+#[derive(Clone, Copy, Debug, PartialEq, Eq)]
+pub enum Operation {
+    Nop,
+    Add,
+    Addu,
+    Sub,
+    Subu,
+    And,
+    Or,
+    Xor,
+    Muls,
+    Mulu,
+    Mulus,
+    Muls16,
+    Mulu16,
+    Mulus16,
+    Sll,
+    Srl,
+    Sra,
+    Sext,
+    Addi,
+    Addiu,
+    Andi,
+    Ori,
+    Muli,
+    Slli,
+    Srli,
+    Srai,
+    Sexti,
+    Ld,
+    St,
+    Mov,
+    Not,
+    Mulhi,
+    Cmp,
+    Cmpi,
+    Lli,
+    Lui,
+    Jmp,
+    Jal,
+    Jmpr,
+    Jalr,
+    Bc,
+    Begt,
+    Belt,
+    Beq,
+    Bgt,
+    Blt,
+    Bne,
+    Bnc,
+    Scall,
+    Retu,
+    Reti,
+    Chrs,
+    Di,
+    Ei,
+    Swm,
+    Trap,
+    Scon,
+    Rcon,
+    Conb,
+    Conh,
+    Exb,
+    Exh,
+    Exbf,
+    Exbfi,
+}
+
+/// A number that no operation has: 64 or more.
+#[derive(Clone, Copy, Debug, PartialEq, Eq)]
+pub struct UnknownOperation {
+    pub number: u32,
+}
+
+impl TryFrom<u32> for Operation {
+    type Error = UnknownOperation;
+
+    ghost try_from_gives = { λ number result. result ≡ numbered number };
+
+    /// The operation with a number.
+    fn try_from(number: u32) -> Result<Self, UnknownOperation> {
+        if number < 64 {
+            Ok(Operation::from_number(number))
+        } else {
+            Err(UnknownOperation { number })
+        }
+    }
+}
+
+impl Operation {
+    /// The operation of a number, for those who know it below 64, as a word's is; above 63 it is the last.
+    pub fn from_number(number: u32) -> Self
+        ensures { result ≡ operation_of number }
+    {
+        match number {
+            0 => Operation::Nop,
+            1 => Operation::Add,
+            2 => Operation::Addu,
+            3 => Operation::Sub,
+            4 => Operation::Subu,
+            5 => Operation::And,
+            6 => Operation::Or,
+            7 => Operation::Xor,
+            8 => Operation::Muls,
+            9 => Operation::Mulu,
+            10 => Operation::Mulus,
+            11 => Operation::Muls16,
+            12 => Operation::Mulu16,
+            13 => Operation::Mulus16,
+            14 => Operation::Sll,
+            15 => Operation::Srl,
+            16 => Operation::Sra,
+            17 => Operation::Sext,
+            18 => Operation::Addi,
+            19 => Operation::Addiu,
+            20 => Operation::Andi,
+            21 => Operation::Ori,
+            22 => Operation::Muli,
+            23 => Operation::Slli,
+            24 => Operation::Srli,
+            25 => Operation::Srai,
+            26 => Operation::Sexti,
+            27 => Operation::Ld,
+            28 => Operation::St,
+            29 => Operation::Mov,
+            30 => Operation::Not,
+            31 => Operation::Mulhi,
+            32 => Operation::Cmp,
+            33 => Operation::Cmpi,
+            34 => Operation::Lli,
+            35 => Operation::Lui,
+            36 => Operation::Jmp,
+            37 => Operation::Jal,
+            38 => Operation::Jmpr,
+            39 => Operation::Jalr,
+            40 => Operation::Bc,
+            41 => Operation::Begt,
+            42 => Operation::Belt,
+            43 => Operation::Beq,
+            44 => Operation::Bgt,
+            45 => Operation::Blt,
+            46 => Operation::Bne,
+            47 => Operation::Bnc,
+            48 => Operation::Scall,
+            49 => Operation::Retu,
+            50 => Operation::Reti,
+            51 => Operation::Chrs,
+            52 => Operation::Di,
+            53 => Operation::Ei,
+            54 => Operation::Swm,
+            55 => Operation::Trap,
+            56 => Operation::Scon,
+            57 => Operation::Rcon,
+            58 => Operation::Conb,
+            59 => Operation::Conh,
+            60 => Operation::Exb,
+            61 => Operation::Exh,
+            62 => Operation::Exbf,
+            _ => Operation::Exbfi,
+        }
+    }
+
+    /// Its number.
+    pub fn number(self) -> u32
+        ensures { result ≡ (properties self).number }
+    {
+        self as u32
+    }
+
+    /// Whether it may be conditional; where it may not, bit 25 of its 32-bit words is ignored.
+    pub fn is_conditional(self) -> bool
+        ensures { result ≡ (properties self).conditional }
+    {
+        match self.number() {
+            1..=31 | 38..=39 | 48 | 58..=62 => true,
+            _ => false,
+        }
+    }
+
+    /// Whether it is a control transfer.
+    pub fn is_transfer(self) -> bool
+        ensures { result ≡ (properties self).transfer }
+    {
+        match self.number() {
+            36..=50 | 54 => true,
+            _ => false,
+        }
+    }
+
+    /// How many nops must follow it.
+    pub fn nops_after(self) -> u32
+        ensures { result ≡ (properties self).nops }
+    {
+        match self {
+            Operation::Reti => 3,
+            Operation::Swm => 2,
+            Operation::Scall | Operation::Retu => 1,
+            _ => 0,
+        }
+    }
+
+    /// The code of the exception where it may not be used: in words of this width, or in user mode.
+    pub fn unavailable(self, width: Width, user: bool) -> Option<u32>
+        ensures { result ≡ unavailable (properties self).availability width user }
+    {
+        match self {
+            Operation::Lli | Operation::Lui | Operation::Exbfi => match width {
+                Width::Narrow => Some(0x02),
+                Width::Wide => None,
+            },
+            Operation::Retu | Operation::Chrs => {
+                if user {
+                    Some(0x02)
+                } else {
+                    None
+                }
+            }
+            _ => None,
+        }
+    }
+
+    /// Whether words of this width have it.
+    pub fn has_form(self, width: Width) -> bool
+        ensures { result ≡ has_form width self }
+    {
+        self.unavailable(width, false).is_none()
+    }
+}
