@@ -13,7 +13,8 @@ use Rattle.word.proofs.Integers.{double, signed_either}
 use Rattle.isa.specs.declared.operation.Operation.{Operation}
 use Rattle.isa.specs.declared.width.Width.{Width}
 use Rattle.isa.specs.declared.width.Width.TheVariants.{Narrow}
-use Rattle.isa.specs.Used.{Natural, Signed, High, least_of}
+use Rattle.isa.specs.declared.form.Reading.TheVariants.{Natural, Signed, High}
+use Rattle.isa.specs.Used.{least_of}
 use Rattle.operands.specs.declared.OperandField.{OperandField}
 use Rattle.operands.proofs.Places.{FieldIs, field_is}
 use Rattle.encoder.specs.Encode.{operand_part, fits, part_fits}

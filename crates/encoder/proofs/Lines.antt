@@ -10,7 +10,8 @@ use Rattle.word.specs.Choice.{choose◌then◌else◌}
 use Rattle.word.proofs.Tests.{either}
 use Rattle.isa.specs.Operation.{operation_of}
 use Rattle.isa.specs.Condition.{condition_of, name_of}
-use Rattle.isa.specs.Format.{Role, Creg}
+use Rattle.isa.specs.declared.form.Role.{Role}
+use Rattle.isa.specs.declared.form.Role.TheVariants.{Creg}
 use Rattle.isa.specs.Decode.{decode}
 use Rattle.isa.specs.Shown.{shown_roles, shown_value}
 use Rattle.isa.specs.declared.instruction.Instruction.{Instruction}

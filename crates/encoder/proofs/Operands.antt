@@ -15,8 +15,11 @@ use Rattle.word.proofs.Tests.{either, and_parts, if_false}
 use Rattle.word.proofs.Bounds.{field_below}
 use Rattle.isa.specs.declared.width.Width.{Width}
 use Rattle.isa.specs.declared.width.Width.TheVariants.{Narrow, Wide}
-use Rattle.isa.specs.Operation.{operation_of, Form, properties}
-use Rattle.isa.specs.Format.{fields_width, fields_of, operation_field, conditional_field, creg_field, condition_field, Role, Dreg, Sreg1, Sreg2, Creg, Imm, Length, Position, Immediate, layout_of, operand_fields}
+use Rattle.isa.specs.declared.form.Form.{Form}
+use Rattle.isa.specs.Operation.{operation_of, properties}
+use Rattle.isa.specs.declared.form.Role.{Role}
+use Rattle.isa.specs.declared.form.Role.TheVariants.{Dreg, Sreg1, Sreg2, Creg, Imm, Length, Position}
+use Rattle.isa.specs.Format.{fields_width, fields_of, operation_field, conditional_field, creg_field, condition_field, Immediate, layout_of, operand_fields}
 use Rattle.isa.specs.Decode.{register_of, immediate_of, operands_of, opcode_of, assembled, decode}
 use Rattle.isa.specs.Shown.{shown_roles, shown_value}
 use Rattle.isa.specs.Used.{shown_role, fields_for, least_of, register_reading, immediate_reading, reading_for}

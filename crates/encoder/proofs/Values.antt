@@ -12,7 +12,8 @@ use borrow.Author.Tests.{ltb-true, lt-ltb, le-ltb, le-leb, lt-leb, ne_eqb}
 use Rattle.word.specs.Word.{signed_of, mod_z, word_of}
 use Rattle.word.proofs.Tests.{same_test}
 use Rattle.word.proofs.Integers.{double, signed_either, sub_below, sub_above, sub_either, word_low, word_natural, word_signed}
-use Rattle.isa.specs.Used.{Natural, Signed, High, least_of}
+use Rattle.isa.specs.declared.form.Reading.TheVariants.{Natural, Signed, High}
+use Rattle.isa.specs.Used.{least_of}
 use Rattle.encoder.specs.Encode.{is_below, fits}
 use Rattle.encoder.specs.Theorems.{FitsOne, RangesAre}
 

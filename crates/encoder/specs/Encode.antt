@@ -6,7 +6,8 @@ use Rattle.word.specs.Word.{Field, word_of}
 use Rattle.isa.specs.declared.operation.Operation.{Operation}
 use Rattle.isa.specs.declared.width.Width.{Width}
 use Rattle.isa.specs.Operation.{operation_of, properties}
-use Rattle.isa.specs.Format.{fields_width, placed_in, operation_field, conditional_field, creg_field, condition_field, Role}
+use Rattle.isa.specs.declared.form.Role.{Role}
+use Rattle.isa.specs.Format.{fields_width, placed_in, operation_field, conditional_field, creg_field, condition_field}
 use Rattle.isa.specs.Decode.{decode}
 use Rattle.isa.specs.Shown.{has_form, shown_value}
 use Rattle.isa.specs.Used.{shown_role, shown_fields, least_of, shown_reading}

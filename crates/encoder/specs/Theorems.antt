@@ -7,7 +7,8 @@ use Rattle.isa.specs.Operation.{operation_of, width_by}
 use Rattle.isa.specs.Format.{fields_width, fields_of, lie_below, separate}
 use Rattle.isa.specs.Decode.{word_bytes, decode}
 use Rattle.isa.specs.Shown.{has_form}
-use Rattle.isa.specs.Used.{shown_fields, Natural, Signed, High, least_of, shown_reading, cleared}
+use Rattle.isa.specs.declared.form.Reading.TheVariants.{Natural, Signed, High}
+use Rattle.isa.specs.Used.{shown_fields, least_of, shown_reading, cleared}
 use Rattle.isa.specs.Theorems.{between}
 use Rattle.isa.specs.declared.instruction.Instruction.{Instruction}
 use Rattle.listing.specs.Line.{operands_text, name_text, condition_text}

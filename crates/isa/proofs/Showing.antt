@@ -14,7 +14,9 @@ use Rattle.isa.specs.declared.width.Width.{Width}
 use Rattle.isa.specs.declared.width.Width.TheVariants.{Narrow, Wide}
 use Rattle.isa.specs.Operation.{operation_of, properties}
 use Rattle.isa.specs.Condition.{condition_of, name_of}
-use Rattle.isa.specs.Format.{fields_of, conditional_field, Role, Dreg, Sreg1, Sreg2, Creg, Imm, Length, Position, Layout, layout_of}
+use Rattle.isa.specs.declared.form.Role.{Role}
+use Rattle.isa.specs.declared.form.Role.TheVariants.{Dreg, Sreg1, Sreg2, Creg, Imm, Length, Position}
+use Rattle.isa.specs.Format.{fields_of, conditional_field, Layout, layout_of}
 use Rattle.isa.specs.Decode.{register_of, operands_of, opcode_of, assembled, decode}
 use Rattle.isa.specs.Shown.{has_form, shown_roles}
 use Rattle.isa.specs.Computed.{instructions}

@@ -12,7 +12,8 @@ use Rattle.isa.specs.declared.width.Width.{Width}
 use Rattle.isa.specs.declared.width.Width.TheVariants.{Narrow, Wide}
 use Rattle.isa.specs.declared.operation.Operation.{Operation}
 use Rattle.isa.specs.declared.operation.Operation.TheVariants.{Exbfi}
-use Rattle.isa.specs.Operation.{operations, operation_of, Form, properties}
+use Rattle.isa.specs.declared.form.Form.{Form}
+use Rattle.isa.specs.Operation.{operations, operation_of, properties}
 use Rattle.isa.specs.Decode.{opcode_of, operands_of}
 use Rattle.isa.specs.declared.instruction.Operands.{Operands}
 

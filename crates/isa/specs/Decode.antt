@@ -5,7 +5,8 @@ use Rattle.word.specs.Word.{Field, signed_of}
 use Rattle.codec.specs.Number.{number_at}
 use Rattle.isa.specs.declared.width.Width.{Width}
 use Rattle.isa.specs.declared.width.Width.TheVariants.{Narrow, Wide}
-use Rattle.isa.specs.Operation.{operation_of, properties, Form}
+use Rattle.isa.specs.declared.form.Form.{Form}
+use Rattle.isa.specs.Operation.{operation_of, properties}
 use Rattle.isa.specs.Format.{fields_width, fields_of, operation_field, conditional_field, creg_field, condition_field, Immediate, layout_of}
 use Rattle.isa.specs.declared.instruction.Operands.{Operands}
 use Rattle.isa.specs.declared.instruction.Instruction.{Instruction}

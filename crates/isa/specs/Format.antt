@@ -4,7 +4,10 @@ use Rattle.std.specs.Prelude.{Bool, true, false, ◌&&◌, ◌||◌, List, [], �
 use Rattle.word.specs.Word.{Field, bits◌to◌, field_of}
 use Rattle.isa.specs.declared.width.Width.{Width}
 use Rattle.isa.specs.declared.width.Width.TheVariants.{Narrow, Wide}
-use Rattle.isa.specs.Operation.{Form, NoOperands, ThreeRegisters, ReversedRegisters, TwoRegisters, Destination, Source, CompareRegisters, CompareImmediate, SignedImmediate, UnsignedImmediate, Count, BitField, Memory, Halfword, Jump, Branch, LowBits}
+use Rattle.isa.specs.declared.form.Role.{Role}
+use Rattle.isa.specs.declared.form.Role.TheVariants.{Dreg, Sreg1, Sreg2, Creg, Imm, Length, Position}
+use Rattle.isa.specs.declared.form.Form.{Form}
+use Rattle.isa.specs.declared.form.Form.TheVariants.{NoOperands, ThreeRegisters, ReversedRegisters, TwoRegisters, Destination, Source, CompareRegisters, CompareImmediate, SignedImmediate, UnsignedImmediate, Count, BitField, Memory, Halfword, Jump, Branch, LowBits}
 
 -- ---- fields in pieces: the first piece above the others. No pieces: there is no such field, and it reads 0
 
@@ -72,11 +75,6 @@ condition_field Wide = bits 21 to 19 ∷ []
 condition_field Narrow = []
 
 -- ---- operands
-
--- what an operand is to the operation
-pub data Role : Type 0 where
-  Dreg Sreg1 Sreg2 Creg Imm : Role
-  Length Position : Role  -- of exbfi: the immediate's first piece, and the rest
 
 pub record Immediate : Type 0 where
   pub signed : Bool

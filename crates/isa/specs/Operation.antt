@@ -5,6 +5,10 @@ use Prim.Native.String.{String}
 use Rattle.isa.specs.Text.{bytes}
 use Rattle.isa.specs.declared.width.Width.{Width}
 use Rattle.isa.specs.declared.width.Width.TheVariants.{Narrow, Wide}
+use Rattle.isa.specs.declared.form.Form.{Form}
+use Rattle.isa.specs.declared.form.Form.TheVariants.{NoOperands, ThreeRegisters, ReversedRegisters, TwoRegisters, Destination, Source, CompareRegisters, CompareImmediate, SignedImmediate, UnsignedImmediate, Count, BitField, Memory, Halfword, Jump, Branch, LowBits}
+use Rattle.isa.specs.declared.flow.Flow.{Flow}
+use Rattle.isa.specs.declared.flow.Flow.TheVariants.{Straight, ImmediateJump, ImmediateLink, RegisterJump, RegisterLink, ConditionalBranch, SystemCall, UserReturn, InterruptReturn, WidthSwitch, TrapCall}
 use Rattle.isa.specs.declared.operation.Operation.{Operation}
 use Rattle.isa.specs.declared.operation.UnknownOperation.{UnknownOperation}
 use Rattle.isa.specs.declared.operation.Operation.TheVariants.{Nop, Add, Addu, Sub, Subu, And, Or, Xor, Muls, Mulu, Mulus, Muls16, Mulu16, Mulus16, Sll, Srl, Sra, Sext, Addi, Addiu, Andi, Ori, Muli, Slli, Srli, Srai, Sexti, Ld, St, Mov, Not, Mulhi, Cmp, Cmpi, Lli, Lui, Jmp, Jal, Jmpr, Jalr, Bc, Begt, Belt, Beq, Bgt, Blt, Bne, Bnc, Scall, Retu, Reti, Chrs, Di, Ei, Swm, Trap, Scon, Rcon, Conb, Conh, Exb, Exh, Exbf, Exbfi}
@@ -37,26 +41,6 @@ unfoldable pub width_by : (wide : Bool) → Width
 width_by true = Wide
 width_by false = Narrow
 
--- which operands an operation has; Format says where they stand
-pub data Form : Type 0 where
-  NoOperands : Form
-  ThreeRegisters : Form  -- dreg, sreg1, sreg2
-  ReversedRegisters : Form  -- the same, written dreg, sreg2, sreg1
-  TwoRegisters : Form  -- dreg, sreg1
-  Destination : Form  -- dreg
-  Source : Form  -- sreg1
-  CompareRegisters : Form  -- creg, sreg1, sreg2
-  CompareImmediate : Form  -- creg, sreg1, signed immediate
-  SignedImmediate : Form  -- dreg, sreg1, signed immediate
-  UnsignedImmediate : Form  -- dreg, sreg1, immediate filled with zeros
-  Count : ℕ → Form  -- dreg, sreg1, so many of an immediate's lowest bits: five of shifts and sexti, two of exb, one of exh
-  BitField : Form  -- dreg, sreg1, length, position
-  Memory : Form  -- dreg, sreg1, signed immediate
-  Halfword : Form  -- dreg, sixteen bits
-  Jump : Form  -- signed immediate
-  Branch : Form  -- creg, signed immediate
-  LowBits : ℕ → Form  -- so many of the word's lowest bits: of bits 4..0 swm uses one, chrs two, trap all five
-
 -- where an operation may be used
 pub data Availability : Type 0 where
   anywhere wide_only super_only : Availability
@@ -73,13 +57,6 @@ unavailable super_only w false = None
 unfoldable pub code_of : Option ℕ → ℕ
 code_of None = 0
 code_of (Some code) = code
-
--- how control goes on after an operation; where to, 02's wish 13 says
-pub data Flow : Type 0 where
-  Straight : Flow  -- with the next word
-  ImmediateJump ImmediateLink RegisterJump RegisterLink : Flow  -- jmp, jal, jmpr, jalr
-  ConditionalBranch : Flow  -- 40 to 47
-  SystemCall UserReturn InterruptReturn WidthSwitch TrapCall : Flow  -- scall, retu, reti, swm, trap
 
 pub record Properties : Type 0 where
   pub number : ℕ

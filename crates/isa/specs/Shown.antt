@@ -5,7 +5,9 @@ use Rattle.word.specs.Word.{bits◌to◌, field_of, word_of}
 use Rattle.isa.specs.declared.operation.Operation.{Operation}
 use Rattle.isa.specs.declared.width.Width.{Width}
 use Rattle.isa.specs.Operation.{unavailable, code_of, properties}
-use Rattle.isa.specs.Format.{Role, Dreg, Sreg1, Sreg2, Creg, Imm, Length, Position, layout_of}
+use Rattle.isa.specs.declared.form.Role.{Role}
+use Rattle.isa.specs.declared.form.Role.TheVariants.{Dreg, Sreg1, Sreg2, Creg, Imm, Length, Position}
+use Rattle.isa.specs.Format.{layout_of}
 use Rattle.isa.specs.declared.instruction.Instruction.{Instruction}
 
 -- an operation has no form in a width where it is 02h for the super user too: "Code 02h: lli, lui in 16-bit" (01), "63 exbfi: .. code 02h in

@@ -4,10 +4,14 @@ use Rattle.word.specs.Choice.{choose◌then◌else◌}
 use Rattle.word.specs.Word.{bits◌to◌, field_of, bit_at}
 use Rattle.isa.specs.declared.width.Width.{Width}
 use Rattle.isa.specs.declared.width.Width.TheVariants.{Narrow, Wide}
-use Rattle.isa.specs.Operation.{operation_of, width_by, unavailable, code_of, Flow, Straight, ImmediateJump, ImmediateLink, RegisterJump, RegisterLink, ConditionalBranch, SystemCall, UserReturn, InterruptReturn, WidthSwitch, TrapCall, properties}
+use Rattle.isa.specs.declared.flow.Flow.{Flow}
+use Rattle.isa.specs.declared.flow.Flow.TheVariants.{Straight, ImmediateJump, ImmediateLink, RegisterJump, RegisterLink, ConditionalBranch, SystemCall, UserReturn, InterruptReturn, WidthSwitch, TrapCall}
+use Rattle.isa.specs.Operation.{operation_of, width_by, unavailable, code_of, properties}
 use Rattle.isa.specs.Text.{bytes}
 use Rattle.isa.specs.Condition.{condition_of, name_of}
-use Rattle.isa.specs.Format.{has_bit, Role, Dreg, Sreg1, Sreg2, Creg, Imm, Length, Position, layout_of}
+use Rattle.isa.specs.declared.form.Role.{Role}
+use Rattle.isa.specs.declared.form.Role.TheVariants.{Dreg, Sreg1, Sreg2, Creg, Imm, Length, Position}
+use Rattle.isa.specs.Format.{has_bit, layout_of}
 use Rattle.isa.specs.Decode.{opcode_of, decode}
 use Rattle.isa.specs.Shown.{has_form, shown_roles, shown_value}
 use Rattle.isa.specs.Used.{used_fields, cleared}

@@ -5,11 +5,16 @@ use Rattle.std.proofs.Math.Option.{Option, none, some}
 use Rattle.std.proofs.Math.ListN.{get_elem?}
 use Rattle.word.specs.Choice.{choose◌then◌else◌}
 use Rattle.word.specs.Word.{Field}
+use Rattle.isa.specs.declared.form.Reading.{Reading}
+use Rattle.isa.specs.declared.form.Reading.TheVariants.{Natural, Signed, High}
 use Rattle.isa.specs.declared.operation.Operation.{Operation}
 use Rattle.isa.specs.declared.width.Width.{Width}
 use Rattle.isa.specs.declared.width.Width.TheVariants.{Narrow, Wide}
-use Rattle.isa.specs.Operation.{operation_of, Form, properties}
-use Rattle.isa.specs.Format.{kept_in, operation_field, conditional_field, creg_field, condition_field, Role, Dreg, Sreg1, Sreg2, Creg, Imm, Length, Position, Immediate, layout_of, operand_fields}
+use Rattle.isa.specs.declared.form.Form.{Form}
+use Rattle.isa.specs.Operation.{operation_of, properties}
+use Rattle.isa.specs.declared.form.Role.{Role}
+use Rattle.isa.specs.declared.form.Role.TheVariants.{Dreg, Sreg1, Sreg2, Creg, Imm, Length, Position}
+use Rattle.isa.specs.Format.{kept_in, operation_field, conditional_field, creg_field, condition_field, Immediate, layout_of, operand_fields}
 use Rattle.isa.specs.Decode.{decode}
 use Rattle.isa.specs.Shown.{shown_roles}
 
@@ -26,12 +31,6 @@ fields_for width form (some r) = operand_fields width form r
 
 abbrev pub shown_fields : Width → Operation → (k : ℕ) → List Field
 shown_fields width o k = fields_for width (properties o).form (shown_role width o k)
-
--- how the k bits of an operand are read: as one of 2 ^ k numbers
-pub data Reading : Type 0 where
-  Natural : Reading  -- from 0 on
-  Signed : Reading  -- from -2 ^ (k - 1) on
-  High : Reading  -- from 24 on: registers of 16-bit words (01 "Registers n mean n+24")
 
 -- the least of them
 unfoldable pub least_of : Reading → (k : ℕ) → ℤ

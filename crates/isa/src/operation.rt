@@ -5,6 +5,8 @@ ghost use Rattle.std.specs.Prelude.{◌≡◌};
 ghost use Rattle.isa.specs.Operation.{operation_of, numbered, properties, unavailable};
 ghost use Rattle.isa.specs.Shown.{has_form};
 
+use crate::flow::Flow;
+use crate::form::Form;
 use crate::width::Width;
 
 /// What an instruction does, in the order of its number (COFFEE Core user manual (July 2007), section 6.2).
@@ -234,5 +236,59 @@ impl Operation {
         ensures { result ≡ has_form width self }
     {
         self.unavailable(width, false).is_none()
+    }
+
+    /// Its operands.
+    pub fn form(self) -> Form
+        ensures { result ≡ (properties self).form }
+    {
+        match self {
+            Operation::Nop | Operation::Scall | Operation::Retu | Operation::Reti | Operation::Di
+            | Operation::Ei => Form::NoOperands,
+            Operation::Add | Operation::Addu | Operation::Sub | Operation::Subu | Operation::And
+            | Operation::Or | Operation::Xor | Operation::Muls | Operation::Mulu | Operation::Mulus
+            | Operation::Muls16 | Operation::Mulu16 | Operation::Mulus16 | Operation::Sll
+            | Operation::Srl | Operation::Sra | Operation::Sext | Operation::Conb | Operation::Exbf => Form::ThreeRegisters,
+            Operation::Addi | Operation::Muli => Form::SignedImmediate,
+            Operation::Addiu | Operation::Andi | Operation::Ori => Form::UnsignedImmediate,
+            Operation::Slli | Operation::Srli | Operation::Srai | Operation::Sexti => Form::Count(5),
+            Operation::Ld | Operation::St => Form::Memory,
+            Operation::Mov | Operation::Not => Form::TwoRegisters,
+            Operation::Mulhi | Operation::Scon => Form::Destination,
+            Operation::Cmp => Form::CompareRegisters,
+            Operation::Cmpi => Form::CompareImmediate,
+            Operation::Lli | Operation::Lui => Form::Halfword,
+            Operation::Jmp | Operation::Jal => Form::Jump,
+            Operation::Jmpr | Operation::Jalr | Operation::Rcon => Form::Source,
+            Operation::Bc | Operation::Begt | Operation::Belt | Operation::Beq | Operation::Bgt
+            | Operation::Blt | Operation::Bne | Operation::Bnc => Form::Branch,
+            Operation::Chrs => Form::LowBits(2),
+            Operation::Swm => Form::LowBits(1),
+            Operation::Trap => Form::LowBits(5),
+            Operation::Conh => Form::ReversedRegisters,
+            Operation::Exb => Form::Count(2),
+            Operation::Exh => Form::Count(1),
+            Operation::Exbfi => Form::BitField,
+        }
+    }
+
+    /// How a program goes on after it.
+    pub fn flow(self) -> Flow
+        ensures { result ≡ (properties self).flow }
+    {
+        match self {
+            Operation::Jmp => Flow::ImmediateJump,
+            Operation::Jal => Flow::ImmediateLink,
+            Operation::Jmpr => Flow::RegisterJump,
+            Operation::Jalr => Flow::RegisterLink,
+            Operation::Bc | Operation::Begt | Operation::Belt | Operation::Beq | Operation::Bgt
+            | Operation::Blt | Operation::Bne | Operation::Bnc => Flow::ConditionalBranch,
+            Operation::Scall => Flow::SystemCall,
+            Operation::Retu => Flow::UserReturn,
+            Operation::Reti => Flow::InterruptReturn,
+            Operation::Swm => Flow::WidthSwitch,
+            Operation::Trap => Flow::TrapCall,
+            _ => Flow::Straight,
+        }
     }
 }

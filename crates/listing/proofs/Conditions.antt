@@ -14,7 +14,7 @@ use Rattle.codec.specs.Number.{put_at}
 use Rattle.codec.proofs.Laws.{put_at_nothing, put_at_append}
 use Rattle.isa.specs.Text.{bytes}
 use Rattle.isa.specs.declared.instruction.Instruction.{Instruction}
-use Rattle.isa.specs.Format.{Creg}
+use Rattle.isa.specs.declared.form.Role.TheVariants.{Creg}
 use Rattle.isa.specs.Shown.{shown_value}
 use Rattle.operands.specs.Letters.{role_of}
 use Rattle.console.specs.Digits.{blank}

@@ -11,7 +11,7 @@ use Rattle.isa.specs.Text.{bytes}
 use Rattle.isa.specs.declared.width.Width.{Width}
 use Rattle.isa.specs.declared.width.Width.TheVariants.{Narrow, Wide}
 use Rattle.isa.specs.Operation.{operation_of}
-use Rattle.isa.specs.Format.{Creg}
+use Rattle.isa.specs.declared.form.Role.TheVariants.{Creg}
 use Rattle.isa.specs.Decode.{word_bytes, decode}
 use Rattle.isa.specs.Shown.{has_form}
 use Rattle.isa.specs.declared.instruction.Instruction.{Instruction}

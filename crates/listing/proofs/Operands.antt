@@ -11,7 +11,7 @@ use Rattle.word.specs.Word.{signed_of, word_of}
 use Rattle.word.proofs.Integers.{signed_word}
 use Rattle.codec.specs.Number.{put_at}
 use Rattle.codec.proofs.Laws.{put_at_append}
-use Rattle.isa.specs.Format.{Role}
+use Rattle.isa.specs.declared.form.Role.{Role}
 use Rattle.isa.specs.Shown.{shown_value}
 use Rattle.isa.specs.declared.instruction.Instruction.{Instruction}
 use Rattle.operands.specs.Letters.{letter_in, role_of}

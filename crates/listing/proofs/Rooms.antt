@@ -19,7 +19,9 @@ use Rattle.isa.specs.declared.operation.Operation.{Operation}
 use Rattle.isa.specs.declared.width.Width.{Width}
 use Rattle.isa.specs.declared.width.Width.TheVariants.{Narrow, Wide}
 use Rattle.isa.specs.Operation.{operation_of, properties}
-use Rattle.isa.specs.Format.{Role, Dreg, Sreg1, Sreg2, Creg, Imm, Length, Position, Immediate, Layout, layout_of, fields_width, fields_of}
+use Rattle.isa.specs.declared.form.Role.{Role}
+use Rattle.isa.specs.declared.form.Role.TheVariants.{Dreg, Sreg1, Sreg2, Creg, Imm, Length, Position}
+use Rattle.isa.specs.Format.{Immediate, Layout, layout_of, fields_width, fields_of}
 use Rattle.isa.specs.Text.{bytes}
 use Rattle.isa.specs.Decode.{immediate_of, operands_of, opcode_of, assembled, decode}
 use Rattle.isa.specs.Shown.{shown_roles, shown_value}

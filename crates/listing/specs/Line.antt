@@ -6,7 +6,8 @@ use Rattle.isa.specs.declared.operation.Operation.{Operation}
 use Rattle.isa.specs.declared.width.Width.{Width}
 use Rattle.isa.specs.Operation.{operation_of, properties}
 use Rattle.isa.specs.Condition.{condition_of, name_of}
-use Rattle.isa.specs.Format.{Role, Dreg, Sreg1, Sreg2, Creg, Imm, Length, Position}
+use Rattle.isa.specs.declared.form.Role.{Role}
+use Rattle.isa.specs.declared.form.Role.TheVariants.{Dreg, Sreg1, Sreg2, Creg, Imm, Length, Position}
 use Rattle.isa.specs.Decode.{word_bytes, decode}
 use Rattle.isa.specs.Shown.{has_form, shown_roles, shown_value}
 use Rattle.isa.specs.declared.instruction.Instruction.{Instruction}

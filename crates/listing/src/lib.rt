@@ -6,7 +6,7 @@ ghost use Rattle.std.specs.Int.Signed.{mag};
 ghost use Rattle.codec.specs.Number.{put_at};
 ghost use Rattle.word.specs.Word.{signed_of};
 ghost use Rattle.isa.specs.Operation.{operation_of, width_by};
-ghost use Rattle.isa.specs.Format.{Role};
+ghost use Rattle.isa.specs.declared.form.Role.{Role};
 ghost use Rattle.isa.specs.Shown.{shown_value};
 ghost use Rattle.isa.specs.Decode.{word_bytes};
 ghost use Rattle.console.specs.Digits.{blank, digits_of, decimal, hex8};

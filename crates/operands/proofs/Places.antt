@@ -16,7 +16,9 @@ use Rattle.isa.specs.declared.width.Width.{Width}
 use Rattle.isa.specs.declared.width.Width.TheVariants.{Narrow, Wide}
 use Rattle.isa.specs.Operation.{operation_of}
 use Rattle.isa.specs.Format.{fields_width, placed_in, lie_below, separate}
-use Rattle.isa.specs.Used.{shown_fields, Reading, Natural, Signed, High, shown_reading}
+use Rattle.isa.specs.declared.form.Reading.{Reading}
+use Rattle.isa.specs.declared.form.Reading.TheVariants.{Natural, Signed, High}
+use Rattle.isa.specs.Used.{shown_fields, shown_reading}
 use Rattle.isa.specs.Computed.{instructions}
 use Rattle.operands.specs.Places.{lower_piece, upper_piece, reading_letter, field_at, fields_at, bits_of, reading_by, put_into, Placeable, AllPlaceable, placing}
 use Rattle.operands.specs.declared.OperandField.{OperandField}

@@ -6,7 +6,8 @@ use Prim.Native.Nat.{ℕ, zero, suc, ◌≤◌}
 use native.Mathlib.Omega.{arith}
 use lib.ListN.{drop}
 use Rattle.word.specs.Choice.{choose◌then◌else◌}
-use Rattle.isa.specs.Format.{Role, Dreg, Sreg1, Sreg2, Creg, Imm, Length, Position}
+use Rattle.isa.specs.declared.form.Role.{Role}
+use Rattle.isa.specs.declared.form.Role.TheVariants.{Dreg, Sreg1, Sreg2, Creg, Imm, Length, Position}
 use Rattle.operands.specs.Letters.{letter_of, role_of, letter_in}
 
 -- each letter is of its own role

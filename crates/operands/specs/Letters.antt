@@ -4,7 +4,8 @@ use Rattle.std.specs.Prelude.{List, map, ℕ, eqb, get_or}
 use Rattle.word.specs.Choice.{choose◌then◌else◌}
 use Rattle.isa.specs.declared.operation.Operation.{Operation}
 use Rattle.isa.specs.declared.width.Width.{Width}
-use Rattle.isa.specs.Format.{Role, Dreg, Sreg1, Sreg2, Creg, Imm, Length, Position}
+use Rattle.isa.specs.declared.form.Role.{Role}
+use Rattle.isa.specs.declared.form.Role.TheVariants.{Dreg, Sreg1, Sreg2, Creg, Imm, Length, Position}
 use Rattle.isa.specs.Shown.{shown_roles}
 
 -- the letter of a role

@@ -5,7 +5,9 @@ use Rattle.word.specs.Choice.{choose◌then◌else◌}
 use Rattle.word.specs.Word.{Field}
 use Rattle.isa.specs.declared.operation.Operation.{Operation}
 use Rattle.isa.specs.declared.width.Width.{Width}
-use Rattle.isa.specs.Used.{shown_fields, Reading, Natural, Signed, High, shown_reading}
+use Rattle.isa.specs.declared.form.Reading.{Reading}
+use Rattle.isa.specs.declared.form.Reading.TheVariants.{Natural, Signed, High}
+use Rattle.isa.specs.Used.{shown_fields, shown_reading}
 use Rattle.operands.specs.declared.OperandField.{OperandField}
 use Rattle.operands.specs.declared.OperandFields.{OperandFields}
 use Rattle.operands.specs.declared.Entries.{Entries}

@@ -4,7 +4,9 @@ use Rattle.word.specs.Choice.{choose◌then◌else◌}
 use Rattle.word.specs.Word.{word_of}
 use Rattle.isa.specs.declared.width.Width.{Width}
 use Rattle.isa.specs.declared.width.Width.TheVariants.{Narrow, Wide}
-use Rattle.isa.specs.Operation.{operation_of, Flow, Straight, ImmediateJump, ImmediateLink, RegisterJump, RegisterLink, ConditionalBranch, SystemCall, UserReturn, InterruptReturn, WidthSwitch, TrapCall, properties}
+use Rattle.isa.specs.declared.flow.Flow.{Flow}
+use Rattle.isa.specs.declared.flow.Flow.TheVariants.{Straight, ImmediateJump, ImmediateLink, RegisterJump, RegisterLink, ConditionalBranch, SystemCall, UserReturn, InterruptReturn, WidthSwitch, TrapCall}
+use Rattle.isa.specs.Operation.{operation_of, properties}
 use Rattle.isa.specs.Decode.{word_bytes, word_at, decode}
 use Rattle.isa.specs.declared.instruction.Instruction.{Instruction}
 

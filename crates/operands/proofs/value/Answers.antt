@@ -10,7 +10,7 @@ use Rattle.word.specs.Choice.{choose◌then◌else◌}
 use Rattle.word.specs.Word.{field_of, word_of}
 use Rattle.word.proofs.Handed.{handed}
 use Rattle.word.proofs.Integers.{word_natural}
-use Rattle.isa.specs.Format.{Position}
+use Rattle.isa.specs.declared.form.Role.TheVariants.{Position}
 use Rattle.isa.specs.Shown.{shown_value}
 use Rattle.operands.specs.Letters.{role_of}
 use Rattle.operands.proofs.value.Goals as goal

@@ -3,7 +3,7 @@ use Rattle.std.specs.Prelude.{◌≡◌}
 use mathlib.Core.Path.{refl, ◌∙◌}
 use native.Mathlib.Nat.{mul-one, add-zero, div-one}
 use native.Mathlib.Omega.{arith}
-use Rattle.isa.specs.Operation.{Jump, Source, Branch}
+use Rattle.isa.specs.declared.form.Form.TheVariants.{Jump, Source, Branch}
 use Rattle.isa.specs.Computed.{instructions}
 use Rattle.isa.proofs.Table.{values, narrow_row, wide_row}
 use Rattle.isa.proofs.instruction.Instruction.of_jump.Goals as goal
