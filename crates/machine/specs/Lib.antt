@@ -3,5 +3,6 @@ pub mod Machine
 pub mod Control
 pub mod Stack
 pub mod Words
+pub mod Refusal
 pub mod Theorems
 pub mod Computed

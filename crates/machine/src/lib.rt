@@ -11,6 +11,9 @@ ghost use Rattle.machine.specs.Control.{register_at, control_at, largest, kept_b
 ghost use Rattle.machine.specs.Stack.{popped, sources_of, service_flags, shown_top, show_top, with_stack, StackShown, kept_status, return_stored, top_stored, store_control};
 ghost use Rattle.machine.specs.Words.{REGISTERS, FLAGS, OFFSETS, SOURCES, TIMERS, MachineWords, ENTRIES, start_by, section, entry_of, words_of, machine_of, Says};
 
+pub mod refusal;
+
+pub use refusal::Refusal;
 use word::{has_flag, with_flag, without_flag};
 
 // The program position (01 "Machine image"): six numbers.
