@@ -6,13 +6,14 @@ ghost use Rattle.std.specs.Prelude.{◌≡◌, true, false, [], ◌∷◌, ◌+�
 ghost use Rattle.std.proofs.lemmas.List.Edits.{sets};
 ghost use Rattle.word.specs.Word.{bit_at};
 ghost use Rattle.word.specs.Flags.{distinct_below};
-ghost use Rattle.machine.specs.Machine.{psr, user_mode, reads_set2, writes_set2, wide_words, interrupts_enabled, status_of, SUPER, set_by, with_register, written, with_psr, with_conditions, with_control, with_position, with_dividers};
+ghost use Rattle.machine.specs.Machine.{psr, user_mode, reads_set2, writes_set2, wide_words, width_of, interrupts_enabled, status_of, SUPER, set_by, with_register, written, with_psr, with_conditions, with_control, with_position, with_dividers};
 ghost use Rattle.machine.specs.Control.{register_at, control_at, largest, kept_by, is_writable, replaces_top, within, INT_SERV, reset as resetOf};
 ghost use Rattle.machine.specs.Stack.{popped, sources_of, service_flags, shown_top, show_top, with_stack, StackShown, kept_status, return_stored, top_stored, store_control};
 ghost use Rattle.machine.specs.Words.{REGISTERS, FLAGS, OFFSETS, SOURCES, TIMERS, MachineWords, ENTRIES, start_by, section, entry_of, words_of, machine_of, Says};
 
 pub mod refusal;
 
+use isa::Width;
 pub use refusal::Refusal;
 use word::{has_flag, with_flag, without_flag};
 
@@ -237,6 +238,15 @@ pub fn wide_words(w: &[u32]) -> bool
     ensures { result ≡ wide_words (psr (machine_of w.now)) }
 {
     status_bit(w, IL)
+}
+
+// The width of its instruction words.
+#[tactic(auto, unfolding(crate::specs::Machine::width_of))]
+pub fn width(w: &[u32]) -> Width
+    requires { MachineWords w.now }
+    ensures { result ≡ width_of (psr (machine_of w.now)) }
+{
+    Width::from(wide_words(w))
 }
 
 // IE: interrupts are enabled.

@@ -8,7 +8,7 @@ ghost use Rattle.view.specs.View.{View, Shows, condition_false};
 mod memory;
 mod program;
 
-use isa::Instruction;
+use isa::{Condition, Instruction};
 pub use memory::{cell, place as place_at};
 pub use program::{check_nops, closed, fetch, misaligned};
 
@@ -70,7 +70,7 @@ pub fn condition_false(w: &[u32], i: Instruction) -> bool
 {
     let conditional = i.conditional;
     if conditional {
-        !isa::holds(i.condition, machine::condition(w, i.creg))
+        !Condition::from_number(i.condition).holds(machine::condition(w, i.creg))
     } else {
         false
     }

@@ -1,6 +1,5 @@
 // Program memory: its protection, the fetch of an instruction word, and the nops that must follow it.
 ghost use Rattle.std.specs.Prelude.{◌≡◌, not, ◌&&◌, ◌+◌, ◌%◌, ◌^◌, ◌≤◌, ◌<◌, eqb};
-ghost use Rattle.isa.specs.Operation.{width_by};
 ghost use Rattle.isa.specs.Decode.{word_bytes};
 ghost use Rattle.machine.specs.Control.{control_at, IMEM_BOUND_LO, IMEM_BOUND_HI};
 ghost use Rattle.machine.specs.Words.{MachineWords, machine_of};
@@ -8,6 +7,7 @@ ghost use Rattle.view.specs.View.{View, any_within, bytes_at, read_at, fetched_a
 ghost use Rattle.machine.specs.Machine.{MOST_MEMORY, Memory, psr, user_mode, width_of};
 
 use crate::{Fetched, NopCheck};
+use isa::Width;
 
 // Whether one of the n program bytes from a on is protected from the mode: the two ranges overlap.
 pub fn closed(w: &[u32], user: bool, a: u32, n: u32) -> bool
@@ -24,39 +24,48 @@ pub fn closed(w: &[u32], user: bool, a: u32, n: u32) -> bool
 }
 
 // Whether a is not the address of an instruction word.
-pub fn misaligned(wide: bool, a: u32) -> bool
-    ensures { result ≡ not (eqb (a % word_bytes (width_by wide)) 0) }
+#[tactic(auto, unfolding(isa::specs::Decode::word_bytes))]
+pub fn misaligned(width: Width, a: u32) -> bool
+    ensures { result ≡ not (eqb (a % word_bytes width) 0) }
 {
-    (a % 2 == 1) | (a / 2 % 2 == 1) & wide
+    match width {
+        Width::Narrow => a % 2 != 0,
+        Width::Wide => a % 4 != 0,
+    }
 }
 
 // The instruction word at an address, if all of its bytes are there. Each width has a test of its own: a step takes 8 instructions less.
-fn word_at(program: &[u8], wide: bool, a: u32) -> Fetched
-    ensures { fetched_as result ≡ bytes_at program.now (word_bytes (width_by wide)) a 0 }
+fn word_at(program: &[u8], width: Width, a: u32) -> Fetched
+    ensures { fetched_as result ≡ bytes_at program.now (word_bytes width) a 0 }
 {
     let at = a as usize;
-    if wide {
-        if at + 4 <= program.len() {
-            Fetched::Word(isa::word_at(program, wide, at))
-        } else {
-            Fetched::Absent
+    match width {
+        Width::Narrow => {
+            if at + 2 <= program.len() {
+                Fetched::Word(width.word_at(program, at))
+            } else {
+                Fetched::Absent
+            }
         }
-    } else if at + 2 <= program.len() {
-        Fetched::Word(isa::word_at(program, wide, at))
-    } else {
-        Fetched::Absent
+        Width::Wide => {
+            if at + 4 <= program.len() {
+                Fetched::Word(width.word_at(program, at))
+            } else {
+                Fetched::Absent
+            }
+        }
     }
 }
 
 // The instruction word at an address: protected, absent, or there.
-fn read_at(program: &[u8], w: &[u32], wide: bool, a: u32) -> Fetched
-    requires { MachineWords w.now × (a + word_bytes (width_by wide) ≤ 2 ^ 32) }
-    ensures { fetched_as result ≡ read_at program.now (control_at (machine_of w.now) IMEM_BOUND_LO) (control_at (machine_of w.now) IMEM_BOUND_HI) (user_mode (psr (machine_of w.now))) (word_bytes (width_by wide)) a }
+fn read_at(program: &[u8], w: &[u32], width: Width, a: u32) -> Fetched
+    requires { MachineWords w.now × (a + word_bytes width ≤ 2 ^ 32) }
+    ensures { fetched_as result ≡ read_at program.now (control_at (machine_of w.now) IMEM_BOUND_LO) (control_at (machine_of w.now) IMEM_BOUND_HI) (user_mode (psr (machine_of w.now))) (word_bytes width) a }
 {
-    if closed(w, machine::user_mode(w), a, isa::word_bytes(wide)) {
+    if closed(w, machine::user_mode(w), a, width.bytes()) {
         Fetched::Fault(0x00)
     } else {
-        word_at(program, wide, a)
+        word_at(program, width, a)
     }
 }
 
@@ -66,11 +75,11 @@ pub fn fetch(program: &[u8], w: &[u32]) -> Fetched
     ensures { (memory : Memory) → fetched_as result ≡ (view_of program.now w.now memory).fetched }
 {
     let pc = machine::pc(w);
-    let wide = machine::wide_words(w);
-    if misaligned(wide, pc) {
+    let width = machine::width(w);
+    if misaligned(width, pc) {
         Fetched::Fault(0x05)
     } else {
-        read_at(program, w, wide, pc)
+        read_at(program, w, width, pc)
     }
 }
 
@@ -79,8 +88,8 @@ fn following(program: &[u8], w: &[u32], k: u32) -> Fetched
     requires { MachineWords w.now × ((machine_of w.now).position.pc < MOST_MEMORY) × (k < 4) }
     ensures { (memory : Memory) → fetched_as result ≡ (view_of program.now w.now memory).following k }
 {
-    let wide = machine::wide_words(w);
-    read_at(program, w, wide, machine::pc(w) + k * isa::word_bytes(wide))
+    let width = machine::width(w);
+    read_at(program, w, width, machine::pc(w) + k * width.bytes())
 }
 
 // Whether the k-th word after the next instruction is a nop.
@@ -91,7 +100,7 @@ fn check_nop(program: &[u8], w: &[u32], k: u32) -> NopCheck
     let fetched = following(program, w, k);
     match fetched {
         Fetched::Word(word) => {
-            if isa::opcode(word, machine::wide_words(w)) == 0 {
+            if machine::width(w).opcode(word) == 0 {
                 NopCheck::Pass
             } else {
                 NopCheck::Stop(20)

@@ -4,7 +4,7 @@ use Rattle.view.proofs.condition_false.Goals as goal
 
 pub returns-then-conditional : goal.returns-then-conditional
 unfolding view condition_false
-returns-then-conditional c q memory = rw (c.if-conditional.true, c.holds.ensures, c.condition.ensures)
+returns-then-conditional c q memory = rw (c.if-conditional.true, c.holds.ensures, c.from_number.ensures, c.condition.ensures)
 
 pub returns-else-conditional : goal.returns-else-conditional
 unfolding view condition_false

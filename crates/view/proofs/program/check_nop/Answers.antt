@@ -23,7 +23,7 @@ unfolding fetched_as found_then nop_check_as choose◌then◌else◌ view width_
 returns-then-opcode-eq0 c memory =
     rw (
       given (goal.at.returns-then-opcode-eq0 c).After-following-fetched _ c.in-Word.is memory,
-      ← c.wide_words.ensures,
+      ← c.width.ensures,
       ← c.opcode.ensures,
       c.if-opcode-eq0.true,
     )
@@ -33,7 +33,7 @@ unfolding fetched_as found_then nop_check_as choose◌then◌else◌ view width_
 returns-else-opcode-eq0 c memory =
     rw (
       given (goal.at.returns-else-opcode-eq0 c).After-following-fetched _ c.in-Word.is memory,
-      ← c.wide_words.ensures,
+      ← c.width.ensures,
       ← c.opcode.ensures,
       ne_eqb _ 0 c.if-opcode-eq0.false,
     )

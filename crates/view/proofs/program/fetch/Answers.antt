@@ -3,7 +3,6 @@ use mathlib.Core.Path.{◌≡◌, refl}
 use native.Mathlib.Omega.{arith}
 use borrow.Author.Rules.{rules}
 use Rattle.word.specs.Choice.{choose◌then◌else◌}
-use Rattle.isa.specs.Operation.{width_by}
 use Rattle.isa.specs.Decode.{word_bytes}
 use Rattle.machine.specs.Machine.{psr, user_mode, width_of, Memory}
 use Rattle.machine.specs.Control.{control_at, IMEM_BOUND_LO, IMEM_BOUND_HI}
@@ -15,7 +14,7 @@ use Rattle.view.proofs.program.fetch.Goals.{After-misaligned}
 
 pub read_at-requires : goal.read_at-requires
 read_at-requires c =
-    let wide = width_by c.wide_words-wide.result in
+    let wide = c.width-width.result in
     (search rules, aligned_fits wide _ _ refl (omega arith) (aligned_at _ _ _ c.misaligned.ensures c.if-misaligned.false))
 
 -- with the width and the address as they were read
@@ -23,9 +22,9 @@ asked : (c : goal.After-misaligned) (memory : Memory)
     → let m = machine_of c.args.w.now in
     (view_of c.args.program.now c.args.w.now memory).fetched
     ≡ choose c.misaligned.result then Raises 0x05
-    else read_at c.args.program.now (control_at m IMEM_BOUND_LO) (control_at m IMEM_BOUND_HI) (user_mode (psr m)) (word_bytes (width_by c.wide_words-wide.result)) c.pc-pc.result
+    else read_at c.args.program.now (control_at m IMEM_BOUND_LO) (control_at m IMEM_BOUND_HI) (user_mode (psr m)) (word_bytes c.width-width.result) c.pc-pc.result
 unfolding view fetch_at width_of
-asked c memory = rw (c.misaligned.ensures, c.wide_words-wide.ensures, c.pc-pc.ensures)
+asked c memory = rw (c.misaligned.ensures, c.width-width.ensures, c.pc-pc.ensures)
 
 pub returns-then-misaligned : goal.returns-then-misaligned
 unfolding choose◌then◌else◌ fetched_as
