@@ -9,19 +9,19 @@ ghost use Rattle.effect.specs.Effect.{Jump, JumpLink};
 ghost use Rattle.operation.specs.Execute.{target_by, jumped, execute};
 ghost use Rattle.operation.specs.Promises.{RefusesJump, PerformsSeen};
 
-use isa::Instruction;
+use isa::{Condition, Instruction};
 
 // The code of the exception of a taken jump to a target, 04h, 03h or 09h; 0 where there is none.
 fn target_code(w: &[u32], target: i64) -> u32
     requires { MachineWords w.now }
     ensures { RefusesJump target result w.now }
 {
-    let wide = machine::wide_words(w);
-    let n = isa::word_bytes(wide);
+    let width = machine::width(w);
+    let n = width.bytes();
     let t = word::low_word(target);
     if !word::is_address(target) {
         0x04
-    } else if view::misaligned(wide, t) {
+    } else if view::misaligned(width, t) {
         0x03
     } else if view::closed(w, machine::user_mode(w), t, n) {
         0x09
@@ -51,7 +51,7 @@ fn target(w: &[u32], n: i32) -> i64
     requires { MachineWords w.now × ((machine_of w.now).position.pc < MOST_MEMORY) }
     ensures { Shows (λ v. target_by v n) result w.now }
 {
-    let bytes = isa::word_bytes(machine::wide_words(w));
+    let bytes = machine::width(w).bytes();
     word::jump_target(machine::pc(w) + bytes, n)
 }
 
@@ -81,7 +81,7 @@ pub fn branches(w: &mut [u32], i: Instruction) -> u32
     ensures { (x y : ℕ) → PerformsSeen (λ v. execute (operation_of i.opcode) v i x y) result w.old w.new }
 {
     let op = i.opcode;
-    if isa::holds(op - 40, machine::condition(w, i.creg)) {
+    if Condition::from_number(op - 40).holds(machine::condition(w, i.creg)) {
         let t = target(w, i.immediate);
         jumped(w, t, false)
     } else {

@@ -15,6 +15,7 @@ returns-then-holds c x y p memory =
     rw (
       branches_are _ a.i x y a.i.opcode (omega arith) (omega arith),
       ← c.condition.ensures,
+      ← c.from_number.ensures,
       ← c.holds.ensures,
       c.if-holds.true,
       ← (target_told _ a.i.immediate _ (omega arith) t.type_inv (t.ensures p memory)),
@@ -28,6 +29,7 @@ returns-else-holds c x y p memory =
     rw (
       branches_are _ a.i x y a.i.opcode (omega arith) (omega arith),
       ← c.condition.ensures,
+      ← c.from_number.ensures,
       ← c.holds.ensures,
       c.if-holds.false,
     )

@@ -6,7 +6,6 @@ use native.Mathlib.Omega.{arith}
 use borrow.Author.Rules.{rules}
 use Rattle.word.specs.Choice.{choose◌then◌else◌}
 use Rattle.word.specs.Word.{word_of, is_address}
-use Rattle.isa.specs.Operation.{width_by}
 use Rattle.machine.specs.Machine.{width_of, Memory}
 use Rattle.view.specs.View.{view, view_of}
 use Rattle.effect.specs.Effect.{Effect, Raised}
@@ -32,9 +31,9 @@ aligned c p memory taken =
     rw (
       ← (let h : c.is_address.result ≡ is_address c.args.target = handed is_address c.ranges.target c.is_address.ensures in h),
       ← (let h : c.low_word-t.result ≡ word_of 32 c.args.target = handed (word_of 32) c.ranges.target c.low_word-t.ensures in h),
-      ← c.wide_words-wide.ensures,
+      ← c.width-width.ensures,
       ← c.misaligned.ensures,
-      ← c.word_bytes-n.ensures,
+      ← c.bytes-n.ensures,
       ← c.user_mode.ensures,
       ← c.closed.ensures,
       c.if-not-is_address.false,
@@ -43,8 +42,8 @@ aligned c p memory taken =
 
 pub closed-requires : goal.closed-requires
 closed-requires c =
-    let bytes = c.word_bytes-n in
-    let wide = width_by c.wide_words-wide.result in
+    let bytes = c.bytes-n in
+    let wide = c.width-width.result in
     let even = aligned_at _ _ _ c.misaligned.ensures c.if-misaligned.false in
     (search rules, rw bytes.ensures (bytes_positive wide), aligned_fits wide _ _ bytes.ensures (omega arith) (rw bytes.ensures even))
 
@@ -58,7 +57,7 @@ returns-then-misaligned c p memory taken =
     rw (
       ← (address_is (goal.at.returns-then-misaligned c).After-is_address),
       ← (word-is (goal.at.returns-then-misaligned c).After-low_word-t),
-      ← c.wide_words-wide.ensures,
+      ← c.width-width.ensures,
       ← c.misaligned.ensures,
       c.if-not-is_address.false,
       c.if-misaligned.true,
