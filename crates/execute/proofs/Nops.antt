@@ -1,7 +1,7 @@
 -- What the nops that must follow an instruction make of it: nothing, or what comes of the first word that is none. Assumes nothing.
 use mathlib.Core.Path.{◌≡◌, refl, sym, ◌∙◌}
 use mathlib.Core.Bool.{◌&&◌, true≢false}
-use mathlib.Core.Option.{Option, none, some}
+use Rattle.std.specs.Prelude.{Option, None, Some}
 use Prim.Native.Nat.{ℕ, zero, suc, ◌+◌, ◌≤◌, ◌<◌}
 use native.Mathlib.Omega.{arith}
 use lib.Dec.{eqb}
@@ -69,8 +69,8 @@ module _ (v : View) where
       available_effects : (o : Option ℕ) → unavailable (properties (operation_of i.opcode)).availability (width_of v.status) (user_mode v.status) ≡ o
           → Effects v i count (if_available v i (operation_of i.opcode) o) (if_available u i (operation_of i.opcode) o)
       unfolding if_available with_following condition_false choose◌then◌else◌ on_found
-      available_effects (some c) o = alike (λ p. absurd (let e = p.available in let z : ◌≡◌ {A = ℕ} 0 1 = cc in omega arith)) refl
-      available_effects none o =
+      available_effects (Some c) o = alike (λ p. absurd (let e = p.available in let z : ◌≡◌ {A = ℕ} 0 1 = cc in omega arith)) refl
+      available_effects None o =
           either ((properties (operation_of i.opcode)).transfer && eqb v.position.slot 1)
           (λ t. alike (λ p. absurd (true≢false (sym t ∙ p.in_no_slot))) (rw t))
           (λ t.

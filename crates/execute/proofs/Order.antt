@@ -1,12 +1,11 @@
 -- The order of an instruction's tests, by what each gives. Assumes nothing.
 use mathlib.Core.Path.{◌≡◌, refl, ◌∙◌}
-use mathlib.Core.Option.{none}
+use Rattle.std.specs.Prelude.{Option, None, Some}
 use mathlib.Core.Bool.{Bool, true, false, ◌&&◌}
 use Prim.Native.Nat.{ℕ}
 use lib.Dec.{eqb}
 use Rattle.word.specs.Choice.{choose◌then◌else◌}
-use Rattle.isa.specs.Operation.{operation_of, unavailable, code_of, properties}
-use Rattle.isa.proofs.Rules.{available, refused}
+use Rattle.isa.specs.Operation.{operation_of, unavailable, properties}
 use Rattle.isa.specs.Decode.{decode}
 use Rattle.isa.specs.declared.instruction.Instruction.{Instruction}
 use Rattle.machine.specs.Machine.{user_mode, width_of}
@@ -32,23 +31,23 @@ fetched_same v u (Stops n) h = refl
 -- ---- an instruction
 
 module _ (v : View) (i : Instruction) where
-  -- the code of the exception where it may not be used, or 0
-  abbrev pub code_for : ℕ
-  code_for = code_of (unavailable (properties (operation_of i.opcode)).availability (width_of v.status) (user_mode v.status))
+  -- the code of the exception where it may not be used
+  abbrev pub code_for : Option ℕ
+  code_for = unavailable (properties (operation_of i.opcode)).availability (width_of v.status) (user_mode v.status)
 
   -- whether it is a control transfer in a slot
   abbrev pub transfer_in_slot : Bool
   transfer_in_slot = (properties (operation_of i.opcode)).transfer && eqb v.position.slot 1
 
   -- it may not be used
-  pub barred : (code : ℕ) → code ≡ code_for → (code ≡ 0 → ⊥) → instruction v i ≡ Raised code
+  pub barred : (code : ℕ) → code_for ≡ Some code → instruction v i ≡ Raised code
   unfolding instruction if_available
-  barred code e n = rw (refused _ (λ z. n (e ∙ z)), ← e)
+  barred code e = rw e
 
-  module _ (usable : code_for ≡ 0) where
-    free : instruction v i ≡ if_available v i (operation_of i.opcode) none
+  module _ (usable : code_for ≡ None) where
+    free : instruction v i ≡ if_available v i (operation_of i.opcode) None
     unfolding instruction
-    free = rw (available _ _ _ usable)
+    free = rw usable
 
     -- stop 13
     pub in_slot : transfer_in_slot ≡ true → instruction v i ≡ Stopped 13

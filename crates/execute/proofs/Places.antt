@@ -1,7 +1,7 @@
 -- Which instructions ask a data address: ld and st alone, one address each, if their condition is not false. Assumes nothing.
 use mathlib.Core.Path.{◌≡◌, refl, sym, ap, ◌∙◌}
 use mathlib.Core.Bool.{true, false, ◌&&◌}
-use mathlib.Core.Option.{Option, none, some}
+use Rattle.std.specs.Prelude.{Option, None, Some}
 use Prim.Native.Nat.{ℕ, ◌≤◌, ◌<◌}
 use native.Mathlib.Omega.{arith}
 use lib.Dec.{eqb, ltb}
@@ -36,7 +36,7 @@ module _ (i : Instruction) (a : between 27 28 i.opcode ≡ true) where
   range = both_bounds 27 i.opcode 28 a
 
   module _ (v : View) where
-    usable : code_for v i ≡ 0
+    usable : code_for v i ≡ None
     usable = let h = range.1 in usable_low _ _ i.opcode (omega arith)
 
     stays : transfer_in_slot v i ≡ false
@@ -89,8 +89,8 @@ module _ (v : View) (place : ℤ → Attempt Location) (held : Location → ℕ)
   module _ (i : Instruction) (k : i.opcode < 64) (a : between 27 28 i.opcode ≡ false) where
     other_available : (o : Option ℕ) → if_available v i (operation_of i.opcode) o ≡ if_available u i (operation_of i.opcode) o
     unfolding if_available perform with_places condition_false
-    other_available (some c) = refl
-    other_available none =
+    other_available (Some c) = refl
+    other_available None =
         ap (λ (e : Effect). choose (properties (operation_of i.opcode)).transfer && eqb v.position.slot 1 then Stopped 13 else choose condition_false v i then Next
         else on_found (λ _. e) (nops_after v (properties (operation_of i.opcode)).nops))
         (other_same i (v.source i.sreg1) (v.source i.sreg2) i.opcode k a)

@@ -1,7 +1,7 @@
 -- What a decision can be: a stop has one of the numbers, an exception has the code of a test or of trap, a store goes to a place that passed the data tests, and a privileged effect is not user mode's. Assumes nothing.
 use mathlib.Core.Path.{◌≡◌, refl}
 use mathlib.Core.Bool.{Bool, true, false}
-use mathlib.Core.Option.{Option, none, some}
+use Rattle.std.specs.Prelude.{Option, None, Some}
 use mathlib.Core.List.{List}
 use Prim.Native.Nat.{ℕ}
 use native.Mathlib.Omega.{arith}
@@ -89,9 +89,9 @@ module _ (v : View) where
 
 -- an operation that is available
 abbrev Available : View → Operation → Type 0
-Available v op = unavailable (properties op).availability (width_of v.status) (user_mode v.status) ≡ none
+Available v op = unavailable (properties op).availability (width_of v.status) (user_mode v.status) ≡ None
 
-super_only_law : (w : Width) (user : Bool) → unavailable super_only w user ≡ none → user ≡ false
+super_only_law : (w : Width) (user : Bool) → unavailable super_only w user ≡ None → user ≡ false
 unfolding unavailable
 super_only_law w true e = absurd (let z : ◌≡◌ {A = ℕ} 0 1 = cc in omega arith)
 super_only_law w false e = refl
@@ -179,8 +179,8 @@ module _ (v : View) (h : AnswersNumbered v) where
   available_safe : (i : Instruction) (op : Operation) (o : Option ℕ)
       → unavailable (properties op).availability (width_of v.status) (user_mode v.status) ≡ o → Safe v (if_available v i op o)
   unfolding if_available perform code_of is_among
-  available_safe i op (some c) e = rw e at (unavailable_coded (properties op).availability (width_of v.status) (user_mode v.status))
-  available_safe i op none e =
+  available_safe i op (Some c) e = rw e at (unavailable_coded (properties op).availability (width_of v.status) (user_mode v.status))
+  available_safe i op None e =
       if_safe v _ _ _ (λ _. refl) (λ _. if_safe v _ _ _ (λ _. tt) (λ _.
       found_safe v _ _ (nops_numbered _ v.following h.after 1 (properties op).nops) (λ _ _. execute_safe v h i (v.source i.sreg1) (v.source i.sreg2) op e)))
 

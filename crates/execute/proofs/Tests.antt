@@ -8,13 +8,15 @@ use native.Mathlib.Omega.{arith}
 use lib.Dec.{eqb}
 use borrow.Author.Tests.{ne_eqb}
 use Rattle.word.proofs.Tests.{either}
-use Rattle.isa.specs.Operation.{operation_of, width_by, properties, unavailable, code_of}
+use Rattle.std.specs.Prelude.{Option, Some, None}
+use Rattle.isa.specs.declared.width.Width.{Width}
+use Rattle.isa.specs.Operation.{operation_of, properties, unavailable}
 use Rattle.isa.specs.Format.{fields_of, conditional_field}
 use Rattle.isa.specs.Decode.{opcode_of, assembled, decode}
 use Rattle.isa.specs.Computed.{instructions}
 use Rattle.isa.specs.declared.instruction.Instruction.{Instruction}
 use Rattle.isa.proofs.Decoded.{InRange, in_range}
-use Rattle.machine.specs.Machine.{psr, user_mode, wide_words, width_of, Memory}
+use Rattle.machine.specs.Machine.{psr, user_mode, width_of, Memory}
 use Rattle.machine.specs.Words.{machine_of}
 use Rattle.view.specs.View.{Attempt, Found, View, view, view_of, condition_false, nops_after}
 use Rattle.effect.specs.Effect.{Effect, Stopped, Raised, Next}
@@ -37,20 +39,19 @@ pub record Decoded (w : List ℕ) (word op : ℕ) (i : Instruction) : Type 0 whe
   pub range : InRange i
 
 -- as the code decodes it
-pub decoded : (w : List ℕ) (word op : ℕ) (wide : Bool) (i : Instruction) → wide ≡ wide_words (psr (machine_of w)) → i ≡ decode (width_by wide) word
+pub decoded : (w : List ℕ) (word op : ℕ) (width : Width) (i : Instruction) → width ≡ width_of (psr (machine_of w)) → i ≡ decode width word
     → op ≡ opcode_of (width_of (psr (machine_of w))) word → Decoded w word op i
-unfolding width_of decode assembled
-decoded w word op wide i q e o =
+unfolding decode assembled
+decoded w word op width i q e o =
     record {
       same = rw (← q) e;
       number = rw (e, q, o);
-      range = rw e (in_range (width_by wide) word);
+      range = rw e (in_range width word);
     }
 
 -- as the definition does
 pub decoded_word : (w : List ℕ) (word op : ℕ) → op ≡ opcode_of (width_of (psr (machine_of w))) word → Decoded w word op (decode (width_of (psr (machine_of w))) word)
-unfolding width_of
-decoded_word w word op o = decoded w word op (wide_words (psr (machine_of w))) (decode (width_of (psr (machine_of w))) word) refl refl o
+decoded_word w word op o = decoded w word op (width_of (psr (machine_of w))) (decode (width_of (psr (machine_of w))) word) refl refl o
 
 module _ (p w : List ℕ) (memory : Memory) {word op : ℕ} {i : Instruction} (d : Decoded w word op i) where
   abbrev v : View
@@ -65,9 +66,9 @@ module _ (p w : List ℕ) (memory : Memory) {word op : ℕ} {i : Instruction} (d
 
   -- ---- its tests, by its number
 
-  -- the code of the exception where it may not be used, or 0
-  abbrev code_now : ℕ
-  code_now = code_of (unavailable (properties (operation_of op)).availability (width_of (psr (machine_of w))) (user_mode (psr (machine_of w))))
+  -- the code of the exception where it may not be used
+  abbrev code_now : Option ℕ
+  code_now = unavailable (properties (operation_of op)).availability (width_of (psr (machine_of w))) (user_mode (psr (machine_of w)))
 
   same_code : code_for v i ≡ code_now
   unfolding view
@@ -82,11 +83,11 @@ module _ (p w : List ℕ) (memory : Memory) {word op : ℕ} {i : Instruction} (d
   same_transfer = rw d.number
 
   -- it may not be used
-  pub word_barred : (code : ℕ) → code ≡ code_now → (code ≡ 0 → ⊥) → done ≡ report_on (Raised code) w memory
+  pub word_barred : (code : ℕ) → code_now ≡ Some code → done ≡ report_on (Raised code) w memory
   unfolding view on_found fetched_then
-  word_barred code c n = by (Raised code) (rw (← d.same) (barred v i code (c ∙ sym same_code) n))
+  word_barred code c = by (Raised code) (rw (← d.same) (barred v i code (same_code ∙ c)))
 
-  module _ (usable : code_now ≡ 0) where
+  module _ (usable : code_now ≡ None) where
     -- stop 13
     pub word_in_slot : transfer_now ≡ true → done ≡ report_on (Stopped 13) w memory
     unfolding view on_found fetched_then

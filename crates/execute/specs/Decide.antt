@@ -1,6 +1,6 @@
 -- What the next instruction does: the order of its tests (01 "Instruction order"). Assumes nothing.
 use Rattle.std.specs.Prelude.{◌≡◌, false, ◌&&◌, ℕ, eqb}
-use Rattle.std.proofs.Math.Option.{Option, none, some}
+use Rattle.std.specs.Prelude.{Option, None, Some}
 use Rattle.word.specs.Choice.{choose◌then◌else◌}
 use Rattle.isa.specs.declared.operation.Operation.{Operation}
 use Rattle.isa.specs.Operation.{operation_of, properties, unavailable}
@@ -18,8 +18,8 @@ perform v i op = execute op v i (v.source i.sreg1) (v.source i.sreg2)
 -- the code of 02h, if it is there; stop 13 for a control transfer in a slot, condition true or not; "condition false: nothing
 -- but PC moves"; the nops that must follow, looked at "once any condition is true and before stop 15" (02, wish 8); its own effect
 unfoldable pub if_available : View → Instruction → Operation → Option ℕ → Effect
-if_available v i op (some code) = Raised code
-if_available v i op none =
+if_available v i op (Some code) = Raised code
+if_available v i op None =
     choose (properties op).transfer && eqb v.position.slot 1 then Stopped 13
     else choose condition_false v i then Next
     else on_found (λ _. perform v i op) (nops_after v (properties op).nops)
@@ -41,7 +41,7 @@ decide v = fetched_then v v.fetched
 -- an instruction that comes to the nops that must follow it, and then to its own effect: available, no control transfer in a slot, its condition
 -- not false. For comparisons: no rule uses it
 pub record Passes (v : View) (i : Instruction) : Type 0 where
-  pub available : unavailable (properties (operation_of i.opcode)).availability (width_of v.status) (user_mode v.status) ≡ none
+  pub available : unavailable (properties (operation_of i.opcode)).availability (width_of v.status) (user_mode v.status) ≡ None
   pub in_no_slot : (properties (operation_of i.opcode)).transfer && eqb v.position.slot 1 ≡ false
   pub holds : condition_false v i ≡ false
 

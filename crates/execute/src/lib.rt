@@ -3,9 +3,9 @@
 #![tactic(auto)]
 
 ghost use Rattle.std.specs.Prelude.{◌≡◌, ◌≤◌, ◌<◌, length};
-ghost use Rattle.isa.specs.Operation.{operation_of, Properties, properties, unavailable, code_of};
+ghost use Rattle.isa.specs.Operation.{operation_of, properties, unavailable};
 ghost use Rattle.isa.specs.Decode.{opcode_of};
-ghost use Rattle.machine.specs.Machine.{MOST_MEMORY, psr, user_mode, wide_words, width_of, memory_of};
+ghost use Rattle.machine.specs.Machine.{MOST_MEMORY, psr, user_mode, width_of, memory_of};
 ghost use Rattle.machine.specs.Words.{MachineWords, machine_of};
 ghost use Rattle.view.specs.View.{Found, view_of};
 ghost use Rattle.execute.specs.Decide.{fetched_then, decide};
@@ -14,16 +14,16 @@ ghost use Rattle.machine.specs.Stack.{StackShown};
 ghost use Rattle.operation.specs.Promises.{PerformsIn, PerformsSeen, StoresIn, PerformsStoring};
 
 use effect::next;
-use machine::wide_words;
+use isa::{Instruction, Operation, Width};
 use operation::{branches, fields, immediates, jumps, load, moves, registers, store, system};
 use view::{Fetched, NopCheck, condition_false, source};
 
-// The code of the exception where an operation may not be used, by the width and the mode; 0 where it may.
-fn unavailability(w: &[u32], op: u32) -> u32
+// The code of the exception where an operation may not be used, by the width and the mode.
+fn unavailable(w: &[u32], op: u32) -> Option<u32>
     requires { MachineWords w.now }
-    ensures { result ≡ code_of (unavailable (properties (operation_of op)).availability (width_of (psr (machine_of w.now))) (user_mode (psr (machine_of w.now)))) }
+    ensures { result ≡ unavailable (properties (operation_of op)).availability (width_of (psr (machine_of w.now))) (user_mode (psr (machine_of w.now))) }
 {
-    isa::unavailability(op, wide_words(w), machine::user_mode(w))
+    Operation::from_number(op).unavailable(machine::width(w), machine::user_mode(w))
 }
 
 // Words of operations 1 to 17: add to sext.
@@ -31,7 +31,7 @@ fn register_word(w: &mut [u32], word: u32, op: u32) -> u32
     requires { MachineWords w.old × (op ≡ opcode_of (width_of (psr (machine_of w.old))) word) × (1 ≤ op) × (op ≤ 17) }
     ensures { PerformsSeen (λ v. fetched_then v (Found word)) result w.old w.new }
 {
-    let i = isa::decode_registers(word, wide_words(w), op);
+    let i = Instruction::of_registers(word, machine::width(w));
     if condition_false(w, i) {
         next(w)
     } else {
@@ -46,7 +46,7 @@ fn immediate_word(w: &mut [u32], word: u32, op: u32) -> u32
     requires { MachineWords w.old × (op ≡ opcode_of (width_of (psr (machine_of w.old))) word) × (18 ≤ op) × (op ≤ 26) }
     ensures { PerformsSeen (λ v. fetched_then v (Found word)) result w.old w.new }
 {
-    let i = isa::decode_immediate(word, wide_words(w), op);
+    let i = Instruction::of_immediate(word, machine::width(w));
     if condition_false(w, i) {
         next(w)
     } else {
@@ -61,7 +61,7 @@ fn access_word(w: &mut [u32], cells: &mut [u32], word: u32, op: u32) -> u32
     ensures { PerformsStoring (λ v. fetched_then v (Found word)) result w.old cells.old w.new cells.new }
 {
     let is_load = op < 28;
-    let i = isa::decode_access(word, wide_words(w), op);
+    let i = Instruction::of_access(word, machine::width(w));
     if condition_false(w, i) {
         next(w)
     } else {
@@ -79,11 +79,10 @@ fn move_word(w: &mut [u32], word: u32, op: u32) -> u32
     requires { MachineWords w.old × (op ≡ opcode_of (width_of (psr (machine_of w.old))) word) × (29 ≤ op) × (op ≤ 35) }
     ensures { PerformsSeen (λ v. fetched_then v (Found word)) result w.old w.new }
 {
-    let code = unavailability(w, op);
-    if code != 0 {
+    if let Some(code) = unavailable(w, op) {
         return effect::raise(w, code);
     }
-    let i = isa::decode_move(word, wide_words(w), op);
+    let i = Instruction::of_move(word, machine::width(w));
     if condition_false(w, i) {
         next(w)
     } else {
@@ -101,7 +100,7 @@ fn jump_word(w: &mut [u32], word: u32, op: u32) -> u32
     if machine::slot(w) == 1 {
         return 13;
     }
-    let i = isa::decode_jump(word, wide_words(w), op);
+    let i = Instruction::of_jump(word, machine::width(w));
     if condition_false(w, i) {
         next(w)
     } else {
@@ -118,7 +117,7 @@ fn branch_word(w: &mut [u32], word: u32, op: u32) -> u32
     if machine::slot(w) == 1 {
         return 13;
     }
-    let i = isa::decode_jump(word, wide_words(w), op);
+    let i = Instruction::of_jump(word, machine::width(w));
     branches(w, i)
 }
 
@@ -127,18 +126,17 @@ fn system_word(program: &[u8], w: &mut [u32], word: u32, op: u32) -> u32
     requires { MachineWords w.old × ((machine_of w.old).position.pc < MOST_MEMORY) × StackShown (machine_of w.old) × (op ≡ opcode_of (width_of (psr (machine_of w.old))) word) × (48 ≤ op) × (op ≤ 57) }
     ensures { PerformsIn program.now (λ v. fetched_then v (Found word)) result w.old w.new }
 {
-    let code = unavailability(w, op);
-    if code != 0 {
+    if let Some(code) = unavailable(w, op) {
         return effect::raise(w, code);
     }
-    if isa::is_transfer(op) & (machine::slot(w) == 1) {
+    if Operation::from_number(op).is_transfer() & (machine::slot(w) == 1) {
         return 13;
     }
-    let i = isa::decode_system(word, wide_words(w), op);
+    let i = Instruction::of_system(word, machine::width(w));
     if condition_false(w, i) {
         return next(w);
     }
-    let nops = view::check_nops(program, w, isa::nops_after(op));
+    let nops = view::check_nops(program, w, Operation::from_number(op).nops_after());
     match nops {
         NopCheck::Pass => {
             let x = source(w, i.sreg1);
@@ -150,15 +148,14 @@ fn system_word(program: &[u8], w: &mut [u32], word: u32, op: u32) -> u32
 }
 
 // Words of operations 58 to 63: conb to exbfi. exbfi is not there in 16-bit words.
-fn field_word(w: &mut [u32], word: u32, op: u32, wide: bool) -> u32
-    requires { MachineWords w.old × (wide ≡ wide_words (psr (machine_of w.old))) × (op ≡ opcode_of (width_of (psr (machine_of w.old))) word) × (58 ≤ op) × (op ≤ 63) }
+fn field_word(w: &mut [u32], word: u32, op: u32, width: Width) -> u32
+    requires { MachineWords w.old × (width ≡ width_of (psr (machine_of w.old))) × (op ≡ opcode_of (width_of (psr (machine_of w.old))) word) × (58 ≤ op) × (op ≤ 63) }
     ensures { PerformsSeen (λ v. fetched_then v (Found word)) result w.old w.new }
 {
-    let code = unavailability(w, op);
-    if code != 0 {
+    if let Some(code) = unavailable(w, op) {
         return effect::raise(w, code);
     }
-    let i = isa::decode_field(word, wide, op);
+    let i = Instruction::of_field(word, width);
     if condition_false(w, i) {
         next(w)
     } else {
@@ -191,13 +188,10 @@ fn upper_half(program: &[u8], w: &mut [u32], word: u32, op: u32) -> u32
         36..=39 => jump_word(w, word, op),
         40..=47 => branch_word(w, word, op),
         48..=57 => system_word(program, w, word, op),
-        _ => {
-            if wide_words(w) {
-                field_word(w, word, op, true)
-            } else {
-                field_word(w, word, op, false)
-            }
-        }
+        _ => match machine::width(w) {
+            Width::Narrow => field_word(w, word, op, Width::Narrow),
+            Width::Wide => field_word(w, word, op, Width::Wide),
+        },
     }
 }
 
@@ -208,7 +202,7 @@ fn instruction(program: &[u8], w: &mut [u32], cells: &mut [u32], word: u32) -> u
     requires { MachineWords w.old × ((machine_of w.old).position.pc < MOST_MEMORY) × StackShown (machine_of w.old) }
     ensures { StoresIn program.now (λ v. fetched_then v (Found word)) result w.old cells.old w.new cells.new }
 {
-    let op = isa::opcode(word, wide_words(w));
+    let op = machine::width(w).opcode(word);
     if op > 26 {
         if op > 28 {
             upper_half(program, w, word, op)

@@ -5,28 +5,28 @@ use Prim.Native.Nat.{ℕ, ◌≤◌, ◌<◌}
 use native.Mathlib.Omega.{arith}
 use Rattle.isa.specs.declared.width.Width.{Width}
 use Rattle.isa.specs.declared.width.Width.TheVariants.{Narrow, Wide}
-use Rattle.isa.specs.Operation.{operation_of, properties}
+use Rattle.std.specs.Prelude.{None}
+use Rattle.isa.specs.Operation.{operation_of, unavailable, properties}
 use Rattle.isa.specs.Computed.{instructions}
-use Rattle.isa.specs.Theorems.{code_at}
 use Rattle.isa.proofs.Table.{values, agree}
 
 -- nop to cmpi may be used anywhere
-pub usable_low : (width : Width) (user : Bool) (n : ℕ) → n < 34 → code_at width user n ≡ 0
+pub usable_low : (width : Width) (user : Bool) (n : ℕ) → n < 34 → unavailable (properties (operation_of n)).availability width user ≡ None
 unfolding instructions values
-usable_low width user n h = agree (code_at width user) (λ n. 0) 0 34 (computed width user) n (omega arith) h
+usable_low width user n h = agree (λ n. unavailable (properties (operation_of n)).availability width user) (λ n. None) 0 34 (computed width user) n (omega arith) h
   where
-    computed : (width : Width) (user : Bool) → values (code_at width user) 0 34 ≡ values (λ n. 0) 0 34
+    computed : (width : Width) (user : Bool) → values (λ n. unavailable (properties (operation_of n)).availability width user) 0 34 ≡ values (λ n. None) 0 34
     computed Narrow true = refl
     computed Narrow false = refl
     computed Wide true = refl
     computed Wide false = refl
 
 -- and jumps and branches
-pub usable_jump : (width : Width) (user : Bool) (n : ℕ) → 36 ≤ n → n < 48 → code_at width user n ≡ 0
+pub usable_jump : (width : Width) (user : Bool) (n : ℕ) → 36 ≤ n → n < 48 → unavailable (properties (operation_of n)).availability width user ≡ None
 unfolding instructions values
-usable_jump width user = agree (code_at width user) (λ n. 0) 36 12 (computed width user)
+usable_jump width user = agree (λ n. unavailable (properties (operation_of n)).availability width user) (λ n. None) 36 12 (computed width user)
   where
-    computed : (width : Width) (user : Bool) → values (code_at width user) 36 12 ≡ values (λ n. 0) 36 12
+    computed : (width : Width) (user : Bool) → values (λ n. unavailable (properties (operation_of n)).availability width user) 36 12 ≡ values (λ n. None) 36 12
     computed Narrow true = refl
     computed Narrow false = refl
     computed Wide true = refl

@@ -1,7 +1,6 @@
 -- The table of operations against the sentences of 01 and 02, each by one computed test; mnemonic_short is for a listing. Assumes nothing.
 use mathlib.Core.Path.{◌≡◌, refl}
 use mathlib.Core.Logic.{◌≢◌}
-use Rattle.std.specs.Prelude.{Option, None, Some}
 use mathlib.Core.Bool.{Bool, true, false, ◌||◌, and-false}
 use Prim.Native.Nat.{ℕ, ◌≤◌, ◌<◌}
 use native.Mathlib.Omega.{arith}
@@ -88,20 +87,3 @@ unavailable_is wide user = by_number (λ o. code_of (unavailable (properties o).
 
     high : (n : ℕ) → 64 ≤ n → code_by wide user n ≡ code_by wide user 63
     high n h = rw (le-leb 63 n (omega arith), not_between 34 35 n (omega arith), ne_eqb n 49 (λ e. omega arith), ne_eqb n 51 (λ e. omega arith))
-
--- ---- the answer of `unavailability`
-
--- 0: the operation may be used
-pub available : (a : Availability) (width : Width) (user : Bool) → code_of (unavailable a width user) ≡ 0 → unavailable a width user ≡ None
-unfolding unavailable code_of
-available anywhere width user e = refl
-available wide_only Narrow user e = let z : ⊥ = omega arith in absurd z
-available wide_only Wide user e = refl
-available super_only width true e = let z : ⊥ = omega arith in absurd z
-available super_only width false e = refl
-
--- another number: it is the exception's code
-pub refused : (o : Option ℕ) → code_of o ≢ 0 → o ≡ Some (code_of o)
-unfolding code_of
-refused None d = absurd (d refl)
-refused (Some code) d = refl

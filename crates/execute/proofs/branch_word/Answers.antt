@@ -9,15 +9,15 @@ use Rattle.machine.specs.Words.{machine_of}
 use Rattle.effect.specs.Apply.{applying}
 use Rattle.execute.proofs.Tests.{Decoded, decoded, decoded_word, jump_in_slot, branch_performed}
 use Rattle.execute.proofs.branch_word.Goals as goal
-use Rattle.execute.proofs.branch_word.Goals.{After-decode_jump-i}
+use Rattle.execute.proofs.branch_word.Goals.{After-of_jump-i}
 
-given : (c : goal.After-decode_jump-i) → Decoded c.args.w.now c.args.word c.args.op c.decode_jump-i.result
-given c = decoded _ _ _ _ _ c.wide_words.ensures c.decode_jump-i.ensures c.requires.2
+given : (c : goal.After-of_jump-i) → Decoded c.args.w.now c.args.word c.args.op c.of_jump-i.result
+given c = decoded _ _ _ _ _ c.width.ensures c.of_jump-i.ensures c.requires.2
 
-group : (c : goal.After-decode_jump-i) → (40 ≤ c.args.op) × (c.args.op < 48)
+group : (c : goal.After-of_jump-i) → (40 ≤ c.args.op) × (c.args.op < 48)
 group c = (omega arith, omega arith)
 
-free : (c : goal.After-decode_jump-i) → (machine_of c.args.w.now).position.slot ≢ 1
+free : (c : goal.After-of_jump-i) → (machine_of c.args.w.now).position.slot ≢ 1
 free c = rw (← c.slot.ensures) c.if-slot-eq1.false
 
 pub returns-then-slot-eq1 : goal.returns-then-slot-eq1
@@ -25,16 +25,13 @@ unfolding applying
 returns-then-slot-eq1 c p memory =
     sym (jump_in_slot p _ memory (decoded_word c.args.w.now _ _ c.requires.2) (omega arith) (omega arith) (sym c.slot.ensures ∙ c.if-slot-eq1.true))
 
-pub decode_jump-i-requires : goal.decode_jump-i-requires
-unfolding width_of
-decode_jump-i-requires c = (rw c.wide_words.ensures c.requires.2, omega arith, omega arith)
 
 pub branches-requires : goal.branches-requires
 branches-requires c =
-    let d = given (goal.at.branches-requires c).After-decode_jump-i in
+    let d = given (goal.at.branches-requires c).After-of_jump-i in
     let e = d.number in
     (search rules, search rules, d.range.creg, omega arith, omega arith)
 
 pub returns : goal.returns
 returns c p memory =
-    c.branches.ensures _ _ p memory ∙ sym (branch_performed p _ memory (given (goal.at.returns c).After-decode_jump-i) (group (goal.at.returns c).After-decode_jump-i).0 (group (goal.at.returns c).After-decode_jump-i).1 (free (goal.at.returns c).After-decode_jump-i))
+    c.branches.ensures _ _ p memory ∙ sym (branch_performed p _ memory (given (goal.at.returns c).After-of_jump-i) (group (goal.at.returns c).After-of_jump-i).0 (group (goal.at.returns c).After-of_jump-i).1 (free (goal.at.returns c).After-of_jump-i))

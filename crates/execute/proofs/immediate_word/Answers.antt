@@ -5,31 +5,28 @@ use borrow.Author.Rules.{rules}
 use Rattle.machine.specs.Machine.{width_of}
 use Rattle.execute.proofs.Tests.{Decoded, decoded, low_skipped, low_performed}
 use Rattle.execute.proofs.immediate_word.Goals as goal
-use Rattle.execute.proofs.immediate_word.Goals.{After-decode_immediate-i}
+use Rattle.execute.proofs.immediate_word.Goals.{After-of_immediate-i}
 
-given : (c : goal.After-decode_immediate-i) → Decoded c.args.w.now c.args.word c.args.op c.decode_immediate-i.result
-given c = decoded _ _ _ _ _ c.wide_words.ensures c.decode_immediate-i.ensures c.requires.1
+given : (c : goal.After-of_immediate-i) → Decoded c.args.w.now c.args.word c.args.op c.of_immediate-i.result
+given c = decoded _ _ _ _ _ c.width.ensures c.of_immediate-i.ensures c.requires.1
 
-pub decode_immediate-i-requires : goal.decode_immediate-i-requires
-unfolding width_of
-decode_immediate-i-requires c = (rw c.wide_words.ensures c.requires.1, search rules, search rules)
 
 pub condition_false-requires : goal.condition_false-requires
 condition_false-requires c = (search rules, (given c).range.creg)
 
 pub source-x-requires : goal.source-x-requires
-source-x-requires c = (search rules, (given (goal.at.source-x-requires c).After-decode_immediate-i).range.sreg1)
+source-x-requires c = (search rules, (given (goal.at.source-x-requires c).After-of_immediate-i).range.sreg1)
 
 pub immediates-requires : goal.immediates-requires
-immediates-requires c = let e = (given (goal.at.immediates-requires c).After-decode_immediate-i).number in (search rules, omega arith, omega arith)
+immediates-requires c = let e = (given (goal.at.immediates-requires c).After-of_immediate-i).number in (search rules, omega arith, omega arith)
 
 pub returns-then-condition_false : goal.returns-then-condition_false
 returns-then-condition_false c p memory =
     c.next.ensures memory
-    ∙ sym (low_skipped p _ memory (given (goal.at.returns-then-condition_false c).After-decode_immediate-i) (omega arith) (sym (c.condition_false.ensures p memory) ∙ c.if-condition_false.true))
+    ∙ sym (low_skipped p _ memory (given (goal.at.returns-then-condition_false c).After-of_immediate-i) (omega arith) (sym (c.condition_false.ensures p memory) ∙ c.if-condition_false.true))
 
 pub returns-else-condition_false : goal.returns-else-condition_false
 returns-else-condition_false c p memory =
     c.immediates.ensures _ _ memory
-    ∙ sym (low_performed p _ memory (given (goal.at.returns-else-condition_false c).After-decode_immediate-i) (omega arith) (sym (c.condition_false.ensures p memory) ∙ c.if-condition_false.false)
+    ∙ sym (low_performed p _ memory (given (goal.at.returns-else-condition_false c).After-of_immediate-i) (omega arith) (sym (c.condition_false.ensures p memory) ∙ c.if-condition_false.false)
     _ _ (c.source-x.ensures p memory) refl)

@@ -2,7 +2,7 @@
 use mathlib.Core.Path.{◌≡◌, ap, ◌∙◌}
 use mathlib.Core.Bool.{Bool}
 use borrow.Author.Rules.{rules}
-use Rattle.isa.specs.Operation.{width_by}
+use Rattle.isa.specs.declared.width.Width.{Width}
 use Rattle.isa.specs.Decode.{opcode_of}
 use Rattle.machine.specs.Machine.{psr, width_of, memory_of}
 use Rattle.machine.specs.Words.{machine_of}
@@ -10,8 +10,7 @@ use Rattle.execute.proofs.instruction.Goals as goal
 use Rattle.execute.proofs.instruction.Goals.{After-opcode-op}
 
 number : (c : goal.After-opcode-op) → c.opcode-op.result ≡ opcode_of (width_of (psr (machine_of c.args.w.now))) c.args.word
-unfolding width_of
-number c = c.opcode-op.ensures ∙ ap (λ (wide : Bool). opcode_of (width_by wide) c.args.word) c.wide_words.ensures
+number c = c.opcode-op.ensures ∙ ap (λ (width : Width). opcode_of width c.args.word) c.width.ensures
 
 pub upper_half-requires : goal.upper_half-requires
 upper_half-requires c = (search rules, c.requires.1, c.requires.2, number (goal.at.upper_half-requires c).After-opcode-op, search rules)

@@ -4,7 +4,9 @@ use mathlib.Core.Bool.{false, ◌&&◌}
 use Prim.Native.Nat.{ℕ}
 use lib.Dec.{eqb}
 use borrow.Author.Rules.{rules}
-use Rattle.isa.specs.Operation.{operation_of, properties, unavailable, code_of}
+use Rattle.std.specs.Prelude.{None}
+use Rattle.isa.specs.declared.operation.Operation.{Operation}
+use Rattle.isa.specs.Operation.{operation_of, properties, unavailable}
 use Rattle.isa.proofs.Rules.{nops_few}
 use Rattle.machine.specs.Machine.{psr, user_mode, width_of, Memory}
 use Rattle.machine.specs.Words.{machine_of}
@@ -15,32 +17,29 @@ use Rattle.operation.specs.Execute.{on_found, execute}
 use Rattle.execute.specs.Decide.{fetched_then}
 use Rattle.execute.proofs.Tests.{Decoded, decoded, decoded_word, word_barred, word_in_slot, word_skipped, word_checked}
 use Rattle.execute.proofs.system_word.Goals as goal
-use Rattle.execute.proofs.system_word.Goals.{After-check_nops-nops, After-decode_system-i}
+use Rattle.execute.proofs.system_word.Goals.{After-check_nops-nops, After-of_system-i}
 
-given : (c : goal.After-decode_system-i) → Decoded c.args.w.now c.args.word c.args.op c.decode_system-i.result
-given c = decoded _ _ _ _ _ c.wide_words.ensures c.decode_system-i.ensures c.requires.3
+given : (c : goal.After-of_system-i) → Decoded c.args.w.now c.args.word c.args.op c.of_system-i.result
+given c = decoded _ _ _ _ _ c.width.ensures c.of_system-i.ensures c.requires.3
 
-usable : (c : goal.After-decode_system-i) → let m = machine_of c.args.w.now in
-    code_of (unavailable (properties (operation_of c.args.op)).availability (width_of (psr m)) (user_mode (psr m))) ≡ 0
-usable c = sym c.unavailability-code.ensures ∙ c.if-code-ne0.false
+usable : (c : goal.After-of_system-i) → let m = machine_of c.args.w.now in
+    unavailable (properties (operation_of c.args.op)).availability (width_of (psr m)) (user_mode (psr m)) ≡ None
+usable c = sym c.unavailable.ensures ∙ c.in_default.is
 
-stays : (c : goal.After-decode_system-i) → (properties (operation_of c.args.op)).transfer && eqb (machine_of c.args.w.now).position.slot 1 ≡ false
-stays c = rw (← c.is_transfer.ensures, ← c.slot.ensures) c.if-is_transfer-slot.false
+stays : (c : goal.After-of_system-i) → (properties (operation_of c.args.op)).transfer && eqb (machine_of c.args.w.now).position.slot 1 ≡ false
+stays c = rw (← c.from_number.ensures, ← c.is_transfer.ensures, ← c.slot.ensures) c.if-is_transfer-slot.false
 
-pub returns-then-code-ne0 : goal.returns-then-code-ne0
-returns-then-code-ne0 c memory =
+pub returns-in-Some : goal.returns-in-Some
+returns-in-Some c memory =
     c.raise.ensures memory
-    ∙ sym (word_barred _ _ memory (decoded_word c.args.w.now _ _ c.requires.3) _ c.unavailability-code.ensures c.if-code-ne0.true)
+    ∙ sym (word_barred _ _ memory (decoded_word c.args.w.now _ _ c.requires.3) _ (sym c.unavailable.ensures ∙ c.in-Some.is))
 
 pub returns-then-is_transfer-slot : goal.returns-then-is_transfer-slot
 unfolding applying
 returns-then-is_transfer-slot c memory =
-    sym (word_in_slot _ _ memory (decoded_word c.args.w.now _ _ c.requires.3) (sym c.unavailability-code.ensures ∙ c.if-code-ne0.false)
-    (rw (← c.is_transfer.ensures, ← c.slot.ensures) c.if-is_transfer-slot.true))
+    sym (word_in_slot _ _ memory (decoded_word c.args.w.now _ _ c.requires.3) (sym c.unavailable.ensures ∙ c.in_default.is)
+    (rw (← c.from_number.ensures, ← c.is_transfer.ensures, ← c.slot.ensures) c.if-is_transfer-slot.true))
 
-pub decode_system-i-requires : goal.decode_system-i-requires
-unfolding width_of
-decode_system-i-requires c = (rw c.wide_words.ensures c.requires.3, c.requires.4, c.requires.5)
 
 pub condition_false-requires : goal.condition_false-requires
 condition_false-requires c = (search rules, (given c).range.creg)
@@ -48,31 +47,31 @@ condition_false-requires c = (search rules, (given c).range.creg)
 pub returns-then-condition_false : goal.returns-then-condition_false
 returns-then-condition_false c memory =
     c.next.ensures memory
-    ∙ sym (word_skipped _ _ memory (given (goal.at.returns-then-condition_false c).After-decode_system-i) (usable (goal.at.returns-then-condition_false c).After-decode_system-i) (stays (goal.at.returns-then-condition_false c).After-decode_system-i) (sym (c.condition_false.ensures _ memory) ∙ c.if-condition_false.true))
+    ∙ sym (word_skipped _ _ memory (given (goal.at.returns-then-condition_false c).After-of_system-i) (usable (goal.at.returns-then-condition_false c).After-of_system-i) (stays (goal.at.returns-then-condition_false c).After-of_system-i) (sym (c.condition_false.ensures _ memory) ∙ c.if-condition_false.true))
 
 -- ---- its condition holds: the nops that must follow
 pub check_nops-nops-requires : goal.check_nops-nops-requires
-check_nops-nops-requires c = (search rules, search rules, rw c.nops_after.ensures (nops_few _))
+check_nops-nops-requires c = (search rules, search rules, rw (c.nops_after.ensures, c.from_number-2.ensures) (nops_few _))
 
 -- they decide
 checked : (c : goal.After-check_nops-nops) (r : NopCheck) → c.check_nops-nops.result ≡ r → (memory : Memory) (x : ℕ)
     → let v = view_of c.args.program.now c.args.w.now memory in
-    let i = c.decode_system-i.result in
+    let i = c.of_system-i.result in
     x ≡ v.source i.sreg1
     → report_on (fetched_then v (Found c.args.word)) c.args.w.now memory
     ≡ report_on (on_found (λ _. execute (operation_of i.opcode) v i x (v.source i.sreg2)) (nop_check_as r)) c.args.w.now memory
 checked c r e memory x a =
     let v = view_of c.args.program.now c.args.w.now memory in
-    word_checked _ _ memory (let h : Decoded c.args.w.now c.args.word c.args.op c.decode_system-i.result = decoded _ _ _ _ _ c.wide_words.ensures c.decode_system-i.ensures c.requires.3 in h) (let h : let m = machine_of c.args.w.now in
-    code_of (unavailable (properties (operation_of c.args.op)).availability (width_of (psr m)) (user_mode (psr m))) ≡ 0 = sym c.unavailability-code.ensures ∙ c.if-code-ne0.false in h) (let h : (properties (operation_of c.args.op)).transfer && eqb (machine_of c.args.w.now).position.slot 1 ≡ false = rw (← c.is_transfer.ensures, ← c.slot.ensures) c.if-is_transfer-slot.false in h) (sym (c.condition_false.ensures _ memory) ∙ c.if-condition_false.false)
-    x _ a refl (nop_check_as r) (ap nop_check_as (sym e) ∙ c.check_nops-nops.ensures memory ∙ ap (nops_after v) c.nops_after.ensures)
+    word_checked _ _ memory (let h : Decoded c.args.w.now c.args.word c.args.op c.of_system-i.result = decoded _ _ _ _ _ c.width.ensures c.of_system-i.ensures c.requires.3 in h) (let h : let m = machine_of c.args.w.now in
+    unavailable (properties (operation_of c.args.op)).availability (width_of (psr m)) (user_mode (psr m)) ≡ None = sym c.unavailable.ensures ∙ c.in_default.is in h) (let h : (properties (operation_of c.args.op)).transfer && eqb (machine_of c.args.w.now).position.slot 1 ≡ false = rw (← c.from_number.ensures, ← c.is_transfer.ensures, ← c.slot.ensures) c.if-is_transfer-slot.false in h) (sym (c.condition_false.ensures _ memory) ∙ c.if-condition_false.false)
+    x _ a refl (nop_check_as r) (ap nop_check_as (sym e) ∙ c.check_nops-nops.ensures memory ∙ ap (nops_after v) (c.nops_after.ensures ∙ ap (λ (o : Operation). (properties o).nops) c.from_number-2.ensures))
 
 pub source-x-requires : goal.source-x-requires
-source-x-requires c = (search rules, (given (goal.at.source-x-requires c).After-decode_system-i).range.sreg1)
+source-x-requires c = (search rules, (given (goal.at.source-x-requires c).After-of_system-i).range.sreg1)
 
 pub system-requires : goal.system-requires
 system-requires c =
-    (search rules, c.requires.2, rw (given (goal.at.system-requires c).After-decode_system-i).number c.requires.4, rw (given (goal.at.system-requires c).After-decode_system-i).number c.requires.5)
+    (search rules, c.requires.2, rw (given (goal.at.system-requires c).After-of_system-i).number c.requires.4, rw (given (goal.at.system-requires c).After-of_system-i).number c.requires.5)
 
 pub returns-in-Pass : goal.returns-in-Pass
 unfolding on_found nop_check_as
