@@ -103,7 +103,7 @@ fn next_is_mulhi(program: &[u8], w: &[u32]) -> bool
 {
     let fetched = view::fetch(program, w);
     match fetched {
-        Fetched::Word(word) => isa::opcode(word, machine::wide_words(w)) == MULHI,
+        Fetched::Word(word) => machine::width(w).opcode(word) == MULHI,
         Fetched::Fault(_) => false,
         Fetched::Absent => false,
     }

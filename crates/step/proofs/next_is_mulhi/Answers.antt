@@ -12,7 +12,7 @@ returns-in-Word c memory =
       ← (c.fetch-fetched.ensures memory),
       c.in-Word.is,
       c.opcode.ensures,
-      c.wide_words.ensures,
+      c.width.ensures,
     )
 
 pub returns-in-Fault : goal.returns-in-Fault
