@@ -1,8 +1,9 @@
 -- The machine's operations on bits are the definitions', digit by digit. Assumes nothing.
-use Rattle.std.proofs.Common.{◌≡◌, ℕ, zero, suc, ◌+◌, ◌*◌, ◌/◌, ◌%◌, ◌^◌, ◌<◌, min, max, refl, ap, ◌∙◌, ap₂, pow-suc, arith}
+use Rattle.std.proofs.Common.{◌≡◌, ℕ, zero, suc, ◌+◌, ◌-◌, ◌*◌, ◌/◌, ◌%◌, ◌^◌, ◌<◌, min, max, refl, ap, ◌∙◌, ap₂, pow-suc, arith}
 use lib.Bits.{bit_and, bit_or, bit_xor, and_step, or_step, xor_step, differ}
 use lib.Count
 use lib.Count.{ones, ones_step}
+use Rattle.std.proofs.lemmas.Nat.{one_shl, and_mask}
 use Rattle.word.specs.Word.{bitwise_of}
 use Rattle.word.specs.Flags.{ones_of}
 
@@ -42,3 +43,7 @@ pub ones_is : (k n : ℕ) → n < 2 ^ k → ones n ≡ ones_of k n
 unfolding ones_of ones lib.Count.ones_in
 ones_is zero n h = ap ones (none n h)
 ones_is (suc k) n h = ones_step n ∙ ap (λ (x : ℕ). n % 2 + x) (ones_is k (n / 2) (halved k n h))
+
+-- the code's `n & ((1 << k) - 1)`
+pub masked : (n k : ℕ) → k < 32 → bit_and n (1 * 2 ^ k % 2 ^ 32 - 1) ≡ n % 2 ^ k
+masked n k h = rw (one_shl k 32 h, and_mask n k) refl
