@@ -23,5 +23,5 @@ pub use status::system;
 fn immediate_value(i: Instruction) -> u32
     ensures { result ≡ word_of 32 i.immediate }
 {
-    word::word(i.immediate)
+    i.immediate.cast_unsigned()
 }

@@ -5,6 +5,7 @@ use lib.Count
 use lib.Count.{ones, ones_step}
 use Rattle.std.proofs.lemmas.Nat.{one_shl, and_mask}
 use Rattle.word.specs.Word.{bitwise_of}
+use Rattle.word.specs.Arithmetic.{and_of, or_of, xor_of, not_of}
 use Rattle.word.specs.Flags.{ones_of}
 
 halved : (k n : ℕ) → n < 2 ^ suc k → n / 2 < 2 ^ k
@@ -39,6 +40,24 @@ xor_is =
     bitwise_is bit_xor (λ x y. (x + y) % 2) refl
     (λ a b. xor_step a b ∙ ap (λ (d : ℕ). bit_xor (a / 2) (b / 2) * 2 + d) (differ_is (a % 2) (b % 2) (omega arith) (omega arith)))
 
+-- the code's `&`, `|`, `^` and `!` of words
+pub and_word : (a b : ℕ) → a < 2 ^ 32 → b < 2 ^ 32 → bit_and a b ≡ and_of a b
+unfolding and_of
+and_word a b p q = and_is 32 a b p q
+
+pub or_word : (a b : ℕ) → a < 2 ^ 32 → b < 2 ^ 32 → bit_or a b ≡ or_of a b
+unfolding or_of
+or_word a b p q = or_is 32 a b p q
+
+pub xor_word : (a b : ℕ) → a < 2 ^ 32 → b < 2 ^ 32 → bit_xor a b ≡ xor_of a b
+unfolding xor_of
+xor_word a b p q = xor_is 32 a b p q
+
+pub not_word : (a : ℕ) → 2 ^ 32 - 1 - a ≡ not_of a
+unfolding not_of
+not_word a = refl
+
+-- the code's `n.count_ones()`
 pub ones_is : (k n : ℕ) → n < 2 ^ k → ones n ≡ ones_of k n
 unfolding ones_of ones lib.Count.ones_in
 ones_is zero n h = ap ones (none n h)

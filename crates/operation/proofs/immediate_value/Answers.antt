@@ -1,9 +1,7 @@
 -- `operation::immediate_value` meets its contract. Assumes nothing.
-use native.Mathlib.Omega.{arith}
-use mir.Syntax.{w32}
-use Rattle.word.specs.Word.{word_of}
-use Rattle.word.proofs.Handed.{handed}
+use Rattle.std.proofs.Common.{◌∙◌, to_z-of_z}
+use Rattle.word.proofs.Integers.{word_is}
 use Rattle.operation.proofs.immediate_value.Goals as goal
 
 pub returns : goal.returns
-returns c = handed (word_of 32) {w = w32} (record { sfits = omega arith }) c.word.ensures
+returns c = c.cast_unsigned.ensures ∙ word_is c.args.i.immediate (record { sfits = omega arith })
