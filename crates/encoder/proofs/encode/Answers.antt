@@ -4,13 +4,14 @@ use Prim.Native.Nat.{ℕ}
 use native.Mathlib.Omega.{arith}
 use lib.IntN.{ℤ}
 use mir.Syntax.{w32}
-use mir.Val.{SFits, of_z}
+use mir.Val.{SFits, to_z, of_z}
 use Rattle.word.specs.Word.{signed_of}
-use Rattle.word.proofs.Integers.{signed_word, word_is}
+use Rattle.word.proofs.Handed.{word_handed}
+use Rattle.word.proofs.Integers.{signed_word}
 use Rattle.encoder.proofs.encode.Goals as goal
 
-read_back : (z : ℤ) {r : ℕ} → SFits w32 z → r ≡ of_z w32 z → signed_of 32 r ≡ z
-read_back z f e = ap (signed_of 32) (e ∙ word_is z f) ∙ signed_word 32 (omega arith) z f.sfits
+read_back : (z : ℤ) {r : ℕ} → SFits w32 z → r ≡ of_z w32 (to_z w32 (of_z w32 z)) → signed_of 32 r ≡ z
+read_back z f e = ap (signed_of 32) (word_handed f e) ∙ signed_word 32 (omega arith) z f.sfits
 
 pub returns : goal.returns
 returns c =

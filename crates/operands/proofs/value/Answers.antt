@@ -7,7 +7,8 @@ use native.Mathlib.Omega.{arith}
 use borrow.Author.Tests.{ne_eqb}
 use Rattle.word.specs.Choice.{choose◌then◌else◌}
 use Rattle.word.specs.Word.{field_of, word_of}
-use Rattle.word.proofs.Integers.{word_is, word_natural}
+use Rattle.word.proofs.Handed.{word_handed}
+use Rattle.word.proofs.Integers.{word_natural}
 use Rattle.isa.specs.Format.{Position}
 use Rattle.isa.specs.Shown.{shown_value}
 use Rattle.operands.specs.Letters.{role_of}
@@ -38,16 +39,16 @@ returns-in-99 c = rw c.in-99.is (sym (word_natural 32 _ (omega arith)))
 
 pub returns-in-105 : goal.returns-in-105
 unfolding role_of choose◌then◌else◌ shown_value
-returns-in-105 c = rw c.in-105.is (c.cast_unsigned.ensures ∙ word_is c.args.i.immediate (record { sfits = omega arith }))
+returns-in-105 c = rw c.in-105.is (word_handed (record { sfits = omega arith }) c.cast_unsigned.ensures)
 
 pub returns-in-108 : goal.returns-in-108
 unfolding role_of choose◌then◌else◌ shown_value field_of
 returns-in-108 c =
-    let n : c.cast_unsigned-in-108.result ≡ word_of 32 c.args.i.immediate = c.cast_unsigned-in-108.ensures ∙ word_is c.args.i.immediate (record { sfits = omega arith }) in
+    let n : c.cast_unsigned-in-108.result ≡ word_of 32 c.args.i.immediate = word_handed (record { sfits = omega arith }) c.cast_unsigned-in-108.ensures in
     rw c.in-108.is (ap (λ (n : ℕ). n / 32 % 64) n ∙ sym (word_natural 32 _ (omega arith)))
 
 pub returns-in_default : goal.returns-in_default
 unfolding shown_value field_of
 returns-in_default c =
-    let n : c.cast_unsigned-in_default.result ≡ word_of 32 c.args.i.immediate = c.cast_unsigned-in_default.ensures ∙ word_is c.args.i.immediate (record { sfits = omega arith }) in
+    let n : c.cast_unsigned-in_default.result ≡ word_of 32 c.args.i.immediate = word_handed (record { sfits = omega arith }) c.cast_unsigned-in_default.ensures in
     rw (last c.args.letter c.in_default.in_default-own.rest, div-one) (ap (λ (n : ℕ). n % 32) n ∙ sym (word_natural 32 _ (omega arith)))
