@@ -6,10 +6,10 @@ use native.Mathlib.Nat.{zero-add}
 use native.Mathlib.Omega.{arith}
 use native.Mathlib.Numerals.{add-one, unary_clauses}
 use lib.ListN.{length, take, drop, get_or, set, length-append, length-take, length-drop}
-use lib.Seq.{sets-eq, drop-drop, take-suc, take-append_seam, take-append-add, drop-append-add, length-take-le, paste-zero}
+use lib.Seq.{ext_get_or, sets-eq, drop-drop, take-suc, take-append_seam, take-append-add, drop-append-add, length-take-le, paste-zero}
 use lib.Pow.{shr-shr}
 use borrow.Rule.Slice.PartMut.{put_mid}
-use Rattle.codec.specs.Number.{number_of, number_at, low_first_at, reversed, bytes_of_number, numbers_of, bytes_of, put_at, over}
+use Rattle.codec.specs.Number.{number_of, number_at, bytes_of_number, numbers_of, bytes_of, put_at, over}
 
 -- every element of a list is below a bound
 abbrev pub Below : (k : ℕ) (s : List ℕ) → Type 0
@@ -37,19 +37,6 @@ bytes_of_number_number_of a b c d ha hb hc hd =
     let e3 : number_of a b c d / 256 % 256 ≡ c = omega arith in
     let e4 : number_of a b c d % 256 ≡ d = omega arith in
     cc
-
--- the bytes in the other order, and back
-pub reversed_number_of : (a b c d : ℕ) → a < 256 → b < 256 → c < 256 → d < 256 → reversed (number_of d c b a) ≡ number_of a b c d
-reversed_number_of a b c d ha hb hc hd =
-    let e1 : number_of d c b a / 16777216 ≡ d = omega arith in
-    let e2 : number_of d c b a / 65536 % 256 ≡ c = omega arith in
-    let e3 : number_of d c b a / 256 % 256 ≡ b = omega arith in
-    let e4 : number_of d c b a % 256 ≡ a = omega arith in
-    rw (e1, e2, e3, e4)
-
--- bytes read low first and reversed are those read high first
-pub reversed_low_first_at : (s : List ℕ) (at : ℕ) → Below 256 s → reversed (low_first_at s at) ≡ number_at s at
-reversed_low_first_at s at h = reversed_number_of _ _ _ _ (h at) (h (at + 1)) (h (at + 2)) (h (at + 3))
 
 -- ---- many numbers
 
@@ -195,16 +182,9 @@ part_put xs ys a k e =
 
 -- ---- one turn of a loop
 
--- one number more is read
-pub read_more : (s t : List ℕ) (i : ℕ) → 4 * i + 4 ≤ length s → i < length t
-    → set (over (take i (numbers_of s)) t) i (number_at s (4 * i)) ≡ over (take (i + 1) (numbers_of s)) t
-read_more s t i h l =
-    let k : i < length (numbers_of s) = omega (arith, length_numbers_of s) in
-    let e : length (take i (numbers_of s)) ≡ i = length-take-le i (numbers_of s) (omega arith) in
-    let f : i < length (over (take i (numbers_of s)) t) = omega (arith, length_over (take i (numbers_of s)) t (omega arith)) in
-    rw (add-one i, take-suc (numbers_of s) i 0 k, get_d_numbers_of s i h)
-    (set_put_at (over (take i (numbers_of s)) t) i (number_at s (4 * i)) f
-    ∙ put_at_over (take i (numbers_of s)) t (number_at s (4 * i) ∷ []) i e)
+-- numbers that are each the one in its four bytes are the bytes' numbers
+pub read_all : (s ns : List ℕ) → length ns ≡ length s / 4 → ((k : ℕ) → k < length ns → get_or ns k 0 ≡ number_at s (4 * k)) → ns ≡ numbers_of s
+read_all s ns e f = ext_get_or 0 ns (numbers_of s) (e ∙ sym (length_numbers_of s)) (λ k h. f k h ∙ sym (get_d_numbers_of s k (omega arith)))
 
 -- one number more is written
 pub write_more : (ns t : List ℕ) (i : ℕ) → i < length ns
