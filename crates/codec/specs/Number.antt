@@ -1,4 +1,4 @@
--- 32-bit numbers as bytes, high byte first (01 "Machine image", "Memories"). Assumes nothing.
+-- 32-bit numbers as bytes, high byte first, as program memory and images hold them (Manual 1, Manual 8). Assumes nothing.
 use Rattle.std.specs.Prelude.{List, [], ◌∷◌, ◌++◌, ℕ, ◌+◌, ◌*◌, ◌/◌, ◌%◌, ◌^◌, length, get_or, take, drop}
 
 -- ---- one number

@@ -114,8 +114,8 @@ module _ (n x : ℕ) where
       let o : bit_or x (2 ^ n) + bit_and x (2 ^ n) ≡ x + 2 ^ n = or_add_and x (2 ^ n) in
       rw (one_shl n 32 h)
       (either (bit_at n x)
-        (λ e. let a : bit_and x (2 ^ n) ≡ 2 ^ n = and_set e in rw (with_set e) (omega arith))
-        (λ e. let a : bit_and x (2 ^ n) ≡ 0 = and_clear e in rw (with_clear e) (omega arith)))
+      (λ e. let a : bit_and x (2 ^ n) ≡ 2 ^ n = and_set e in rw (with_set e) (omega arith))
+      (λ e. let a : bit_and x (2 ^ n) ≡ 0 = and_clear e in rw (with_clear e) (omega arith)))
 
   -- the code's `x & !(1 << n)`
   pub and_not_flag : n < 32 → x < 2 ^ 32 → bit_and x (2 ^ 32 - 1 - 1 * 2 ^ n % 2 ^ 32) ≡ without_flag n x
@@ -125,8 +125,8 @@ module _ (n x : ℕ) where
       let d : bit_and (2 ^ 32 - 1 - 2 ^ n) x ≡ bit_and x (2 ^ 32 - 1 - 2 ^ n) = and_comm (2 ^ 32 - 1 - 2 ^ n) x in
       rw (one_shl n 32 h)
       (either (bit_at n x)
-        (λ e. let a : bit_and x (2 ^ n) ≡ 2 ^ n = and_set e in rw (without_set e) (omega arith))
-        (λ e. let a : bit_and x (2 ^ n) ≡ 0 = and_clear e in rw (without_clear e) (omega arith)))
+      (λ e. let a : bit_and x (2 ^ n) ≡ 2 ^ n = and_set e in rw (without_set e) (omega arith))
+      (λ e. let a : bit_and x (2 ^ n) ≡ 0 = and_clear e in rw (without_clear e) (omega arith)))
 
   pub with_same : bit_at n (with_flag n x) ≡ true
   with_same =

@@ -1,5 +1,5 @@
 -- Signed numbers: their words, and what i32 and i64 hold. omega does not read ℤ: each law here takes a statement on ℤ to one on ℕ. Assumes nothing.
-use Rattle.std.proofs.Common.{◌≡◌, ℕ, zero, suc, ◌+◌, ◌-◌, ◌*◌, ◌/◌, ◌%◌, ◌^◌, ◌<◌, ◌≤◌, true, false, T, ltb, leb, ℤ, pos, negsuc, ◌-ℤ◌, sym, refl, ap, ◌∙◌, true≢false, lt_of_le_of_lt, le_of_lt, add_comm, mod-lt, mod-eq_of_lt, mul-le-mul_left, mul-le-mul_right, mul-lt-mul_of_pos_right, one-mul, pow-suc, arith, le→leb, ltb→lt, lt→ltb, leb→le, pow_pos, pow_mono, pow-add, to_z-of_z, w32, SFits, to_z, of_z, ltb-false, ltb-true, le-ltb, lt-ltb}
+use Rattle.std.proofs.Common.{◌≡◌, ℕ, zero, suc, ◌+◌, ◌-◌, ◌*◌, ◌/◌, ◌%◌, ◌^◌, ◌<◌, ◌≤◌, true, ltb, leb, ℤ, pos, negsuc, ◌-ℤ◌, sym, refl, ap, ◌∙◌, true≢false, add_comm, mod-lt, mod-eq_of_lt, mul-le-mul_right, mul-lt-mul_of_pos_right, one-mul, pow-suc, arith, le→leb, ltb→lt, lt→ltb, leb→le, pow_pos, pow_mono, pow-add, to_z-of_z, w32, SFits, to_z, of_z, ltb-false, ltb-true, le-ltb, lt-ltb}
 use Rattle.std.proofs.Math.Nat.{mul-mod_left}
 use Rattle.std.proofs.lemmas.Nat.{shl-shr, mod-pow-add, mod_low, shr_high}
 use Rattle.std.proofs.lemmas.Int.{to_z_pos}

@@ -1,5 +1,5 @@
 -- `read_numbers`: all that are read are the bytes' numbers, and those behind them stay. Assumes nothing.
-use Rattle.std.proofs.Common.{◌≡◌, ◌/◌, length, take, ap, ◌∙◌, arith, length-take-le}
+use Rattle.std.proofs.Common.{◌≡◌, ◌/◌, length, take, ◌∙◌, arith, length-take-le}
 use Rattle.codec.proofs.Laws.{read_all, length_numbers_of}
 use Rattle.codec.proofs.read_numbers.Goals as goal
 

@@ -1,4 +1,4 @@
-use Rattle.std.proofs.Common.{◌%◌, ◌^◌, refl, arith, mod-lt, pow_pos}
+use Rattle.std.proofs.Common.{◌%◌, ◌^◌, arith, mod-lt, pow_pos}
 use Rattle.std.proofs.lemmas.Nat.{or_shifted, shl_whole}
 use Rattle.word.specs.Arithmetic.{join_of}
 use Rattle.word.proofs.Bitwise.{masked}

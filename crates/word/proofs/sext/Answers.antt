@@ -1,4 +1,4 @@
-use Rattle.std.proofs.Common.{◌+◌, ◌-◌, ◌%◌, ◌^◌, refl, arith, mod-lt, to_z-of_z, pow_pos, w32}
+use Rattle.std.proofs.Common.{◌+◌, ◌-◌, ◌%◌, ◌^◌, arith, mod-lt, to_z-of_z, pow_pos, w32}
 use Rattle.word.specs.Word.{extend_of}
 use Rattle.word.specs.Arithmetic.{sext_of}
 use Rattle.word.proofs.Integers.{back, shifted_back, signed_fits, word_is}

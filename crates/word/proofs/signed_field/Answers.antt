@@ -1,4 +1,4 @@
-use Rattle.std.proofs.Common.{◌-◌, refl, arith, mod-eq_of_lt, to_z-of_z, w32}
+use Rattle.std.proofs.Common.{◌-◌, arith, mod-eq_of_lt, to_z-of_z, w32}
 use Rattle.word.proofs.Integers.{back, shifted_back, signed_fits}
 use Rattle.word.proofs.signed_field.Goals as goal
 
