@@ -1,13 +1,8 @@
 -- The laws of numbers as bytes. Assumes nothing.
-use mathlib.Core.Path.{◌≡◌, refl, sym, ap, ◌∙◌}
-use mathlib.Core.List.{List, [], ◌∷◌, ◌++◌, append_assoc}
-use Prim.Native.Nat.{ℕ, zero, suc, ◌+◌, ◌*◌, ◌/◌, ◌%◌, ◌^◌, ◌≤◌, ◌<◌}
-use native.Mathlib.Nat.{zero-add}
-use native.Mathlib.Omega.{arith}
-use native.Mathlib.Numerals.{add-one, unary_clauses}
-use lib.ListN.{length, take, drop, get_or, set, length-append, length-take, length-drop}
-use lib.Seq.{ext_get_or, sets-eq, drop-drop, take-suc, take-append_seam, take-append-add, drop-append-add, length-take-le, paste-zero}
-use lib.Pow.{shr-shr}
+use Rattle.std.proofs.Common.{◌≡◌, ℕ, zero, suc, ◌+◌, ◌*◌, ◌/◌, ◌%◌, ◌^◌, ◌≤◌, ◌<◌, List, [], ◌∷◌, ◌++◌, length, take, drop, get_or, set, refl, sym, ap, ◌∙◌, append_assoc, zero-add, add-one, arith, length-append, length-take, length-drop, length-take-le, drop-drop, take-suc, ext_get_or, shr-shr}
+use Rattle.std.proofs.lemmas.List.Edits.{sets-eq}
+use Rattle.std.proofs.Math.Seq.{take-append_seam, take-append-add, drop-append-add, paste-zero}
+use Rattle.std.proofs.Math.Numerals.{unary_clauses}
 use borrow.Rule.Slice.PartMut.{put_mid}
 use Rattle.codec.specs.Number.{number_of, number_at, bytes_of_number, numbers_of, bytes_of, put_at, over}
 
@@ -119,17 +114,9 @@ take_over front s = take-append_seam front (drop (length front) s)
 pub length_over : (front s : List ℕ) → length front ≤ length s → length (over front s) ≡ length s
 length_over front s h = simp (length-append, length-drop) (omega arith)
 
--- stores of elements, one and four in a row
+-- the store of an element
 pub set_put_at : (s : List ℕ) (at a : ℕ) → at < length s → set s at a ≡ put_at s at (a ∷ [])
 set_put_at s at a h = sets-eq (a ∷ []) s at (omega arith)
-
-pub four_stores : (s : List ℕ) (at a b c d : ℕ) → at + 4 ≤ length s
-    → set (set (set (set s at a) (at + 1) b) (at + 2) c) (at + 3) d ≡ put_at s at (a ∷ b ∷ c ∷ d ∷ [])
-four_stores s at a b c d h =
-    let e1 : at + 1 ≡ suc at = omega arith in
-    let e2 : at + 2 ≡ suc (suc at) = omega arith in
-    let e3 : at + 3 ≡ suc (suc (suc at)) = omega arith in
-    rw (e1, e2, e3) (sets-eq (a ∷ b ∷ c ∷ d ∷ []) s at h)
 
 -- what is put just after a front lengthens it
 pub put_at_over : (front s t : List ℕ) (at : ℕ) → length front ≡ at → put_at (over front s) at t ≡ over (front ++ t) s

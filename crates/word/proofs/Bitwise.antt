@@ -1,8 +1,8 @@
 -- The machine's operations on bits are the definitions', digit by digit. Assumes nothing.
 use Rattle.std.proofs.Common.{◌≡◌, ℕ, zero, suc, ◌+◌, ◌-◌, ◌*◌, ◌/◌, ◌%◌, ◌^◌, ◌<◌, min, max, refl, ap, ◌∙◌, ap₂, pow-suc, arith}
-use lib.Bits.{bit_and, bit_or, bit_xor, and_step, or_step, xor_step, differ}
-use lib.Count
-use lib.Count.{ones, ones_step}
+use Rattle.std.specs.Int.Bits.{bit_and, bit_or, bit_xor, and_step, or_step, xor_step, differ}
+use Rattle.std.specs.Int.Count
+use Rattle.std.specs.Int.Count.{ones, ones_step}
 use Rattle.std.proofs.lemmas.Nat.{one_shl, and_mask}
 use Rattle.word.specs.Word.{bitwise_of}
 use Rattle.word.specs.Arithmetic.{and_of, or_of, xor_of, not_of}
@@ -59,7 +59,7 @@ not_word a = refl
 
 -- the code's `n.count_ones()`
 pub ones_is : (k n : ℕ) → n < 2 ^ k → ones n ≡ ones_of k n
-unfolding ones_of ones lib.Count.ones_in
+unfolding ones_of ones Rattle.std.specs.Int.Count.ones_in
 ones_is zero n h = ap ones (none n h)
 ones_is (suc k) n h = ones_step n ∙ ap (λ (x : ℕ). n % 2 + x) (ones_is k (n / 2) (halved k n h))
 

@@ -3,9 +3,9 @@ use Rattle.std.proofs.Common.{◌≡◌, ℕ, zero, suc, ◌+◌, ◌-◌, ◌*�
 use Rattle.std.specs.Int.Bits.{bit_and, bit_or, or_add_and}
 use Rattle.std.proofs.lemmas.Nat.{one_shl, and_comm, and-not, pow_below}
 use Rattle.std.proofs.lemmas.Nat.Bits.{and_pow}
-use mathlib.Core.Bool.{or-true}
-use native.Mathlib.Nat.{pow-succ', div-div-eq-div-mul, add-div_right, zero-div}
-use borrow.Author.Tests.{eqb-false, not-true}
+use Rattle.std.proofs.lemmas.Bool.{eqb-false, not-true}
+use Rattle.std.proofs.Math.Bool.{or-true}
+use Rattle.std.proofs.Math.Nat.{pow-succ', div-div-eq-div-mul, add-div_right, zero-div}
 use Rattle.word.specs.Choice.{choose◌then◌else◌}
 use Rattle.word.specs.Word.{bit_at}
 use Rattle.word.proofs.Tests.{either, and_parts}

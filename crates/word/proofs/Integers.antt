@@ -3,10 +3,10 @@ use Rattle.std.proofs.Common.{◌≡◌, ℕ, zero, suc, ◌+◌, ◌-◌, ◌*�
 use Rattle.std.proofs.Math.Nat.{mul-mod_left}
 use Rattle.std.proofs.lemmas.Nat.{shl-shr, mod-pow-add, mod_low, shr_high}
 use Rattle.std.proofs.lemmas.Int.{to_z_pos}
-use lib.IntN.{sub_ℕ}
-use lib.Pow.{pow-lt, mod-mod-pow}
-use lib.Signed.{mag, shr_z}
-use mir.Syntax.{Width}
+use Rattle.std.proofs.Math.IntN.{sub_ℕ}
+use Rattle.std.proofs.Math.Pow.{pow-lt, mod-mod-pow}
+use Rattle.std.specs.Int.Signed.{mag, shr_z}
+use Rattle.std.specs.Int.{Width}
 use mir.Val.{hbits}
 use Rattle.word.specs.Choice.{choose◌then◌else◌}
 use Rattle.word.specs.Word.{signed_of, mod_z, word_of, is_address}
