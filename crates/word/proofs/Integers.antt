@@ -57,6 +57,10 @@ module _ (k n : ℕ) where
   unfolding signed_of choose◌then◌else◌
   signed_high h = rw (le-ltb n (2 ^ (k - 1)) h)
 
+  -- of a word of k bits, the k lowest are all
+  pub signed_whole : n < 2 ^ k → signed_of k n ≡ signed_of k (n % 2 ^ k)
+  signed_whole b = ap (signed_of k) (sym (mod-eq_of_lt b))
+
   -- by the sign bit
   pub signed_either : (P : ℤ → Type 0) → n < 2 ^ k → (n < 2 ^ (k - 1) → P (pos n)) → (2 ^ (k - 1) ≤ n → P (negsuc (2 ^ k - suc n)))
       → P (signed_of k n)
