@@ -1,5 +1,5 @@
 -- Signed numbers: their words, and what i32 and i64 hold. omega does not read ℤ: each law here takes a statement on ℤ to one on ℕ. Assumes nothing.
-use Rattle.std.proofs.Common.{◌≡◌, ℕ, zero, suc, ◌+◌, ◌-◌, ◌*◌, ◌/◌, ◌%◌, ◌^◌, ◌<◌, ◌≤◌, true, ltb, leb, ℤ, pos, negsuc, ◌-ℤ◌, sym, refl, ap, ◌∙◌, true≢false, add_comm, mod-lt, mod-eq_of_lt, mul-le-mul_right, mul-lt-mul_of_pos_right, one-mul, pow-suc, arith, le→leb, ltb→lt, lt→ltb, leb→le, pow_pos, pow_mono, pow-add, to_z-of_z, w32, SFits, to_z, of_z, ltb-false, ltb-true, le-ltb, lt-ltb}
+use Rattle.std.proofs.Common.{◌≡◌, ℕ, zero, suc, ◌+◌, ◌-◌, ◌*◌, ◌/◌, ◌%◌, ◌^◌, ◌<◌, ◌≤◌, true, ltb, leb, ℤ, pos, negsuc, ◌-ℤ◌, sym, refl, ap, ◌∙◌, true≢false, add_comm, mod-lt, mod-eq_of_lt, mul-le-mul_right, mul-lt-mul_of_pos_right, one-mul, pow-suc, arith, le→leb, ltb→lt, lt→ltb, leb→le, pow_pos, pow-add, to_z-of_z, w32, SFits, to_z, of_z, ltb-false, ltb-true, le-ltb, lt-ltb}
 use Rattle.std.proofs.Math.Nat.{mul-mod_left}
 use Rattle.std.proofs.lemmas.Nat.{shl-shr, mod-pow-add, mod_low, shr_high}
 use Rattle.std.proofs.lemmas.Int.{to_z_pos}
@@ -38,9 +38,6 @@ double k h = ap (λ (j : ℕ). 2 ^ j) (up k h) ∙ pow-suc 2 (k - 1)
   where
     up : (k : ℕ) → 0 < k → k ≡ suc (k - 1)
     up k h = omega arith
-
-pub half_most : (k : ℕ) → k ≤ 32 → 2 ^ (k - 1) ≤ 2 ^ 31
-half_most k u = pow_mono {i = k - 1} {j = 31} (omega arith)
 
 -- 1 shifted by less than the width
 pub one_shifted : (w n : ℕ) → n < w → (1 * 2 ^ n) % 2 ^ w ≡ 2 ^ n
@@ -97,11 +94,6 @@ module _ (k : ℕ) (p : 0 < k) where
       ∙ minus_is (2 ^ k - suc n) (2 ^ k)
       ∙ sub_below (2 ^ k - suc n) (2 ^ k) (omega arith)
       ∙ ap negsuc (omega arith)
-
-module _ (k : ℕ) (p : 0 < k) (u : k ≤ 32) where
-  -- i32 holds the reading of at most 32 bits
-  pub signed_fits : (n : ℕ) → n < 2 ^ k → SFits w32 (signed_of k n)
-  signed_fits n b = record { sfits = omega (arith, half_most k u, signed_range k p n b) }
 
 -- the word of a natural
 pub word_natural : (k n : ℕ) → n < 2 ^ k → word_of k (pos n) ≡ n
