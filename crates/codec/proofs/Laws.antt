@@ -1,15 +1,10 @@
 -- The laws of numbers as bytes. Assumes nothing.
-use mathlib.Core.Path.{◌≡◌, refl, sym, ap, ◌∙◌}
-use mathlib.Core.List.{List, [], ◌∷◌, ◌++◌, append_assoc}
-use Prim.Native.Nat.{ℕ, zero, suc, ◌+◌, ◌*◌, ◌/◌, ◌%◌, ◌^◌, ◌≤◌, ◌<◌}
-use native.Mathlib.Nat.{zero-add}
-use native.Mathlib.Omega.{arith}
-use native.Mathlib.Numerals.{add-one, unary_clauses}
-use lib.ListN.{length, take, drop, get_or, set, length-append, length-take, length-drop}
-use lib.Seq.{sets-eq, drop-drop, take-suc, take-append_seam, take-append-add, drop-append-add, length-take-le, paste-zero}
-use lib.Pow.{shr-shr}
+use Rattle.std.proofs.Common.{◌≡◌, ℕ, zero, suc, ◌+◌, ◌*◌, ◌/◌, ◌%◌, ◌^◌, ◌≤◌, ◌<◌, List, [], ◌∷◌, ◌++◌, length, take, drop, get_or, set, refl, sym, ap, ◌∙◌, append_assoc, zero-add, add-one, arith, length-append, length-take, length-drop, length-take-le, drop-drop, take-suc, ext_get_or, shr-shr}
+use Rattle.std.proofs.lemmas.List.Edits.{sets-eq}
+use Rattle.std.proofs.Math.Seq.{take-append_seam, take-append-add, drop-append-add, paste-zero}
+use Rattle.std.proofs.Math.Numerals.{unary_clauses}
 use borrow.Rule.Slice.PartMut.{put_mid}
-use Rattle.codec.specs.Number.{number_of, number_at, low_first_at, reversed, bytes_of_number, numbers_of, bytes_of, put_at, over}
+use Rattle.codec.specs.Number.{number_of, number_at, bytes_of_number, numbers_of, bytes_of, put_at, over}
 
 -- every element of a list is below a bound
 abbrev pub Below : (k : ℕ) (s : List ℕ) → Type 0
@@ -37,19 +32,6 @@ bytes_of_number_number_of a b c d ha hb hc hd =
     let e3 : number_of a b c d / 256 % 256 ≡ c = omega arith in
     let e4 : number_of a b c d % 256 ≡ d = omega arith in
     cc
-
--- the bytes in the other order, and back
-pub reversed_number_of : (a b c d : ℕ) → a < 256 → b < 256 → c < 256 → d < 256 → reversed (number_of d c b a) ≡ number_of a b c d
-reversed_number_of a b c d ha hb hc hd =
-    let e1 : number_of d c b a / 16777216 ≡ d = omega arith in
-    let e2 : number_of d c b a / 65536 % 256 ≡ c = omega arith in
-    let e3 : number_of d c b a / 256 % 256 ≡ b = omega arith in
-    let e4 : number_of d c b a % 256 ≡ a = omega arith in
-    rw (e1, e2, e3, e4)
-
--- bytes read low first and reversed are those read high first
-pub reversed_low_first_at : (s : List ℕ) (at : ℕ) → Below 256 s → reversed (low_first_at s at) ≡ number_at s at
-reversed_low_first_at s at h = reversed_number_of _ _ _ _ (h at) (h (at + 1)) (h (at + 2)) (h (at + 3))
 
 -- ---- many numbers
 
@@ -132,17 +114,9 @@ take_over front s = take-append_seam front (drop (length front) s)
 pub length_over : (front s : List ℕ) → length front ≤ length s → length (over front s) ≡ length s
 length_over front s h = simp (length-append, length-drop) (omega arith)
 
--- stores of elements, one and four in a row
+-- the store of an element
 pub set_put_at : (s : List ℕ) (at a : ℕ) → at < length s → set s at a ≡ put_at s at (a ∷ [])
 set_put_at s at a h = sets-eq (a ∷ []) s at (omega arith)
-
-pub four_stores : (s : List ℕ) (at a b c d : ℕ) → at + 4 ≤ length s
-    → set (set (set (set s at a) (at + 1) b) (at + 2) c) (at + 3) d ≡ put_at s at (a ∷ b ∷ c ∷ d ∷ [])
-four_stores s at a b c d h =
-    let e1 : at + 1 ≡ suc at = omega arith in
-    let e2 : at + 2 ≡ suc (suc at) = omega arith in
-    let e3 : at + 3 ≡ suc (suc (suc at)) = omega arith in
-    rw (e1, e2, e3) (sets-eq (a ∷ b ∷ c ∷ d ∷ []) s at h)
 
 -- what is put just after a front lengthens it
 pub put_at_over : (front s t : List ℕ) (at : ℕ) → length front ≡ at → put_at (over front s) at t ≡ over (front ++ t) s
@@ -195,16 +169,9 @@ part_put xs ys a k e =
 
 -- ---- one turn of a loop
 
--- one number more is read
-pub read_more : (s t : List ℕ) (i : ℕ) → 4 * i + 4 ≤ length s → i < length t
-    → set (over (take i (numbers_of s)) t) i (number_at s (4 * i)) ≡ over (take (i + 1) (numbers_of s)) t
-read_more s t i h l =
-    let k : i < length (numbers_of s) = omega (arith, length_numbers_of s) in
-    let e : length (take i (numbers_of s)) ≡ i = length-take-le i (numbers_of s) (omega arith) in
-    let f : i < length (over (take i (numbers_of s)) t) = omega (arith, length_over (take i (numbers_of s)) t (omega arith)) in
-    rw (add-one i, take-suc (numbers_of s) i 0 k, get_d_numbers_of s i h)
-    (set_put_at (over (take i (numbers_of s)) t) i (number_at s (4 * i)) f
-    ∙ put_at_over (take i (numbers_of s)) t (number_at s (4 * i) ∷ []) i e)
+-- numbers that are each the one in its four bytes are the bytes' numbers
+pub read_all : (s ns : List ℕ) → length ns ≡ length s / 4 → ((k : ℕ) → k < length ns → get_or ns k 0 ≡ number_at s (4 * k)) → ns ≡ numbers_of s
+read_all s ns e f = ext_get_or 0 ns (numbers_of s) (e ∙ sym (length_numbers_of s)) (λ k h. f k h ∙ sym (get_d_numbers_of s k (omega arith)))
 
 -- one number more is written
 pub write_more : (ns t : List ℕ) (i : ℕ) → i < length ns

@@ -1,4 +1,4 @@
--- 32-bit numbers as bytes, high byte first (01 "Machine image", "Memories"). Assumes nothing.
+-- 32-bit numbers as bytes, high byte first, as program memory and images hold them (Manual 1, Manual 8). Assumes nothing.
 use Rattle.std.specs.Prelude.{List, [], ◌∷◌, ◌++◌, ℕ, ◌+◌, ◌*◌, ◌/◌, ◌%◌, ◌^◌, length, get_or, take, drop}
 
 -- ---- one number
@@ -10,14 +10,6 @@ number_of a b c d = ((a * 256 + b) * 256 + c) * 256 + d
 -- the number in the four bytes from a place on
 abbrev pub number_at : (bytes : List ℕ) (at : ℕ) → ℕ
 number_at s at = number_of (get_or s at 0) (get_or s (at + 1) 0) (get_or s (at + 2) 0) (get_or s (at + 3) 0)
-
--- the same with the low byte first
-abbrev pub low_first_at : (bytes : List ℕ) (at : ℕ) → ℕ
-low_first_at s at = number_of (get_or s (at + 3) 0) (get_or s (at + 2) 0) (get_or s (at + 1) 0) (get_or s at 0)
-
--- the number with its bytes in the other order
-abbrev pub reversed : ℕ → ℕ
-reversed n = number_of (n % 256) (n / 256 % 256) (n / 65536 % 256) (n / 16777216)
 
 -- the four bytes of a number
 abbrev pub bytes_of_number : ℕ → List ℕ

@@ -182,9 +182,9 @@ pub fn encode(
         conditional,
         creg,
         condition,
-        word::word(a),
-        word::word(b),
-        word::word(c),
-        word::word(d),
+        a.cast_unsigned(),
+        b.cast_unsigned(),
+        c.cast_unsigned(),
+        d.cast_unsigned(),
     )
 }

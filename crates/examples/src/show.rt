@@ -178,7 +178,7 @@ fn shown(word: u32, wide: bool, k: usize) -> i32
     if letter == b' ' {
         0
     } else {
-        word::signed(operands::value(i, letter))
+        operands::value(i, letter).cast_signed()
     }
 }
 

@@ -166,7 +166,7 @@ fn stack_fits(w: &[u32]) -> bool
     if entries_pass(Test::Source, w) {
         let serv = machine::control(w, machine::INT_SERV);
         if serv == service_flags(w) {
-            let different = word::ones(serv) == machine::depth(w);
+            let different = serv.count_ones() == machine::depth(w);
             let top = machine::top(w);
             let address = machine::control(w, machine::RETI_ADDR) == top.address;
             let psr = machine::control(w, machine::RETI_PSR) == top.psr;

@@ -134,7 +134,7 @@ pub fn write(w: &[u32], buffer: &mut [u8])
 {
     let end = machine::ENTRIES + 4 * (machine::depth(w) as usize);
     let mut numbers = [0u32; machine::WORDS];
-    codec::copy(w, &mut numbers);
+    numbers.copy_from_slice(w);
     numbers[SET1_COUNT] = REGISTERS;
     numbers[SET2_COUNT] = REGISTERS;
     numbers[CONDITIONS_COUNT] = FLAGS;

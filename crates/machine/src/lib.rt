@@ -729,6 +729,6 @@ pub fn reset() -> [u32; WORDS]
     let mut words = [0u32; WORDS];
     words[PSR] = 0x0E;
     words[SAVED_PSR] = 9;
-    codec::copy(&control, &mut words[CONTROL..CONTROL + OFFSETS]);
+    words[CONTROL..CONTROL + OFFSETS].copy_from_slice(&control);
     words
 }

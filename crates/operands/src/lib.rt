@@ -202,8 +202,8 @@ pub fn value(i: Instruction, letter: u8) -> u32
         b'1' => i.sreg1,
         b'2' => i.sreg2,
         b'c' => i.creg,
-        b'i' => word::word(i.immediate),
-        b'l' => word::word(i.immediate) / 32 % 64,
-        _ => word::word(i.immediate) % 32,
+        b'i' => i.immediate.cast_unsigned(),
+        b'l' => i.immediate.cast_unsigned() / 32 % 64,
+        _ => i.immediate.cast_unsigned() % 32,
     }
 }

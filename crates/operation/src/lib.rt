@@ -20,8 +20,9 @@ pub use mov::moves;
 pub use status::system;
 
 // An instruction's immediate as a word.
+#[tactic(auto, using(word::proofs::Integers::word_is))]
 fn immediate_value(i: Instruction) -> u32
     ensures { result ≡ word_of 32 i.immediate }
 {
-    word::word(i.immediate)
+    i.immediate.cast_unsigned()
 }

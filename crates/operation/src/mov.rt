@@ -43,7 +43,7 @@ pub fn moves(w: &mut [u32], i: Instruction, x: u32, y: u32) -> u32
     let n = immediate_value(i);
     match op {
         29 => result(w, d, x),
-        30 => result(w, d, word::not(x)),
+        30 => result(w, d, !x),
         31 => high_half(w, i),
         32 => compare(w, i.creg, word::cmp(x, y)),
         33 => compare(w, i.creg, word::cmp(x, n)),

@@ -52,7 +52,7 @@ fn has_target(op: u32) -> bool
 fn keeps_width(wide: bool, immediate: i32) -> bool
     ensures { result ≡ keeps_width (width_by wide) immediate }
 {
-    let il = word::word(immediate) % 2 == 1;
+    let il = immediate.cast_unsigned() % 2 == 1;
     if wide { il } else { !il }
 }
 

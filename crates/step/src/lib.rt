@@ -26,7 +26,7 @@ fn add_requests(w: &mut [u32], requests: u32)
     requires { MachineWords w.old × (well_formed (machine_of w.old) ≡ true) }
     ensures { Says w.new (add_requests requests (machine_of w.old)) }
 {
-    let flags = word::or(machine::control(w, machine::INT_PEND), requests);
+    let flags = machine::control(w, machine::INT_PEND) | requests;
     machine::set_control(w, machine::INT_PEND, flags % 4096);
 }
 
@@ -80,10 +80,7 @@ fn waiting(w: &[u32]) -> u32
     requires { MachineWords w.now }
     ensures { result ≡ waiting (machine_of w.now) }
 {
-    word::and(
-        machine::control(w, machine::INT_PEND),
-        machine::control(w, machine::INT_MASK),
-    )
+    machine::control(w, machine::INT_PEND) & machine::control(w, machine::INT_MASK)
 }
 
 // The source to accept: pending, INT_MASK 1, a priority number below all in service; smallest number first, ties to the lower source.

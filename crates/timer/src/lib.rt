@@ -151,7 +151,7 @@ fn reset_core(w: &mut [u32])
     ensures { Says w.new resetOf }
 {
     let words = machine::reset();
-    codec::copy(&words, w);
+    w.copy_from_slice(&words);
 }
 
 // One clock of both timers, one after the other.

@@ -1,9 +1,11 @@
 -- The machine's operations on bits are the definitions', digit by digit. Assumes nothing.
-use Rattle.std.proofs.Common.{◌≡◌, ℕ, zero, suc, ◌+◌, ◌*◌, ◌/◌, ◌%◌, ◌^◌, ◌<◌, min, max, refl, ap, ◌∙◌, ap₂, pow-suc, arith}
-use lib.Bits.{bit_and, bit_or, bit_xor, and_step, or_step, xor_step, differ}
-use lib.Count
-use lib.Count.{ones, ones_step}
+use Rattle.std.proofs.Common.{◌≡◌, ℕ, zero, suc, ◌+◌, ◌-◌, ◌*◌, ◌/◌, ◌%◌, ◌^◌, ◌<◌, min, max, refl, ap, ◌∙◌, ap₂, pow-suc, arith}
+use Rattle.std.specs.Int.Bits.{bit_and, bit_or, bit_xor, and_step, or_step, xor_step, differ}
+use Rattle.std.specs.Int.Count
+use Rattle.std.specs.Int.Count.{ones, ones_step}
+use Rattle.std.proofs.lemmas.Nat.{one_shl, and_mask}
 use Rattle.word.specs.Word.{bitwise_of}
+use Rattle.word.specs.Arithmetic.{and_of, or_of, xor_of, not_of}
 use Rattle.word.specs.Flags.{ones_of}
 
 halved : (k n : ℕ) → n < 2 ^ suc k → n / 2 < 2 ^ k
@@ -38,7 +40,29 @@ xor_is =
     bitwise_is bit_xor (λ x y. (x + y) % 2) refl
     (λ a b. xor_step a b ∙ ap (λ (d : ℕ). bit_xor (a / 2) (b / 2) * 2 + d) (differ_is (a % 2) (b % 2) (omega arith) (omega arith)))
 
+-- the code's `&`, `|`, `^` and `!` of words
+pub and_word : (a b : ℕ) → a < 2 ^ 32 → b < 2 ^ 32 → bit_and a b ≡ and_of a b
+unfolding and_of
+and_word a b p q = and_is 32 a b p q
+
+pub or_word : (a b : ℕ) → a < 2 ^ 32 → b < 2 ^ 32 → bit_or a b ≡ or_of a b
+unfolding or_of
+or_word a b p q = or_is 32 a b p q
+
+pub xor_word : (a b : ℕ) → a < 2 ^ 32 → b < 2 ^ 32 → bit_xor a b ≡ xor_of a b
+unfolding xor_of
+xor_word a b p q = xor_is 32 a b p q
+
+pub not_word : (a : ℕ) → 2 ^ 32 - 1 - a ≡ not_of a
+unfolding not_of
+not_word a = refl
+
+-- the code's `n.count_ones()`
 pub ones_is : (k n : ℕ) → n < 2 ^ k → ones n ≡ ones_of k n
-unfolding ones_of ones lib.Count.ones_in
+unfolding ones_of ones Rattle.std.specs.Int.Count.ones_in
 ones_is zero n h = ap ones (none n h)
 ones_is (suc k) n h = ones_step n ∙ ap (λ (x : ℕ). n % 2 + x) (ones_is k (n / 2) (halved k n h))
+
+-- the code's `n & ((1 << k) - 1)`
+pub masked : (n k : ℕ) → k < 32 → bit_and n (1 * 2 ^ k % 2 ^ 32 - 1) ≡ n % 2 ^ k
+masked n k h = rw (one_shl k 32 h, and_mask n k) refl

@@ -1,8 +1,11 @@
 -- Numbers as sets of flags: one flag set or cleared, the others, and the count. Assumes nothing.
-use Rattle.std.proofs.Common.{◌≡◌, ℕ, zero, suc, ◌+◌, ◌-◌, ◌*◌, ◌/◌, ◌%◌, ◌^◌, ◌<◌, ◌≤◌, true, false, not, ◌&&◌, eqb, ltb, List, [], ◌∷◌, length, sym, refl, ap, ◌∙◌, true≢false, le_of_suc-le-suc, not-suc-le-zero, pow-suc, le-div_iff_mul-le, arith, pow_pos, ltb-true, lt-ltb, eq-eqb, ne_eqb, eqb-true}
-use mathlib.Core.Bool.{or-true}
-use native.Mathlib.Nat.{pow-succ', div-div-eq-div-mul, add-div_right, zero-div}
-use borrow.Author.Tests.{eqb-false, not-true}
+use Rattle.std.proofs.Common.{◌≡◌, ℕ, zero, suc, ◌+◌, ◌-◌, ◌*◌, ◌/◌, ◌%◌, ◌^◌, ◌<◌, ◌≤◌, true, false, not, ◌&&◌, eqb, ltb, List, [], ◌∷◌, length, sym, refl, ap, ◌∙◌, true≢false, le_of_suc-le-suc, not-suc-le-zero, pow-suc, le-div_iff_mul-le, arith, one-mul, pow_pos, ltb-true, lt-ltb, eq-eqb, ne_eqb, eqb-true}
+use Rattle.std.specs.Int.Bits.{bit_and, bit_or, or_add_and}
+use Rattle.std.proofs.lemmas.Nat.{one_shl, and_comm, and-not, pow_below}
+use Rattle.std.proofs.lemmas.Nat.Bits.{and_pow}
+use Rattle.std.proofs.lemmas.Bool.{eqb-false, not-true}
+use Rattle.std.proofs.Math.Bool.{or-true}
+use Rattle.std.proofs.Math.Nat.{pow-succ', div-div-eq-div-mul, add-div_right, zero-div}
 use Rattle.word.specs.Choice.{choose◌then◌else◌}
 use Rattle.word.specs.Word.{bit_at}
 use Rattle.word.proofs.Tests.{either, and_parts}
@@ -83,6 +86,12 @@ less_same n x e =
 -- ---- one flag set or cleared
 
 module _ (n x : ℕ) where
+  and_set : bit_at n x ≡ true → bit_and x (2 ^ n) ≡ 2 ^ n
+  and_set e = and_pow x n ∙ rw (digit_one n x e) (one-mul (2 ^ n))
+
+  and_clear : bit_at n x ≡ false → bit_and x (2 ^ n) ≡ 0
+  and_clear e = and_pow x n ∙ rw (digit_zero n x e) (omega arith)
+
   pub with_set : bit_at n x ≡ true → with_flag n x ≡ x
   unfolding with_flag choose◌then◌else◌
   with_set e = rw e
@@ -99,8 +108,25 @@ module _ (n x : ℕ) where
   unfolding without_flag choose◌then◌else◌
   without_clear e = rw e
 
-  pub set_most : bit_at n x ≡ true → 2 ^ n ≤ x
-  set_most e = digit_most n x (digit_one n x e)
+  -- the code's `x | (1 << n)`
+  pub or_flag : n < 32 → bit_or x (1 * 2 ^ n % 2 ^ 32) ≡ with_flag n x
+  or_flag h =
+      let o : bit_or x (2 ^ n) + bit_and x (2 ^ n) ≡ x + 2 ^ n = or_add_and x (2 ^ n) in
+      rw (one_shl n 32 h)
+      (either (bit_at n x)
+      (λ e. let a : bit_and x (2 ^ n) ≡ 2 ^ n = and_set e in rw (with_set e) (omega arith))
+      (λ e. let a : bit_and x (2 ^ n) ≡ 0 = and_clear e in rw (with_clear e) (omega arith)))
+
+  -- the code's `x & !(1 << n)`
+  pub and_not_flag : n < 32 → x < 2 ^ 32 → bit_and x (2 ^ 32 - 1 - 1 * 2 ^ n % 2 ^ 32) ≡ without_flag n x
+  and_not_flag h b =
+      let o : bit_and (2 ^ 32 - 1 - 2 ^ n) x + bit_and (2 ^ n) x ≡ x = and-not 32 (2 ^ n) x (pow_below n 32 h) b in
+      let c : bit_and (2 ^ n) x ≡ bit_and x (2 ^ n) = and_comm (2 ^ n) x in
+      let d : bit_and (2 ^ 32 - 1 - 2 ^ n) x ≡ bit_and x (2 ^ 32 - 1 - 2 ^ n) = and_comm (2 ^ 32 - 1 - 2 ^ n) x in
+      rw (one_shl n 32 h)
+      (either (bit_at n x)
+      (λ e. let a : bit_and x (2 ^ n) ≡ 2 ^ n = and_set e in rw (without_set e) (omega arith))
+      (λ e. let a : bit_and x (2 ^ n) ≡ 0 = and_clear e in rw (without_clear e) (omega arith)))
 
   pub with_same : bit_at n (with_flag n x) ≡ true
   with_same =

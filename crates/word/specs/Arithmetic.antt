@@ -1,4 +1,4 @@
--- What the arithmetic operations give (01 "Instruction words"; 02 wish 1; 002 section 6). A register holds a number below 2 ^ 32. Assumes nothing.
+-- What the arithmetic operations give (Manual 3). A register holds a number below 2 ^ 32. Assumes nothing.
 use Rattle.std.specs.Prelude.{ℕ, ◌+◌, ◌-◌, ◌*◌, ◌/◌, ◌%◌, ◌^◌, min, max, Bool, ◌||◌, ℤ, pos, ◌+ℤ◌, ◌-ℤ◌, ◌*ℤ◌, neg_ℤ, ◌==◌, int_lt, nat_le}
 use Rattle.word.specs.Word.{bit_of, field_of, signed_of, div_z, word_of, extend_of, bitwise_of}
 use Rattle.word.specs.declared.Sum.{Sum}
@@ -6,33 +6,33 @@ use Rattle.word.specs.declared.Product.{Product}
 
 -- ---- flags
 
--- "A condition register is Z×4 + N×2 + C"
+-- a condition register: Z times 4, N times 2, C
 abbrev pub flags_of : (z n c : Bool) → ℕ
 flags_of z n c = bit_of z * 4 + bit_of n * 2 + bit_of c
 
--- "Z and N of the 32-bit result": it is 0; its bit 31 is 1. c is the carry
+-- Z: the 32-bit result is 0; N: its bit 31 is 1; c is the carry
 abbrev pub result_flags : (value : ℕ) (c : Bool) → ℕ
 result_flags value c = flags_of (value == 0) (nat_le (2 ^ 31) value) c
 
--- "outside signed 32 bits": below -2 ^ 31 or above 2 ^ 31 - 1
+-- outside signed 32 bits: below -2 ^ 31 or above 2 ^ 31 - 1
 abbrev pub outside : ℤ → Bool
 outside z = int_lt z (neg_ℤ (pos (2 ^ 31))) || int_lt (pos (2 ^ 31 - 1)) z
 
 -- ---- sums, differences, comparisons
 
--- "C the carry out"; overflow is that the sum of the signed readings leaves 32 bits
+-- the sum, wrapped; C is the carry out; overflow is that the exact sum of the signed readings is outside 32 bits
 unfoldable pub add_of : (a b : ℕ) → Sum
 add_of a b =
     let value = (a + b) % 2 ^ 32 in
     record { value = value; flags = result_flags value (nat_le (2 ^ 32) (a + b)); overflow = outside (signed_of 32 a +ℤ signed_of 32 b) }
 
--- a - b; C is "first ≥ second, unsigned"
+-- a - b, wrapped; C is that a is at least b, unsigned; overflow is that the exact difference of the signed readings is outside 32 bits
 unfoldable pub sub_of : (a b : ℕ) → Sum
 sub_of a b =
     let value = word_of 32 (pos a -ℤ pos b) in
     record { value = value; flags = result_flags value (nat_le b a); overflow = outside (signed_of 32 a -ℤ signed_of 32 b) }
 
--- "cmp and cmpi: Z equal, N signed less, C as subtraction"
+-- a comparison (cmp, cmpi): Z is equal, N is less as signed, C as of a difference
 unfoldable pub cmp_of : (a b : ℕ) → ℕ
 cmp_of a b = flags_of (a == b) (int_lt (signed_of 32 a) (signed_of 32 b)) (nat_le b a)
 
@@ -57,7 +57,7 @@ signed_half a = signed_of 16 (a % 2 ^ 16)
 unfoldable pub short_product_of : (x y : ℤ) → ℕ
 short_product_of x y = word_of 32 (x *ℤ y)
 
--- ---- shifts: "Shifts, sext and sexti use the five lowest bits" of s
+-- ---- shifts and sign extension: by the five lowest bits of s
 
 unfoldable pub sll_of : (a s : ℕ) → ℕ
 sll_of a s = a * 2 ^ (s % 32) % 2 ^ 32
@@ -69,7 +69,7 @@ srl_of a s = a / 2 ^ (s % 32)
 unfoldable pub sra_of : (a s : ℕ) → ℕ
 sra_of a s = word_of 32 (div_z (signed_of 32 a) (2 ^ (s % 32)))
 
--- "The position of the sign bit is specified by" s (0 is the lowest, 31 the highest)
+-- the bit that s names (0 the lowest, 31 the highest) is the sign, and is copied to the bits above it
 unfoldable pub sext_of : (a s : ℕ) → ℕ
 sext_of a s = extend_of (s % 32 + 1) a
 
@@ -89,15 +89,15 @@ not_of a = 2 ^ 32 - 1 - a
 
 -- ---- bytes, halfwords and fields
 
--- the k lowest bits of a above those of b: "low byte of first × 256 + low byte of second", "the same with halfwords and 65,536"
+-- the k lowest bits of a above those of b: bytes at k = 8, halfwords at k = 16
 unfoldable pub join_of : (k a b : ℕ) → ℕ
 join_of k a b = a % 2 ^ k * 2 ^ k + b % 2 ^ k
 
--- the n-th piece of k bits, "0 lowest": a byte, a halfword
+-- the n-th piece of k bits, 0 the lowest: a byte, a halfword
 unfoldable pub piece_of : (k a n : ℕ) → ℕ
 piece_of k a n = field_of (record { place = k * n; width = k }) a
 
--- "length from second source bits 10..5, position 4..0"; "A field's bits beyond 31 are zero; a length over 32 counts as 32"
+-- the field whose length is bits 10 to 5 of s and whose position is bits 4 to 0; bits beyond 31 are zero, and a length over 32 counts as 32
 unfoldable pub extract_of : (a s : ℕ) → ℕ
 extract_of a s = field_of (record { place = s % 32; width = min 32 (s / 32 % 64) }) a
 

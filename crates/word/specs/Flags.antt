@@ -3,7 +3,7 @@ use Rattle.std.specs.Prelude.{ℕ, zero, suc, ◌+◌, ◌-◌, ◌/◌, ◌%◌
 use Rattle.word.specs.Choice.{choose◌then◌else◌}
 use Rattle.word.specs.Word.{bit_at}
 
--- how many of the k lowest flags are 1 ("as many entries as INT_SERV has ones")
+-- how many of the k lowest flags are 1
 unfoldable pub ones_of : (k flags : ℕ) → ℕ
 ones_of zero flags = 0
 ones_of (suc k) flags = flags % 2 + ones_of k (flags / 2)

@@ -10,14 +10,14 @@ pub record Field : Type 0 where
   pub width : ℕ
 
 infixl 90 bits◌to◌
--- the bits `high..low`, as the papers write them
+-- the bits from `high` down to `low`
 abbrev pub bits◌to◌ : (high low : ℕ) → Field
 bits high to low = record { place = low; width = high + 1 - low }
 
 unfoldable pub field_of : Field → (word : ℕ) → ℕ
 field_of f word = word / 2 ^ f.place % 2 ^ f.width
 
--- bit n; "bit 0 is lowest"
+-- bit n; bit 0 is the lowest
 abbrev pub bit_at : (n word : ℕ) → Bool
 bit_at n word = word / 2 ^ n % 2 == 1
 

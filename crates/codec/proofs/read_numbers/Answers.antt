@@ -1,20 +1,12 @@
--- `read_numbers` meets its contract: each turn of the loop reads one number more, and the elements from `i` on stay. Assumes nothing.
-use native.Mathlib.Omega.{arith}
-use lib.Seq.{take_all}
-use borrow.Author.Rules.{rules}
-use Rattle.codec.specs.Number.{numbers_of}
-use Rattle.codec.proofs.Laws.{read_more, length_numbers_of}
+-- `read_numbers`: all that are read are the bytes' numbers, and those behind them stay. Assumes nothing.
+use Rattle.std.proofs.Common.{◌≡◌, ◌/◌, length, take, ◌∙◌, arith, length-take-le}
+use Rattle.codec.proofs.Laws.{read_all, length_numbers_of}
 use Rattle.codec.proofs.read_numbers.Goals as goal
-
-pub loop-i-preserved : goal.loop-i-preserved
-loop-i-preserved c =
-    let i = c.loop-i.i in
-    let args = c.args in
-    let more = read_more args.bytes.now args.numbers.now i (omega arith) (omega arith) in
-    (search rules, (search rules, cc))
 
 pub returns : goal.returns
 returns c =
     let s = c.args.bytes.now in
-    let all = take_all c.loop-i.i (numbers_of s) (omega (arith, length_numbers_of s)) in
-    cc
+    let t = c.args.numbers.now in
+    let front : length (take (length s / 4) t) ≡ length s / 4 = length-take-le (length s / 4) t c.requires in
+    let all = read_all s c.loop-i.number-items (c.loop-i.auto.number-items ∙ front) (λ k h. c.loop-i.invariant k (omega arith)) in
+    cc (length_numbers_of s)

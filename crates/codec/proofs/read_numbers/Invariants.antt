@@ -1,9 +1,7 @@
--- `read_numbers` meets its contract: each turn of the loop reads one number more, and the elements from `i` on stay. Assumes nothing.
-use mathlib.Core.Path.{◌≡◌}
-use Prim.Native.Nat.{◌≤◌, ◌/◌}
-use lib.ListN.{length, take}
-use Rattle.codec.specs.Number.{numbers_of, over}
+-- `read_numbers`: the numbers before place `i` are read. Assumes nothing.
+use Rattle.std.proofs.Common.{◌≡◌, ℕ, ◌*◌, ◌<◌, slice_index}
+use Rattle.codec.specs.Number.{number_at}
 use Rattle.codec.proofs.read_numbers.Given as goal
 
 abbrev pub invariant-loop-i : goal.invariant-loop-i
-invariant-loop-i l = (l.i ≤ length l.bytes / 4) × ((length l.numbers ≡ length l.initial.numbers) × (l.numbers ≡ over (take l.i (numbers_of l.bytes)) l.initial.numbers))
+invariant-loop-i l = (k : ℕ) → k < l.i → slice_index l.number-items k ≡ number_at l.bytes (4 * k)

@@ -1,9 +1,7 @@
--- `write_numbers` meets its contract: each turn of the loop writes one number more, and the bytes from `4 * i` on stay. Assumes nothing.
-use mathlib.Core.Path.{◌≡◌}
-use Prim.Native.Nat.{◌≤◌}
-use lib.ListN.{length, take}
+-- `write_numbers`: the numbers before place `i` are written, and the bytes behind them stay. Assumes nothing.
+use Rattle.std.proofs.Common.{◌≡◌, take}
 use Rattle.codec.specs.Number.{bytes_of, over}
 use Rattle.codec.proofs.write_numbers.Given as goal
 
 abbrev pub invariant-loop-i : goal.invariant-loop-i
-invariant-loop-i l = (l.i ≤ length l.numbers) × ((length l.bytes ≡ length l.initial.bytes) × (l.bytes ≡ over (bytes_of (take l.i l.numbers)) l.initial.bytes))
+invariant-loop-i l = l.bytes ≡ over (bytes_of (take l.i l.numbers)) l.initial.bytes

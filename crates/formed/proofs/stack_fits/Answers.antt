@@ -2,6 +2,8 @@
 use mathlib.Core.Path.{◌≡◌, sym, ◌∙◌}
 use mathlib.Core.Bool.{true}
 use borrow.Author.Rules.{rules}
+use Prim.Native.Nat.{◌<◌, ◌^◌}
+use Rattle.word.proofs.Bitwise.{ones_is}
 use Rattle.machine.specs.Control.{control_at, INT_SERV}
 use Rattle.machine.specs.Stack.{service_flags}
 use Rattle.machine.specs.Words.{machine_of}
@@ -17,8 +19,9 @@ small c = sym c.entries_pass.ensures ∙ c.if-entries_pass.true
 served : (c : goal.Then-serv-service_flags) → let m = machine_of c.args.w.now in control_at m INT_SERV ≡ service_flags m.stack
 served c = sym c.control-serv.ensures ∙ c.if-serv-service_flags.true ∙ c.service_flags.ensures
 
-pub ones-requires : goal.ones-requires
-ones-requires c = rw (c.if-serv-service_flags.true, c.service_flags.ensures) (service_small _ (small (goal.at.ones-requires c).Then-entries_pass))
+-- INT_SERV has twelve bits, so that all its ones are counted
+twelve : (c : goal.Then-serv-service_flags) → all_pass Source (machine_of c.args.w.now).stack ≡ true → c.control-serv.result < 2 ^ 12
+twelve c s = rw (c.if-serv-service_flags.true, c.service_flags.ensures) (service_small _ s)
 
 pub returns-then-serv-service_flags : goal.returns-then-serv-service_flags
 returns-then-serv-service_flags c =
@@ -28,7 +31,7 @@ returns-then-serv-service_flags c =
       c.control.ensures,
       c.top-top.ensures,
       c.depth.ensures,
-      c.ones.ensures,
+      ones_is 12 c.control-serv.result (twelve (goal.at.returns-then-serv-service_flags c).Then-serv-service_flags (small (goal.at.returns-then-serv-service_flags c).Then-entries_pass)),
       c.control-serv.ensures,
     )
     (service_counted _ (small (goal.at.returns-then-serv-service_flags c).Then-entries_pass) (served (goal.at.returns-then-serv-service_flags c).Then-serv-service_flags))

@@ -4,4 +4,4 @@ use Rattle.machine.proofs.reset.Goals as goal
 
 pub returns : goal.returns
 unfolding machines
-returns c = rw c.copy.ensures
+returns c = rw c.copy_from_slice.ensures.after

@@ -1,6 +1,5 @@
 -- `operands::value` meets its contract: a letter is of its own role, and any other one counts as the last. Assumes nothing.
 use mathlib.Core.Path.{◌≡◌, sym, ap, ◌∙◌}
-use mir.Syntax.{w32}
 use mathlib.Core.Logic.{◌≢◌}
 use Prim.Native.Nat.{ℕ, ◌/◌, ◌%◌}
 use native.Mathlib.Nat.{div-one}
@@ -8,7 +7,7 @@ use native.Mathlib.Omega.{arith}
 use borrow.Author.Tests.{ne_eqb}
 use Rattle.word.specs.Choice.{choose◌then◌else◌}
 use Rattle.word.specs.Word.{field_of, word_of}
-use Rattle.word.proofs.Handed.{handed}
+use Rattle.word.proofs.Handed.{word_handed}
 use Rattle.word.proofs.Integers.{word_natural}
 use Rattle.isa.specs.declared.form.Role.TheVariants.{Position}
 use Rattle.isa.specs.Shown.{shown_value}
@@ -40,16 +39,16 @@ returns-in-99 c = rw c.in-99.is (sym (word_natural 32 _ (omega arith)))
 
 pub returns-in-105 : goal.returns-in-105
 unfolding role_of choose◌then◌else◌ shown_value
-returns-in-105 c = rw c.in-105.is (handed (word_of 32) {w = w32} (record { sfits = omega arith }) c.word.ensures)
+returns-in-105 c = rw c.in-105.is (word_handed (record { sfits = omega arith }) c.cast_unsigned.ensures)
 
 pub returns-in-108 : goal.returns-in-108
 unfolding role_of choose◌then◌else◌ shown_value field_of
 returns-in-108 c =
-    let n : c.word-in-108.result ≡ word_of 32 c.args.i.immediate = handed (word_of 32) {w = w32} (record { sfits = omega arith }) c.word-in-108.ensures in
+    let n : c.cast_unsigned-in-108.result ≡ word_of 32 c.args.i.immediate = word_handed (record { sfits = omega arith }) c.cast_unsigned-in-108.ensures in
     rw c.in-108.is (ap (λ (n : ℕ). n / 32 % 64) n ∙ sym (word_natural 32 _ (omega arith)))
 
 pub returns-in_default : goal.returns-in_default
 unfolding shown_value field_of
 returns-in_default c =
-    let n : c.word-in_default.result ≡ word_of 32 c.args.i.immediate = handed (word_of 32) {w = w32} (record { sfits = omega arith }) c.word-in_default.ensures in
+    let n : c.cast_unsigned-in_default.result ≡ word_of 32 c.args.i.immediate = word_handed (record { sfits = omega arith }) c.cast_unsigned-in_default.ensures in
     rw (last c.args.letter c.in_default.in_default-own.rest, div-one) (ap (λ (n : ℕ). n % 32) n ∙ sym (word_natural 32 _ (omega arith)))

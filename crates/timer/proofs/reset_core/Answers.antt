@@ -2,4 +2,4 @@
 use Rattle.timer.proofs.reset_core.Goals as goal
 
 pub returns : goal.returns
-returns c = rw c.copy.ensures c.reset-words.ensures
+returns c = rw c.copy_from_slice.ensures.after c.reset-words.ensures

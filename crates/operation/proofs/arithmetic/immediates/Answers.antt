@@ -2,7 +2,8 @@
 use mathlib.Core.Path.{◌≡◌}
 use native.Mathlib.Omega.{arith}
 use mir.Syntax.{w32}
-use Rattle.word.proofs.Integers.{back}
+use Rattle.word.proofs.Bitwise.{and_word, or_word}
+use Rattle.word.proofs.Integers.{back, signed_is}
 use Rattle.isa.specs.Operation.{operations, operation_of}
 use Rattle.operation.specs.Execute.{execute}
 use Rattle.word.proofs.Ranges.{the_last}
@@ -34,7 +35,7 @@ returns-in-20 c v y memory =
     rw (
       c.in-20.is,
       ← c.immediate_value-n.ensures,
-      ← c.and.ensures,
+      ← (and_word c.args.x c.immediate_value-n.result (omega arith) (omega arith)),
     )
     (c.result.ensures memory)
 
@@ -44,7 +45,7 @@ returns-in-21 c v y memory =
     rw (
       c.in-21.is,
       ← c.immediate_value-n.ensures,
-      ← c.or.ensures,
+      ← (or_word c.args.x c.immediate_value-n.result (omega arith) (omega arith)),
     )
     (c.result-in-21.ensures memory)
 
@@ -53,8 +54,9 @@ unfolding operations operation_of execute
 returns-in-22 c v y memory =
     rw (
       c.in-22.is,
-      ← c.signed.ensures,
-      ← (back w32 c.signed.result c.signed.type_inv),
+      ← (signed_is c.args.x (omega arith)),
+      ← c.cast_signed.ensures,
+      ← (back w32 c.cast_signed.result c.cast_signed.type_inv),
       ← (back w32 c.args.i.immediate (omega arith)),
       ← c.multiply.ensures,
     )

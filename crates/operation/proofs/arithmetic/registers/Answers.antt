@@ -3,6 +3,7 @@ use mathlib.Core.Path.{◌≡◌}
 use native.Mathlib.Omega.{arith}
 use Rattle.isa.specs.Operation.{operations, operation_of}
 use Rattle.operation.specs.Execute.{execute}
+use Rattle.word.proofs.Bitwise.{and_word, or_word, xor_word}
 use Rattle.word.proofs.Ranges.{the_last}
 use Rattle.operation.proofs.arithmetic.registers.Goals as goal
 
@@ -33,19 +34,19 @@ returns-in-4 c v memory =
 pub returns-in-5 : goal.returns-in-5
 unfolding operations operation_of execute
 returns-in-5 c v memory =
-    rw (c.in-5.is, ← c.and.ensures)
+    rw (c.in-5.is, ← (and_word c.args.x c.args.y (omega arith) (omega arith)))
     (c.result.ensures memory)
 
 pub returns-in-6 : goal.returns-in-6
 unfolding operations operation_of execute
 returns-in-6 c v memory =
-    rw (c.in-6.is, ← c.or.ensures)
+    rw (c.in-6.is, ← (or_word c.args.x c.args.y (omega arith) (omega arith)))
     (c.result-in-6.ensures memory)
 
 pub returns-in-7 : goal.returns-in-7
 unfolding operations operation_of execute
 returns-in-7 c v memory =
-    rw (c.in-7.is, ← c.xor.ensures)
+    rw (c.in-7.is, ← (xor_word c.args.x c.args.y (omega arith) (omega arith)))
     (c.result-in-7.ensures memory)
 
 pub returns-in-8 : goal.returns-in-8

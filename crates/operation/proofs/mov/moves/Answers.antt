@@ -3,6 +3,7 @@ use mathlib.Core.Path.{◌≡◌}
 use native.Mathlib.Omega.{arith}
 use Rattle.isa.specs.Operation.{operations, operation_of}
 use Rattle.operation.specs.Execute.{execute}
+use Rattle.word.proofs.Bitwise.{not_word}
 use Rattle.word.proofs.Ranges.{the_last}
 use Rattle.word.proofs.Integers.{word_low}
 use Rattle.operation.proofs.mov.moves.Goals as goal
@@ -14,7 +15,7 @@ returns-in-29 c p memory = rw c.in-29.is (c.result.ensures memory)
 pub returns-in-30 : goal.returns-in-30
 unfolding operations operation_of execute
 returns-in-30 c p memory =
-    rw (c.in-30.is, ← c.not.ensures)
+    rw (c.in-30.is, ← (not_word c.args.x))
     (c.result-in-30.ensures memory)
 
 pub returns-in-31 : goal.returns-in-31
