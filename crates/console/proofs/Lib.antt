@@ -2,4 +2,3 @@
 pub mod Digits
 pub mod Limits
 pub mod Lines
-pub mod Worked
