@@ -71,6 +71,12 @@ places_le zero k n h = omega arith
 places_le (suc more) zero n h = search rules
 places_le (suc more) (suc k) n h = search (rules, places_le more k (n / 10) (tenth n (suc k) h))
 
+-- a larger number has no fewer
+pub places_mono : (more m n : ℕ) → m ≤ n → places_from more m ≤ places_from more n
+unfolding places_from
+places_mono zero m n h = omega arith
+places_mono (suc more) m n h = search (rules, places_mono more (m / 10) (n / 10) (omega arith))
+
 -- ---- a number in decimal is what std prints
 
 -- its digits are those of its tenth, and one more

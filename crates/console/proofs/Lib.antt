@@ -2,3 +2,4 @@
 pub mod Digits
 pub mod Limits
 pub mod Lines
+pub mod Worked

@@ -1,7 +1,8 @@
 -- Laws of the step limit that a text says. Assumes nothing.
-use Rattle.std.proofs.Common.{rules, arith, ◌≡◌, ◌∙◌, sym, ap, Bor, ℕ, suc, ◌+◌, ◌-◌, ◌*◌, ◌^◌, ◌≤◌, ◌<◌, List, [], ◌∷◌, length, get_or, take, drop, nat_eq, Bool, true, false, Result, Ok, Err, Option, Some, None, if◌then◌else◌}
+use Rattle.std.proofs.Common.{inl, inr, rules, arith, ◌≡◌, ◌∙◌, sym, ap, Bor, ℕ, suc, ◌+◌, ◌-◌, ◌*◌, ◌≤◌, ◌<◌, List, [], ◌∷◌, length, get_or, take, drop, nat_eq, true, false, Result, Option, Some, None, if◌then◌else◌}
 use lib.ListN.{drop_of_length-le}
-use lib.Seq.{drop-cons, take_all}
+use lib.Seq.{drop-cons, take_all, length-take-le}
+use Rattle.std.proofs.lemmas.Bool.{cases_lt}
 use Rattle.std.specs.Str.{IsUtf8}
 use Rattle.std.specs.Str.Parse.{ParsesUnsigned}
 use Rattle.std.specs.Result.{result_ok}
@@ -73,3 +74,23 @@ pub limit_read : (text : Bor (List ℕ)) (stripped : Option (Bor (List ℕ)))
 unfolding limit_of
 limit_read text None h = search (rules, line_open text.now h, take_all (length text.now) text.now (omega arith))
 limit_read text (Some x) h = search (rules, line_ended)
+
+-- it is all of the text, or all but the last character
+line_length_near : (s : List ℕ) → (line_length s ≤ length s) × (length s ≤ line_length s + 1)
+unfolding line_length
+line_length_near s = search rules
+
+-- a text of nine characters or more says no limit
+limit_long : (text : List ℕ) → 8 < length text → limit_of text ≡ None
+unfolding limit_of
+limit_long text h =
+    let near = line_length_near text in
+    let n = length-take-le (line_length text) text near.0 in
+    sym (refused_long (take (line_length text) text) (omega arith))
+
+-- so the front of a text, of nine characters or more, says the same
+pub limit_front : (text : List ℕ) (n : ℕ) → 8 < n → limit_of (take n text) ≡ limit_of text
+limit_front text n h = elim (cases_lt n (length text)) [
+  | inl m ↦ limit_long (take n text) (omega (arith, length-take-le n text (omega arith))) ∙ sym (limit_long text (omega arith))
+  | inr m ↦ ap limit_of (take_all n text m)
+]

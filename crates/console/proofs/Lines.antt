@@ -1,5 +1,5 @@
 -- Laws of the line that is printed. Assumes nothing.
-use Rattle.std.proofs.Common.{rules, arith, ◌≡◌, ◌∙◌, sym, ap, refl, ℕ, suc, zero, ◌+◌, ◌/◌, ◌%◌, ◌≤◌, ◌<◌, List, [], ◌∷◌, ◌++◌, length, replicate}
+use Rattle.std.proofs.Common.{rules, arith, ◌≡◌, ℕ, suc, zero, ◌/◌, ◌<◌, List, [], ◌∷◌, ◌++◌, replicate}
 use Rattle.std.specs.Str.{IsAscii, IsUtf8}
 use Rattle.std.proofs.lemmas.Str.{IsUtf8-from_ascii, IsAscii-append}
 use Rattle.codec.specs.Number.{put_at}

@@ -1,5 +1,6 @@
 -- The step limit that limit.txt says (Manual 15). Assumes nothing.
 use Rattle.std.specs.Prelude.{Bool, ◌&&◌, List, [], ◌∷◌, ℕ, ◌+◌, ◌-◌, ◌*◌, Option, Some, None, length, get_or, take, nat_le, ◌==◌, if◌then◌else◌}
+use Rattle.std.specs.Option.{unwrap_or}
 use Rattle.console.specs.Digits.{newline}
 
 -- the characters 0 to 9
@@ -29,12 +30,11 @@ limit_of text = decimal_of (take (line_length text) text)
 abbrev pub bad_limit : ℕ
 bad_limit = 0xFFFF_FFFF
 
--- a limit as the number that a run call takes
-unfoldable pub limit_number : (limit : Option ℕ) → ℕ
-limit_number (Some n) = n
-limit_number None = bad_limit
+-- the step limit as a number for the run call
+abbrev pub limit_number : (text : List ℕ) → ℕ
+limit_number text = unwrap_or (limit_of text) bad_limit
 
 -- to unfold all of these
 unfoldable pub limit_reading : Unit {0}
-unfolding is_digit decimal_from decimal_of line_length limit_of limit_number
+unfolding is_digit decimal_from decimal_of line_length limit_of
 limit_reading = tt

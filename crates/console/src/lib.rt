@@ -1,4 +1,6 @@
 //! The text of programs: numbers as digits, the step limit that the run program reads, the line that it prints.
+//!
+//! Text is bytes of ASCII. Nothing here allocates, and nothing fails: a text that says no limit is answered by `None`.
 #![tactic(auto)]
 
 ghost use Rattle.std.specs.Prelude.{◌≡◌, [], ◌∷◌, ◌++◌, ◌+◌, ◌<◌, ◌≤◌, length};
@@ -6,7 +8,7 @@ ghost use Rattle.std.specs.Char.{is_ascii_digit};
 ghost use Rattle.std.specs.List.{list_all};
 ghost use Rattle.codec.specs.Number.{put_at};
 ghost use Rattle.console.specs.Digits.{newline, digit_of, digits_of, places_of, decimal, hex8};
-ghost use Rattle.console.specs.Limit.{decimal_of, line_length, limit_of};
+ghost use Rattle.console.specs.Limit.{decimal_of, limit_of};
 ghost use Rattle.console.specs.Line.{ran_text, refusal_text};
 
 use arrayvec::ArrayString;
@@ -14,14 +16,14 @@ use itoa::Buffer;
 
 // ---- limit.txt
 
-/// Whether all characters are decimal digits.
+// Whether all characters are decimal digits.
 fn all_digits(text: &[u8]) -> bool
     ensures { result ≡ list_all is_ascii_digit text.now }
 {
     text.iter().all(u8::is_ascii_digit)
 }
 
-/// The number that 1 to 7 digits say; `None` for any other text.
+// The number that 1 to 7 digits say. `parse` alone would take a sign and more digits.
 #[tactic(auto, using(crate::proofs::Limits::refused_long, crate::proofs::Limits::refused_other, crate::proofs::Limits::digits_text, crate::proofs::Limits::parsed))]
 fn decimal(text: &[u8]) -> Option<u32>
     ensures { result ≡ decimal_of text.now }
@@ -32,7 +34,7 @@ fn decimal(text: &[u8]) -> Option<u32>
     str::from_utf8(text).ok()?.parse().ok()
 }
 
-/// The step limit that a text says: 1 to 7 digits and an optional newline. `None` for any other text.
+/// The step limit that a text says, 1 to 7 decimal digits with an optional newline after them. `None` for any other text.
 pub fn limit_of(text: &[u8]) -> Option<u32>
     ensures { result ≡ limit_of text.now }
 {
@@ -41,7 +43,7 @@ pub fn limit_of(text: &[u8]) -> Option<u32>
 
 // ---- numbers
 
-/// The character of a digit below 16.
+// The character of a digit below 16.
 #[tactic(auto, unfolding(crate::specs::Digits::digit_of))]
 fn digit(d: u32) -> u8
     requires { d < 16 }
@@ -50,7 +52,7 @@ fn digit(d: u32) -> u8
     b"0123456789ABCDEF"[d as usize]
 }
 
-/// How many decimal digits a number has.
+/// How many decimal digits a number has, from 1 to 10.
 #[tactic(auto, using(crate::proofs::Digits::places_std))]
 pub fn places(n: u32) -> usize
     ensures { result ≡ places_of n }
@@ -58,7 +60,7 @@ pub fn places(n: u32) -> usize
     Buffer::new().format(n).len()
 }
 
-/// Writes the lowest digits of a number in a base, from a place on.
+/// Writes the `count` lowest digits of a number in a base of at most 16, from a place of the line on, the highest first.
 #[tactic(auto, using(crate::proofs::Digits::digit_more, crate::proofs::Digits::digits_done))]
 pub fn put_digits(line: &mut [u8], at: usize, base: u32, count: usize, n: u32)
     requires { ((1 ≤ base) × (base ≤ 16)) × (at + count ≤ length line.old) }
@@ -71,7 +73,7 @@ pub fn put_digits(line: &mut [u8], at: usize, base: u32, count: usize, n: u32)
     }
 }
 
-/// The same, and a character after them.
+/// The same, and the character `end` after them.
 #[tactic(auto, using(crate::proofs::Digits::put_at_last, crate::proofs::Digits::length_digits_of))]
 pub fn put_ended(line: &mut [u8], at: usize, base: u32, count: usize, n: u32, end: u8)
     requires { ((1 ≤ base) × (base ≤ 16)) × (at + count + 1 ≤ length line.old) }
@@ -83,7 +85,7 @@ pub fn put_ended(line: &mut [u8], at: usize, base: u32, count: usize, n: u32, en
 
 // ---- the line
 
-/// A line of text: at most 31 characters.
+/// A line of text in fixed memory. The longest has 31 characters: two numbers of 10 digits, 8 hex digits, two blanks and a newline.
 pub type Line = ArrayString<31>;
 
 // Appends a number in decimal, and what stands after it.
@@ -107,7 +109,7 @@ fn push_hex_line(line: &mut Line, n: u32)
     line.push_str(str::from_utf8(&text).unwrap());
 }
 
-/// The line for a call that ran: steps, ending, and PC in hexadecimal.
+/// The line for a call that ran: steps and ending in decimal, PC in eight hex digits, single blanks between and a newline after.
 #[tactic(auto, unfolding(crate::specs::Line::ran_text))]
 pub fn ran_line(steps: u32, ending: u32, pc: u32) -> Line
     ensures { result.bytes ≡ ran_text steps ending pc }
@@ -119,7 +121,7 @@ pub fn ran_line(steps: u32, ending: u32, pc: u32) -> Line
     line
 }
 
-/// The line for a refusal: its number.
+/// The line for a refusal: its number in decimal and a newline.
 #[tactic(auto, unfolding(crate::specs::Line::refusal_text))]
 pub fn refusal_line(n: u32) -> Line
     ensures { result.bytes ≡ refusal_text n }

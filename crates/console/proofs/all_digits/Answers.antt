@@ -8,4 +8,3 @@ use Rattle.console.proofs.all_digits.Goals as goal
 pub returns : goal.returns
 returns c =
     all_from_yields_List is_ascii_digit _ _ _ c.all.ensures.ran (YieldsList-from_slice c.args.text.now cc) (λ x b q k. search (rules, tests))
-
