@@ -173,7 +173,7 @@ uint64_t coffee_encode(
  * scall without a condition. jmp, jal and branches lead to their target, the next word's address plus twice the immediate; jal, jalr and scall to
  * the word two on, and a swm that keeps the width to the word three on. A word is reached as a slot, too: the one after jmp, jal, jmpr, jalr, scall
  * and retu, the two after swm, the three after reti; a word reached only so leads nowhere. Only aligned words wholly in the program are reached.
- * What a register, a vector or the hardware stack says is not followed.
+ * What a register, a vector or the interrupt stack says is not followed.
  *
  * Takes up to 140 KB of stack.
  *

@@ -61,10 +61,10 @@ enum { EN = 0x8000, CONT = 0x4000, GINT = 0x2000, WDOG = 0x1000, INTN = 8, DIV =
 // Both timers.
 enum { TIMERS = 2 };
 
-// Interrupt sources, and the most entries of the hardware stack. The EXT sources come after the COP ones.
+// Interrupt sources, and the most entries of the interrupt stack. The EXT sources come after the COP ones.
 enum { EXT = 4, SOURCES = 12 };
 
-// An entry of the hardware stack.
+// An entry of the interrupt stack.
 struct entry {
     uint32_t source, address, psr, c0;
 };

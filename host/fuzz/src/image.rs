@@ -122,7 +122,7 @@ pub fn control_mask(offset: usize) -> u32 {
     }
 }
 
-/// One entry of the hardware stack.
+/// One entry of the interrupt stack.
 #[derive(Clone, Copy, Debug, Default, PartialEq, Eq)]
 pub struct Entry {
     pub source: u32,
@@ -139,7 +139,7 @@ pub struct Image {
     pub conditions: [u32; 8],
     pub control: [u32; CONTROL_REGISTERS],
     pub position: [u32; 6],
-    /// The hardware stack, top last; only the first `depth` entries count.
+    /// The interrupt stack, top last; only the first `depth` entries count.
     pub stack: [Entry; SOURCES],
     pub depth: usize,
     pub dividers: [u32; TIMERS],

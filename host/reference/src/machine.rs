@@ -1,5 +1,5 @@
 //! The state of the machine: two register sets, eight condition registers, the
-//! control block, the position in the program, the hardware stack and the dividers of
+//! control block, the position in the program, the interrupt stack and the dividers of
 //! the timers.
 
 use crate::timers::TIMERS;
@@ -131,7 +131,7 @@ fn stacked_psr(value: u32) -> u32 {
     }
 }
 
-/// An entry of the hardware stack: what an accepted interrupt leaves there, and stores to
+/// An entry of the interrupt stack: what an accepted interrupt leaves there, and stores to
 /// the RETI_ registers replace, but for the source.
 #[derive(Clone, Copy, Debug, PartialEq, Eq)]
 pub struct StackEntry {
@@ -163,7 +163,7 @@ pub struct Machine {
     /// The control block registers by offset.
     pub control: [u32; CONTROL_REGISTERS],
     pub position: Position,
-    /// The hardware stack, top last.
+    /// The interrupt stack, top last.
     pub stack: Vec<StackEntry>,
     /// The divider of each timer.
     pub dividers: [u32; TIMERS],
@@ -244,8 +244,8 @@ impl Machine {
         }
     }
 
-    /// Writes a register in the set that RSWR names; a result for PSR is thrown away (Manual
-    /// 1.4).
+    /// Writes a register in the set that RSWR names; a result for PSR is thrown away
+    /// (Manual 1.4).
     pub fn write_register(&mut self, index: usize, value: u32) {
         if self.psr() & RSWR == 0 {
             self.set1[index] = value;
@@ -275,14 +275,14 @@ impl Machine {
         }
     }
 
-    /// Puts an entry on the hardware stack and sets its source's flag in INT_SERV.
+    /// Puts an entry on the interrupt stack and sets its source's flag in INT_SERV.
     pub fn push(&mut self, entry: StackEntry) {
         self.control[offset::INT_SERV] |= 1 << entry.source;
         self.stack.push(entry);
         self.show_stack_top();
     }
 
-    /// Takes the top entry off the hardware stack and clears its source's flag in
+    /// Takes the top entry off the interrupt stack and clears its source's flag in
     /// INT_SERV; nothing when the stack is empty.
     pub fn pop(&mut self) -> Option<StackEntry> {
         let entry = self.stack.pop()?;

@@ -32,7 +32,7 @@ mod stop {
     pub const TRANSFER_IN_SLOT: u32 = 13;
     /// mulhi without a product from the step just before.
     pub const NO_PRODUCT: u32 = 14;
-    /// reti with an empty hardware stack.
+    /// reti with an empty interrupt stack.
     pub const EMPTY_STACK: u32 = 15;
     /// Another operation stands where a nop has to follow.
     pub const NOT_A_NOP: u32 = 20;
