@@ -22,7 +22,7 @@ use Rattle.reach.specs.Call.{reached_map, Mapped, mapped, reach_call}
 use Rattle.reach.specs.Theorems.{Mappable, Exact, Exactly, RefusedKeeps, AskedInOrder, ReachableWords, FollowedOnce}
 use Rattle.reach.proofs.Words.{whole, inside, slots_words, slots_above, in_full_word}
 use Rattle.reach.proofs.Graph.{Bits, found_few}
-use Rattle.reach.proofs.Slots.{Marked, SlotOf, with_slots_law, slots_bits}
+use Rattle.reach.proofs.Marks.{Marked, SlotOf, with_slots_law, slots_bits}
 use Rattle.reach.proofs.ProgramSearch.{sound, in_full}
 use Rattle.reach.proofs.Calls.{map_length, too_long_law, too_short_law, no_start, mappable}
 
