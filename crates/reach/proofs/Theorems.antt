@@ -126,3 +126,10 @@ exactly width program start map =
         beyond = drop_at front rest (length program) n ∙ ap (λ (k : ℕ). drop k map) n;
       },
     ))
+
+-- the same of a map that is known to be the call's
+pub marked : (width : Width) (program : List ℕ) (start : ℕ) (map after : List ℕ) → mapped 0 after ≡ reach_call width program start map
+    → Mappable width program start map × Exact width program start map after
+marked width program start map after e =
+    subst (λ (m : Mapped). Mappable width program start map × Exact width program start map m.map) (sym e)
+    (exactly width program start map (ap (λ (m : Mapped). m.answer) (sym e)))

@@ -1,12 +1,12 @@
 -- Lists of visits, and the addresses that the code hands on. Assumes nothing.
-use mathlib.Core.Path.{◌≡◌, refl, sym, ap, ◌∙◌}
+use mathlib.Core.Path.{◌≡◌, refl, ap, ◌∙◌}
 use mathlib.Core.Bool.{Bool, true, false}
 use mathlib.Core.List.{List, [], ◌∷◌, ◌++◌}
 use Prim.Native.Nat.{ℕ, zero, suc, ◌+◌, ◌*◌, ◌%◌, ◌-◌, ◌≤◌, ◌<◌}
 use native.Mathlib.Numerals.{add-one}
 use native.Mathlib.Omega.{arith}
-use lib.ListN.{length, get_or, drop}
-use Rattle.std.proofs.Common.{Option, None, option_to_list, drop-cons, append-nil, append_assoc}
+use lib.ListN.{length, get_or}
+use Rattle.std.proofs.Common.{append-nil, append_assoc}
 use lib.IntN.{ℤ, pos, negsuc}
 use borrow.Author.Tests.{lt-ltb, le-ltb}
 use Rattle.word.specs.Choice.{choose◌then◌else◌}
@@ -15,8 +15,8 @@ use Rattle.word.proofs.Integers.{word_low}
 use Rattle.isa.specs.declared.width.Width.{Width}
 use Rattle.isa.specs.declared.width.Width.TheVariants.{Narrow, Wide}
 use Rattle.isa.specs.Decode.{word_bytes, word_at, decode}
-use Rattle.reach.specs.Successors.{is_word, words_among, next_of, target_of, resumption_of, present, successors}
-use Rattle.reach.specs.Search.{Search, visit, visit_all, follow}
+use Rattle.reach.specs.Successors.{is_word, words_among, next_of, target_of, resumption_of, successors}
+use Rattle.reach.specs.Search.{Search, visit_all, follow}
 
 -- ---- addresses
 
@@ -53,11 +53,6 @@ led_to width program a =
     let i = decode width (word_at width program a) in
     let n = length program in
     rw (words_append width n (next_of width i a ++ target_of width i a) (resumption_of width i a), words_append width n (next_of width i a) (target_of width i a), append_assoc, append-nil) refl
-
--- ---- the loop over what is there
-
-pub present_at : (words : List (Option ℕ)) (i : ℕ) → i < length words → present (drop i words) ≡ option_to_list (get_or words i None) ++ present (drop (i + 1) words)
-present_at words i h = rw (add-one, drop-cons words i None) refl
 
 -- ---- the loop
 

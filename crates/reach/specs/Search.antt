@@ -1,4 +1,4 @@
--- A search that finds what is reached in full, and a pass that adds the slots. Assumes nothing.
+-- A search that finds what is reached in full, and a pass that adds the slots (Manual 13). Assumes nothing.
 use Rattle.std.specs.Prelude.{◌≡◌, true, List, [], ◌∷◌, ◌++◌, ℕ, zero, suc, ltb, eqb, length, get_or, set, replicate}
 use Rattle.word.specs.Choice.{choose◌then◌else◌}
 use Rattle.isa.specs.declared.width.Width.{Width}

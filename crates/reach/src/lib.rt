@@ -6,11 +6,12 @@ mod search;
 mod slots;
 mod successors;
 
-ghost use Rattle.std.specs.Prelude.{◌≡◌, true, ◌≤◌, length};
+ghost use Rattle.std.specs.Prelude.{◌≡◌, true, ◌≤◌, length, OnOk, OnErr};
 ghost use Rattle.machine.specs.Machine.{MOST_MEMORY};
 ghost use Rattle.machine.specs.Refusal.{refused_by};
 ghost use Rattle.reach.specs.Successors.{is_word};
 ghost use Rattle.reach.specs.Call.{reached_map, mapped, reach_call};
+ghost use Rattle.reach.specs.Theorems.{Mappable, Exact};
 
 use crate::search::search;
 use crate::slots::mark_slots;
@@ -18,8 +19,8 @@ use crate::successors::is_word;
 use isa::Width;
 use machine::Refusal;
 
-#[tactic(auto, using(crate::proofs::ProgramSearch::sound, crate::proofs::ProgramSearch::marks_words), unfolding(crate::specs::Call::reached_map))]
 /// Marks what is reached from a start address, in full and as a slot, and nothing else.
+#[tactic(auto, using(crate::proofs::ProgramSearch::sound, crate::proofs::ProgramSearch::marks_words), unfolding(crate::specs::Call::reached_map))]
 fn mark_reached(program: &[u8], width: Width, start: u32, map: &mut [u8])
     requires sized { length map.old ≡ length program.now }
     requires fits { length program.now ≤ MOST_MEMORY }
@@ -31,12 +32,14 @@ fn mark_reached(program: &[u8], width: Width, start: u32, map: &mut [u8])
     mark_slots(program, width, map);
 }
 
-#[tactic(auto, using(crate::proofs::Calls::map_length), unfolding(word::specs::Choice::choices, crate::specs::Call::reach_call))]
 /// Writes 1 to a map's byte at the address of each word that is reached, and 0 to the others over the program's length; later bytes keep
 /// their values. Refused are a program longer than program memory, then a map shorter than the program, then a start at which there is no
 /// word: these change nothing.
+#[tactic(auto, using(crate::proofs::Calls::map_length), unfolding(word::specs::Choice::choices, crate::specs::Call::reach_call))]
 pub fn reach(program: &[u8], width: Width, start: u32, map: &mut [u8]) -> Result<(), Refusal>
-    ensures { mapped (refused_by result) map.new ≡ reach_call width program.now start map.old }
+    ensures exact { mapped (refused_by result) map.new ≡ reach_call width program.now start map.old }
+    ensures marked { OnOk result (Mappable width program.now start map.old × Exact width program.now start map.old map.new) }
+    ensures kept { OnErr result (map.new ≡ map.old) }
 {
     let size = program.len();
     if machine::MOST_MEMORY < size {

@@ -38,8 +38,8 @@ fn visit_all(map: &mut [u8], queue: &mut Queue, words: [Option<u32>; 3])
     }
 }
 
-#[tactic(auto, using(crate::proofs::Words::inside, crate::proofs::ProgramSearch::begun, crate::proofs::ProgramSearch::few, crate::proofs::ProgramSearch::next_word, crate::proofs::ProgramSearch::more, crate::proofs::ProgramSearch::ended))]
 /// Marks what is reached in full from a start address, in a map of zeros.
+#[tactic(auto, using(crate::proofs::Words::inside, crate::proofs::ProgramSearch::begun, crate::proofs::ProgramSearch::few, crate::proofs::ProgramSearch::next_word, crate::proofs::ProgramSearch::more, crate::proofs::ProgramSearch::ended))]
 pub fn search(program: &[u8], width: Width, start: u32, map: &mut [u8])
     requires blank { map.old ≡ replicate (length program.now) 0 }
     requires fits { length program.now ≤ MOST_MEMORY }

@@ -9,8 +9,8 @@ ghost use Rattle.reach.specs.Search.{mark_all, with_slots_of, with_slots, MarksW
 use crate::successors::{is_word, slot_words};
 use isa::{Operation, Width};
 
-#[tactic(auto, using(crate::proofs::Words::inside, crate::proofs::Marks::mark_word, crate::proofs::Marks::mark_absent))]
 /// Marks an address where there is a word.
+#[tactic(auto, using(crate::proofs::Words::inside, crate::proofs::Marks::mark_word, crate::proofs::Marks::mark_absent))]
 fn mark(map: &mut [u8], width: Width, b: u32)
     ensures { map.new ≡ mark_all (words_among width (length map.old) (pos b ∷ [])) map.old }
 {
@@ -19,8 +19,8 @@ fn mark(map: &mut [u8], width: Width, b: u32)
     }
 }
 
-#[tactic(auto, using(isa::proofs::Decoded::bytes_most, crate::proofs::Marks::next_marked, crate::proofs::Marks::none_left))]
 /// Marks the next words after an address, `count` of them, where they are words.
+#[tactic(auto, using(isa::proofs::Decoded::bytes_most, crate::proofs::Marks::next_marked, crate::proofs::Marks::none_left))]
 fn mark_next(map: &mut [u8], width: Width, a: u32, count: u32)
     requires near { a ≤ MOST_MEMORY }
     requires few { count < 4 }
@@ -33,8 +33,8 @@ fn mark_next(map: &mut [u8], width: Width, a: u32, count: u32)
     }
 }
 
-#[tactic(auto, using(crate::proofs::Flows::slot_few, crate::proofs::Words::wholly), unfolding(word::specs::Choice::choices, crate::specs::Search::with_slots_of, crate::specs::Successors::slots, isa::specs::Decode::decode, isa::specs::Decode::assembled))]
 /// Marks the slots of the word at an address, if it is marked.
+#[tactic(auto, using(crate::proofs::Flows::slot_few, crate::proofs::Words::wholly), unfolding(word::specs::Choice::choices, crate::specs::Search::with_slots_of, crate::specs::Successors::slots, isa::specs::Decode::decode, isa::specs::Decode::assembled))]
 fn mark_slots_at(program: &[u8], width: Width, map: &mut [u8], a: usize)
     requires there { a < length map.old }
     requires sized { length map.old ≡ length program.now }
@@ -48,8 +48,8 @@ fn mark_slots_at(program: &[u8], width: Width, map: &mut [u8], a: usize)
     }
 }
 
-#[tactic(auto, using(crate::proofs::Marks::slots_keep_words, crate::proofs::Marks::slots_next, crate::proofs::Marks::slots_none))]
 /// Marks the slots of what is marked, from the highest address down, so that a mark made here is never looked at.
+#[tactic(auto, using(crate::proofs::Marks::slots_keep_words, crate::proofs::Marks::slots_next, crate::proofs::Marks::slots_none))]
 pub fn mark_slots(program: &[u8], width: Width, map: &mut [u8])
     requires sized { length map.old ≡ length program.now }
     requires fits { length program.now ≤ MOST_MEMORY }

@@ -128,8 +128,8 @@ fn resumption_of(width: Width, i: Instruction, a: u32) -> Option<i64>
     Some(i64::from(a + words * width.bytes()))
 }
 
-#[tactic(auto, using(crate::proofs::Visits::led_to))]
 /// The words to which the word at an address leads in full: the next one, its target, and where it goes on.
+#[tactic(auto, using(crate::proofs::Visits::led_to))]
 pub fn successors(program: &[u8], width: Width, a: u32) -> [Option<u32>; 3]
     requires word { a + word_bytes width ≤ length program.now }
     requires fits { length program.now ≤ MOST_MEMORY }

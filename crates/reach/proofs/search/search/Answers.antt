@@ -1,8 +1,6 @@
 -- `reach::search::search`: in each turn of the loop the search goes on as the whole does. Assumes nothing.
-use Rattle.std.proofs.Common.{◌≡◌, ◌+◌, ◌≤◌, arith, length, get_or, rules}
+use Rattle.std.proofs.Common.{arith, rules}
 use lib.ListN.{length-replicate}
-use Rattle.isa.specs.Decode.{word_bytes}
-use Rattle.reach.specs.Search.{Search}
 use Rattle.reach.proofs.Words.{inside}
 use Rattle.reach.proofs.ProgramSearch.{begun, few, next_word, more, ended}
 use Rattle.reach.proofs.search.search.Goals as goal

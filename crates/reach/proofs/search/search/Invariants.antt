@@ -1,5 +1,5 @@
 -- `reach::search::search`: what is left of the search goes on from what is found as the whole search does from the start. Assumes nothing.
-use Rattle.std.proofs.Common.{◌≡◌, ◌-◌, length}
+use Rattle.std.proofs.Common.{◌-◌, length}
 use Rattle.reach.proofs.ProgramSearch.{Going}
 use Rattle.reach.proofs.search.search.Given as goal
 
