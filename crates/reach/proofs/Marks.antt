@@ -8,7 +8,7 @@ use native.Mathlib.Omega.{arith}
 use lib.IntN.{ℤ, pos}
 use lib.ListN.{length, get_or, set, length-set}
 use lib.Dec.{eqb}
-use borrow.Author.Tests.{eqb-true, eqb-false, eq-eqb, ne_eqb}
+use borrow.Author.Tests.{eqb-true, eqb-false}
 use Rattle.word.specs.Choice.{choose◌then◌else◌}
 use Rattle.isa.specs.declared.width.Width.{Width}
 use Rattle.isa.specs.Decode.{word_bytes}
@@ -117,14 +117,6 @@ module _ (width : Width) (size : ℕ) where
 -- ---- one address of the pass, and the pass from there
 
 module _ (slots : ℕ → List ℕ) (a : ℕ) (m : List ℕ) where
-  pub slots_marked : get_or m a 0 ≡ 1 → mark_all (slots a) m ≡ with_slots_of slots a m
-  unfolding with_slots_of choose◌then◌else◌
-  slots_marked e = rw (eq-eqb (get_or m a 0) 1 e)
-
-  pub slots_unmarked : get_or m a 0 ≢ 1 → m ≡ with_slots_of slots a m
-  unfolding with_slots_of choose◌then◌else◌
-  slots_unmarked d = rw (ne_eqb (get_or m a 0) 1 d)
-
   pub slots_next : (n : List ℕ) → 0 < a → n ≡ with_slots_of slots (a - 1) m → with_slots slots (a - 1) n ≡ with_slots slots a m
   unfolding with_slots
   slots_next n h e =
