@@ -293,13 +293,7 @@ impl Operation {
                 Width::Narrow => Some(0x02),
                 Width::Wide => None,
             },
-            Operation::Retu | Operation::Chrs => {
-                if user {
-                    Some(0x02)
-                } else {
-                    None
-                }
-            }
+            Operation::Retu | Operation::Chrs => { if user { Some(0x02) } else { None } }
             _ => None,
         }
     }
@@ -316,15 +310,36 @@ impl Operation {
         ensures { result ≡ (properties self).form }
     {
         match self {
-            Operation::Nop | Operation::Scall | Operation::Retu | Operation::Reti | Operation::Di
+            Operation::Nop
+            | Operation::Scall
+            | Operation::Retu
+            | Operation::Reti
+            | Operation::Di
             | Operation::Ei => Form::NoOperands,
-            Operation::Add | Operation::Addu | Operation::Sub | Operation::Subu | Operation::And
-            | Operation::Or | Operation::Xor | Operation::Muls | Operation::Mulu | Operation::Mulus
-            | Operation::Muls16 | Operation::Mulu16 | Operation::Mulus16 | Operation::Sll
-            | Operation::Srl | Operation::Sra | Operation::Sext | Operation::Conb | Operation::Exbf => Form::ThreeRegisters,
+            Operation::Add
+            | Operation::Addu
+            | Operation::Sub
+            | Operation::Subu
+            | Operation::And
+            | Operation::Or
+            | Operation::Xor
+            | Operation::Muls
+            | Operation::Mulu
+            | Operation::Mulus
+            | Operation::Muls16
+            | Operation::Mulu16
+            | Operation::Mulus16
+            | Operation::Sll
+            | Operation::Srl
+            | Operation::Sra
+            | Operation::Sext
+            | Operation::Conb
+            | Operation::Exbf => Form::ThreeRegisters,
             Operation::Addi | Operation::Muli => Form::SignedImmediate,
             Operation::Addiu | Operation::Andi | Operation::Ori => Form::UnsignedImmediate,
-            Operation::Slli | Operation::Srli | Operation::Srai | Operation::Sexti => Form::Count(5),
+            Operation::Slli | Operation::Srli | Operation::Srai | Operation::Sexti => Form::Count(
+                5,
+            ),
             Operation::Ld | Operation::St => Form::Memory,
             Operation::Mov | Operation::Not => Form::TwoRegisters,
             Operation::Mulhi | Operation::Scon => Form::Destination,
@@ -333,8 +348,14 @@ impl Operation {
             Operation::Lli | Operation::Lui => Form::Halfword,
             Operation::Jmp | Operation::Jal => Form::Jump,
             Operation::Jmpr | Operation::Jalr | Operation::Rcon => Form::Source,
-            Operation::Bc | Operation::Begt | Operation::Belt | Operation::Beq | Operation::Bgt
-            | Operation::Blt | Operation::Bne | Operation::Bnc => Form::Branch,
+            Operation::Bc
+            | Operation::Begt
+            | Operation::Belt
+            | Operation::Beq
+            | Operation::Bgt
+            | Operation::Blt
+            | Operation::Bne
+            | Operation::Bnc => Form::Branch,
             Operation::Chrs => Form::LowBits(2),
             Operation::Swm => Form::LowBits(1),
             Operation::Trap => Form::LowBits(5),
@@ -354,8 +375,14 @@ impl Operation {
             Operation::Jal => Flow::ImmediateLink,
             Operation::Jmpr => Flow::RegisterJump,
             Operation::Jalr => Flow::RegisterLink,
-            Operation::Bc | Operation::Begt | Operation::Belt | Operation::Beq | Operation::Bgt
-            | Operation::Blt | Operation::Bne | Operation::Bnc => Flow::ConditionalBranch,
+            Operation::Bc
+            | Operation::Begt
+            | Operation::Belt
+            | Operation::Beq
+            | Operation::Bgt
+            | Operation::Blt
+            | Operation::Bne
+            | Operation::Bnc => Flow::ConditionalBranch,
             Operation::Scall => Flow::SystemCall,
             Operation::Retu => Flow::UserReturn,
             Operation::Reti => Flow::InterruptReturn,
