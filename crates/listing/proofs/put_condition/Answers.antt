@@ -1,35 +1,30 @@
--- `listing::put_condition` meets its contract: the name of the condition, and the condition register after it. Assumes nothing.
-use mathlib.Core.Path.{◌∙◌}
-use Prim.Native.Nat.{◌≤◌}
+-- `listing::put_condition` meets its contract: the name, and the register after it. Assumes nothing.
+use mathlib.Core.Path.{◌≡◌, sym, ap, ◌∙◌}
+use mathlib.Core.List.{List, ◌∷◌, ◌++◌}
+use Prim.Native.Nat.{ℕ, ◌+◌}
 use native.Mathlib.Omega.{arith}
-use Rattle.listing.specs.Computed.{listings}
-use Rattle.listing.proofs.Names.{condition_short}
-use Rattle.listing.proofs.Conditions.{length_register, condition_put, condition_none}
+use lib.ListN.{length}
+use Rattle.codec.specs.Number.{put_at}
+use Rattle.codec.proofs.Laws.{put_at_append}
+use Rattle.isa.specs.declared.form.Role.TheVariants.{Creg}
+use Rattle.isa.specs.Condition.{condition_of, name_of}
+use Rattle.console.specs.Digits.{blank}
+use Rattle.listing.specs.Line.{operand_text, CONDITION_COLUMN}
+use Rattle.listing.proofs.Texts.{condition_given}
 use Rattle.listing.proofs.put_condition.Goals as goal
-use Rattle.listing.proofs.put_condition.Goals.{After-name_length-n}
 
--- a name has at most three characters
-few : (c : goal.After-name_length-n) → c.name_length-n.result ≤ 3
-few c = omega (arith, c.name_length-n.ensures, condition_short c.args.i.condition)
-
-pub copy-requires : goal.copy-requires
-copy-requires c = (omega (arith, few (goal.at.copy-requires c).After-name_length-n), omega (arith, few (goal.at.copy-requires c).After-name_length-n))
-
-pub overflow_add-n : goal.overflow_add-n
-overflow_add-n c = omega (arith, few (goal.at.overflow_add-n c).After-name_length-n)
-
-pub put_operand-requires : goal.put_operand-requires
-put_operand-requires c =
-    (omega arith, omega (arith, few (goal.at.put_operand-requires c).After-name_length-n, length_register c.args.i c.requires.1, c.copy.auto.line))
-
-pub shape_of-line : goal.shape_of-line
-shape_of-line c = c.put_operand.auto.line ∙ c.copy.auto.line
-
-pub returns-then-conditional : goal.returns-then-conditional
-unfolding listings
-returns-then-conditional c =
-    condition_put c.args.i c.requires.1 c.args.line.now c.copy.new.line c.put_operand.new.line c.name_length-n.result c.put_operand.result
-    c.if-conditional.true c.requires.2 (omega arith) c.name_length-n.ensures c.copy.ensures c.put_operand.ensures
-
-pub returns-else-conditional : goal.returns-else-conditional
-returns-else-conditional c = condition_none c.args.line.now c.args.i c.if-conditional.false
+pub returns-then-i : goal.returns-then-i
+returns-then-i c =
+    let i = c.args.i in
+    let name = name_of (condition_of i.condition) in
+    let register = blank ∷ operand_text i Creg in
+    let at = CONDITION_COLUMN in
+    let line = c.args.line.now in
+    let e : c.name-name.result.now ≡ name = c.name-name.ensures ∙ ap name_of c.from_number.ensures in
+    let f : c.as_bytes.result.now ≡ register = c.as_bytes.ensures.value ∙ c.deref.ensures.0 ∙ c.push_operand.ensures ∙ ap (λ (s : List ℕ). s ++ register) c.new-register.ensures in
+    c.put-then-i.ensures
+    ∙ ap (λ (s : List ℕ). put_at s (at + length c.name-name.result.now) c.as_bytes.result.now) c.put.ensures
+    ∙ ap (λ (s : List ℕ). put_at (put_at line at s) (at + length s) c.as_bytes.result.now) e
+    ∙ ap (λ (s : List ℕ). put_at (put_at line at name) (at + length name) s) f
+    ∙ put_at_append line at name register (omega (arith, c.requires.0))
+    ∙ ap (λ (s : List ℕ). put_at line at s) (sym (condition_given i c.if-i.true))
