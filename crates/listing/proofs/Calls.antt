@@ -9,7 +9,7 @@ use lib.ListN.{length}
 use borrow.Rule.Slice.PartMut.{put_mid}
 use borrow.Author.Tests.{le-leb, lt-leb, eq-eqb, ne_eqb}
 use Rattle.codec.specs.Number.{put_at, over}
-use Rattle.codec.proofs.Laws.{length_put_at, put_at_append, part_put}
+use Rattle.codec.proofs.Laws.{put_at_nothing, put_at_append}
 use Rattle.isa.specs.declared.width.Width.{Width}
 use Rattle.isa.specs.declared.width.Width.TheVariants.{Narrow, Wide}
 use Rattle.isa.specs.Decode.{word_bytes, word_at}
@@ -85,13 +85,6 @@ module _ (width : Width) (program : List ℕ) where
       let e : words - n ≡ suc (words - (n + 1)) = omega arith in
       ap (lines_from width program (word_bytes width * n)) e ∙ ap (λ (a : ℕ). line_at n ++ lines_from width program a (words - (n + 1))) (next_word width n)
 
-  pub lines_none : lines_at (words_in width program) ≡ []
-  unfolding lines_from
-  lines_none =
-      let words = words_in width program in
-      let e : words - words ≡ 0 = omega arith in
-      ap (lines_from width program (word_bytes width * words)) e
-
   -- line n is written, and the lines after it are left
   pub line_written : (n : ℕ) (text goal : List ℕ) → n < words_in width program → 48 * n + 48 ≤ length text → put_at text (48 * n) (lines_at n) ≡ goal
       → put_at (put_at text (48 * n) (line_at n)) (48 * (n + 1)) (lines_at (n + 1)) ≡ goal
@@ -101,3 +94,10 @@ module _ (width : Width) (program : List ℕ) where
       ∙ put_at_append text (48 * n) (line_at n) (lines_at (n + 1)) (omega arith)
       ∙ ap (λ (t : List ℕ). put_at text (48 * n) t) (sym (lines_next n h))
       ∙ g
+
+  -- past the last none is left
+  pub lines_written : (n : ℕ) (text : List ℕ) → words_in width program ≤ n → put_at text (48 * n) (lines_at n) ≡ text
+  unfolding lines_from
+  lines_written n text h =
+      let e : words_in width program - n ≡ 0 = omega arith in
+      ap (λ (count : ℕ). put_at text (48 * n) (lines_from width program (word_bytes width * n) count)) e ∙ put_at_nothing text (48 * n)

@@ -38,6 +38,9 @@ unfolding word_bytes
 word_fits Narrow word = omega (arith, length_digits_of 16 4 word)
 word_fits Wide word = omega (arith, length_digits_of 16 8 word)
 
+pub creg_below : (width : Width) (word : ℕ) → (decode width word).creg < 8
+creg_below width word = (in_range width word).creg
+
 -- ---- the line
 
 -- the parts of a word put one after the other into an empty line

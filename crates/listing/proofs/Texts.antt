@@ -1,7 +1,7 @@
 -- Laws of the texts in a line. Assumes nothing.
 use mathlib.Core.Path.{◌≡◌, refl, ap, ◌∙◌}
 use mathlib.Core.Bool.{true, false}
-use mathlib.Core.List.{List, [], ◌∷◌, ◌++◌}
+use mathlib.Core.List.{List, [], ◌∷◌, ◌++◌, append_assoc}
 use Prim.Native.Nat.{ℕ, suc, ◌+◌, ◌-◌, ◌^◌, ◌≤◌, ◌<◌}
 use native.Mathlib.Omega.{arith}
 use lib.IntN.{ℤ, pos, negsuc}
@@ -14,6 +14,7 @@ use Rattle.word.specs.Choice.{choose◌then◌else◌}
 use Rattle.std.specs.Fmt.{signed_decimal}
 use Rattle.word.specs.Word.{word_of, signed_of}
 use Rattle.word.proofs.Tests.{either}
+use Rattle.word.proofs.Bounds.{word_below}
 use Rattle.word.proofs.Integers.{signed_word, back}
 use Rattle.isa.specs.Text.{bytes}
 use Rattle.isa.specs.declared.width.Width.{Width}
@@ -47,11 +48,13 @@ signed_cast : (n : ℕ) → n < 2 ^ 32 → to_z w32 n ≡ signed_of 32 n
 unfolding signed_of choose◌then◌else◌
 signed_cast n h = search rules
 
--- what std writes of the word of a value, read as an integer
-pub value_shown : (v z : ℤ) (n : ℕ) → mag v < 2 ^ 31 → n < 2 ^ 32 → n ≡ word_of 32 v → z ≡ to_z w32 n → signed_decimal (to_z w32 (of_z w32 z)) ≡ integer_text v
-value_shown v z n h b e f =
-    let g : z ≡ v = f ∙ signed_cast n b ∙ ap (signed_of 32) e ∙ signed_word 32 (omega arith) v h in
-    rw g (ap signed_decimal (back w32 v h) ∙ integer_std v h)
+-- what std writes of a value that was passed on as a word
+pub operand_std : (v : ℤ) → mag v < 2 ^ 31 → signed_decimal (to_z w32 (of_z w32 (to_z w32 (word_of 32 v)))) ≡ integer_text v
+operand_std v h =
+    let e : to_z w32 (word_of 32 v) ≡ v = signed_cast (word_of 32 v) (word_below 32 v) ∙ signed_word 32 (omega arith) v h in
+    rw e (ap signed_decimal (back w32 v h) ∙ integer_std v h)
+
+pub ruleset operand_rules = (operand_std, length-append, append_assoc)
 
 -- the condition register: a prefix and a digit
 pub length_creg : (i : Instruction) → i.creg < 8 → length (operand_text i Creg) ≤ 2

@@ -35,7 +35,7 @@ const NAME: usize = 25;
 const OPERANDS: usize = 34;
 
 // Operands as text, each with a blank before it.
-type Operands = ArrayString<14>;
+type OperandText = ArrayString<14>;
 
 // Copies a part into a text, from a place on.
 fn put(text: &mut [u8], at: usize, part: &[u8])
@@ -72,7 +72,8 @@ fn prefix(role: Role) -> &'static str
 }
 
 // Appends an operand, with a blank before it.
-fn push_operand(text: &mut Operands, i: Instruction, role: Role)
+#[tactic(auto, using(crate::proofs::Texts::operand_rules), unfolding(crate::specs::Line::operand_text))]
+fn push_operand(text: &mut OperandText, i: Instruction, role: Role)
     requires { (length text.old.bytes + length (blank ∷ operand_text i role) ≤ 14) × (mag (shown_value i role) < 2 ^ 31) }
     ensures { text.new.bytes ≡ text.old.bytes ++ blank ∷ operand_text i role }
 {
@@ -83,13 +84,13 @@ fn push_operand(text: &mut Operands, i: Instruction, role: Role)
 
 // Writes the condition of an instruction, if it is conditional: its name, and the condition register.
 #[tactic(auto, using(crate::proofs::Texts::creg_small, crate::proofs::Texts::condition_short, crate::proofs::Texts::length_creg, crate::proofs::Texts::condition_none))]
-fn put_condition(line: &mut [u8], i: Instruction)
-    requires { (length line.old ≡ LINE_BYTES) × (i.creg < 8) }
+fn put_condition(line: &mut [u8; LINE], i: Instruction)
+    requires { i.creg < 8 }
     ensures { line.new ≡ put_at line.old CONDITION_COLUMN (condition_text i) }
 {
     if i.conditional {
         let name = Condition::from_number(i.condition).name();
-        let mut register = Operands::new();
+        let mut register = OperandText::new();
         push_operand(&mut register, i, Role::Creg);
         put(line, CONDITION, name);
         put(line, CONDITION + name.len(), register.as_bytes());
@@ -97,13 +98,13 @@ fn put_condition(line: &mut [u8], i: Instruction)
 }
 
 // The operands of an instruction in words of a width.
-#[tactic(auto, using(crate::proofs::Spaced::next_operand, crate::proofs::Spaced::no_operand, crate::proofs::Spaced::no_operands, crate::proofs::Spaced::operand_room, crate::proofs::Spaced::all_operands, crate::proofs::Rooms::roles_few))]
-fn operands(i: Instruction, width: Width) -> Operands
+#[tactic(auto, using(crate::proofs::Spaced::next_operand, crate::proofs::Spaced::no_operand, crate::proofs::Spaced::operand_room, crate::proofs::Spaced::all_operands, crate::proofs::Rooms::roles_few), unfolding(crate::specs::Parts::spaced))]
+fn operands(i: Instruction, width: Width) -> OperandText
     requires { (length (spaced (shown_texts width i)) ≤ 14) × ((r : Role) → mag (shown_value i r) < 2 ^ 31) }
     ensures { result.bytes ≡ spaced (shown_texts width i) }
 {
     let operation = Operation::from_number(i.opcode);
-    let mut text = Operands::new();
+    let mut text = OperandText::new();
     for k in 0..4 {
         if let Some(role) = operation.operand(width, k) {
             push_operand(&mut text, i, role);
@@ -115,7 +116,8 @@ fn operands(i: Instruction, width: Width) -> Operands
 // ---- lines
 
 // The line of a word at an address.
-fn line(width: Width, address: u32, word: u32) -> [u8; LINE]
+#[tactic(auto, using(isa::proofs::Decoded::bytes_most, crate::proofs::Lines::creg_below, crate::proofs::Texts::name_fits, crate::proofs::Rooms::operands_fit, crate::proofs::Rooms::value_fits))]
+fn line_of(width: Width, address: u32, word: u32) -> [u8; LINE]
     ensures { result ≡ word_line width address word }
 {
     let i = Instruction::decode(word, width);
@@ -129,7 +131,7 @@ fn line(width: Width, address: u32, word: u32) -> [u8; LINE]
 }
 
 // Writes the lines of a program's words to the front of a text.
-#[tactic(auto, using(isa::proofs::Decoded::bytes_positive))]
+#[tactic(auto, using(isa::proofs::Decoded::bytes_positive, crate::proofs::Calls::line_written, crate::proofs::Calls::lines_written))]
 fn put_lines(program: &[u8], width: Width, text: &mut [u8])
     requires { (length program.now ≤ MOST_MEMORY) × (LINE_BYTES * words_in width program.now ≤ length text.old) }
     ensures { text.new ≡ over (lines_from width program.now 0 (words_in width program.now)) text.old }
@@ -140,7 +142,7 @@ fn put_lines(program: &[u8], width: Width, text: &mut [u8])
         put(
             text,
             LINE * n,
-            &line(width, at as u32, width.word_at(program, at)),
+            &line_of(width, at as u32, width.word_at(program, at)),
         );
     }
 }

@@ -16,15 +16,5 @@ use Rattle.listing.proofs.put_condition.Goals as goal
 pub returns-then-i : goal.returns-then-i
 returns-then-i c =
     let i = c.args.i in
-    let name = name_of (condition_of i.condition) in
-    let register = blank ∷ operand_text i Creg in
-    let at = CONDITION_COLUMN in
-    let line = c.args.line.now in
-    let e : c.name-name.result.now ≡ name = c.name-name.ensures ∙ ap name_of c.from_number.ensures in
-    let f : c.as_bytes.result.now ≡ register = c.as_bytes.ensures.value ∙ c.deref.ensures.0 ∙ c.push_operand.ensures ∙ ap (λ (s : List ℕ). s ++ register) c.new-register.ensures in
-    c.put-then-i.ensures
-    ∙ ap (λ (s : List ℕ). put_at s (at + length c.name-name.result.now) c.as_bytes.result.now) c.put.ensures
-    ∙ ap (λ (s : List ℕ). put_at (put_at line at s) (at + length s) c.as_bytes.result.now) e
-    ∙ ap (λ (s : List ℕ). put_at (put_at line at name) (at + length name) s) f
-    ∙ put_at_append line at name register (omega (arith, c.requires.0))
-    ∙ ap (λ (s : List ℕ). put_at line at s) (sym (condition_given i c.if-i.true))
+    let e = put_at_append c.args.line.now CONDITION_COLUMN (name_of (condition_of i.condition)) (blank ∷ operand_text i Creg) (omega arith) in
+    grind (arith, e, condition_given i c.if-i.true)

@@ -1,4 +1,4 @@
--- `listing::line` meets its contract: its parts, put one after the other into an empty line. Assumes nothing.
+-- `listing::line_of` meets its contract: its parts, put one after the other into an empty line. Assumes nothing.
 use mathlib.Core.Path.{◌≡◌, refl, sym, ap, ◌∙◌}
 use mathlib.Core.List.{List}
 use Prim.Native.Nat.{ℕ, ◌*◌}
@@ -14,21 +14,7 @@ use Rattle.listing.specs.Parts.{spaced}
 use Rattle.listing.proofs.Texts.{name_fits}
 use Rattle.listing.proofs.Rooms.{operands_fit, value_fits}
 use Rattle.listing.proofs.Lines.{line_put}
-use Rattle.listing.proofs.line.Goals as goal
-
-pub put_digits-requires-2 : goal.put_digits-requires-2
-put_digits-requires-2 c = ((omega arith, omega arith), omega (arith, c.bytes.ensures, c.put_digits.auto.line, bytes_most c.args.width))
-
-pub put_condition-requires : goal.put_condition-requires
-put_condition-requires c = (omega (arith, c.put_digits-2.auto.line, c.put_digits.auto.line), rw c.decode-i.ensures (in_range c.args.width c.args.word).creg)
-
-pub put-requires : goal.put-requires
-put-requires c =
-    let e = c.name.ensures ∙ ap (name_text c.args.width) c.from_number.ensures in
-    omega (arith, ap length e, name_fits c.args.width c.decode-i.result.opcode, c.put_condition.auto.line, c.put_digits-2.auto.line, c.put_digits.auto.line)
-
-pub operands-requires : goal.operands-requires
-operands-requires c = rw c.decode-i.ensures (operands_fit c.args.width c.args.word, value_fits c.args.width c.args.word)
+use Rattle.listing.proofs.line_of.Goals as goal
 
 pub returns : goal.returns
 unfolding columns joined padded
