@@ -1,5 +1,5 @@
 -- Laws of the texts in a line. Assumes nothing.
-use mathlib.Core.Path.{◌≡◌, refl, ap, ◌∙◌}
+use mathlib.Core.Path.{◌≡◌, refl, sym, ap, ◌∙◌}
 use mathlib.Core.Bool.{true, false}
 use mathlib.Core.List.{List, [], ◌∷◌, ◌++◌, append_assoc}
 use Prim.Native.Nat.{ℕ, suc, ◌+◌, ◌-◌, ◌^◌, ◌≤◌, ◌<◌}
@@ -16,6 +16,8 @@ use Rattle.word.specs.Word.{word_of, signed_of}
 use Rattle.word.proofs.Tests.{either}
 use Rattle.word.proofs.Bounds.{word_below}
 use Rattle.word.proofs.Integers.{signed_word, back}
+use Rattle.codec.specs.Number.{put_at}
+use Rattle.codec.proofs.Laws.{put_at_append}
 use Rattle.isa.specs.Text.{bytes}
 use Rattle.isa.specs.declared.width.Width.{Width}
 use Rattle.isa.specs.declared.condition.Condition.{Condition}
@@ -28,7 +30,7 @@ use Rattle.isa.specs.Shown.{has_form, shown_value}
 use Rattle.isa.proofs.Rules.{mnemonic_short}
 use Rattle.console.specs.Digits.{blank, decimal, places_of}
 use Rattle.console.proofs.Digits.{length_digits_of, places_le, decimal_std}
-use Rattle.listing.specs.Line.{integer_text, prefix_of, operand_text, joined, name_text, condition_text, padded}
+use Rattle.listing.specs.Line.{integer_text, prefix_of, operand_text, joined, name_text, condition_text, padded, CONDITION_COLUMN}
 
 -- a text that fits its columns fills them
 pub length_padded : (n : ℕ) (t : List ℕ) → length t ≤ n → length (padded n t) ≡ n
@@ -91,6 +93,13 @@ condition_given i t = rw t refl
 pub condition_none : (i : Instruction) → i.conditional ≡ false → condition_text i ≡ []
 unfolding condition_text
 condition_none i t = rw t refl
+
+-- the name, and the register after it
+pub condition_written : (line : List ℕ) (i : Instruction) → i.conditional ≡ true → CONDITION_COLUMN ≤ length line
+    → put_at (put_at line CONDITION_COLUMN (name_of (condition_of i.condition))) (CONDITION_COLUMN + length (name_of (condition_of i.condition))) (blank ∷ operand_text i Creg)
+    ≡ put_at line CONDITION_COLUMN (condition_text i)
+condition_written line i t h =
+    put_at_append line CONDITION_COLUMN (name_of (condition_of i.condition)) (blank ∷ operand_text i Creg) h ∙ ap (λ (s : List ℕ). put_at line CONDITION_COLUMN s) (sym (condition_given i t))
 
 pub condition_fits : (i : Instruction) → i.creg < 8 → length (condition_text i) ≤ 6
 condition_fits i h =

@@ -83,7 +83,7 @@ fn push_operand(text: &mut OperandText, i: Instruction, role: Role)
 }
 
 // Writes the condition of an instruction, if it is conditional: its name, and the condition register.
-#[tactic(auto, using(crate::proofs::Texts::creg_small, crate::proofs::Texts::condition_short, crate::proofs::Texts::length_creg, crate::proofs::Texts::condition_none))]
+#[tactic(auto, using(crate::proofs::Texts::creg_small, crate::proofs::Texts::condition_short, crate::proofs::Texts::length_creg, crate::proofs::Texts::condition_written, crate::proofs::Texts::condition_none))]
 fn put_condition(line: &mut [u8; LINE], i: Instruction)
     requires { i.creg < 8 }
     ensures { line.new ≡ put_at line.old CONDITION_COLUMN (condition_text i) }
