@@ -8,7 +8,9 @@ use crate::operations::{end_of, plain, program, text, End};
 use std::collections::BTreeSet;
 
 fn encode(operation: u32, operands: [i32; 4]) -> u32 {
-    Card::default().encode(operation, true, None, operands).expect("a word of the test")
+    Card::default()
+        .encode(operation, true, None, operands)
+        .expect("a word of the test")
 }
 
 /// A machine at the first of some words.
@@ -22,8 +24,13 @@ fn at(words: &[u32]) -> Given {
 fn user(words: &[u32], code: (u32, u32), data: (u32, u32)) -> Given {
     let mut given = at(words);
     let image = &mut given.image;
-    image.set(PSR, 9).set_control(IMEM_LO, code.0).set_control(IMEM_HI, code.1);
-    image.set_control(DMEM_LO, data.0).set_control(DMEM_HI, data.1);
+    image
+        .set(PSR, 9)
+        .set_control(IMEM_LO, code.0)
+        .set_control(IMEM_HI, code.1);
+    image
+        .set_control(DMEM_LO, data.0)
+        .set_control(DMEM_HI, data.1);
     given
 }
 
@@ -77,7 +84,10 @@ pub fn exceptions(ctx: &Context, table: &Table, findings: &mut Findings) {
         }
     }
     let trap = |n: i32| end_of(&ctx.card, &at(&[encode(55, [n, 0, 0, 0])]));
-    let most = ctx.facts.operations[55].operands[1].as_ref().and_then(|o| o.first()).map_or(0, |o| o.most as i32);
+    let most = ctx.facts.operations[55].operands[1]
+        .as_ref()
+        .and_then(|o| o.first())
+        .map_or(0, |o| o.most as i32);
     let row = table.rows.last().expect("counted");
     findings.cell(table, row, "When", format!("trap 0 to trap {most}"));
     if let (Some(End::Exception(first)), Some(End::Exception(last))) = (trap(0), trap(most)) {
@@ -94,7 +104,13 @@ pub fn exceptions(ctx: &Context, table: &Table, findings: &mut Findings) {
 /// The stops' numbers, each by a step that comes to it.
 fn stops_of(card: &Card) -> Vec<(&'static str, &'static str, Vec<Option<End>>)> {
     let end = |given: &Given| end_of(card, given);
-    let slot = |operation: u32| end(&with(with(at(&[operation << 26, 0, 0, 0]), SLOT, 1), TARGET, 4));
+    let slot = |operation: u32| {
+        end(&with(
+            with(at(&[operation << 26, 0, 0, 0]), SLOT, 1),
+            TARGET,
+            4,
+        ))
+    };
     vec![
         ("absent word", "a byte of the word (4.3), or of a nop that must follow it (4.6), is not in program memory",
             vec![end(&with(at(&[0]), PC, 4)), end(&at(&[48 << 26])), end(&at(&[54 << 26, 0]))]),
@@ -114,7 +130,10 @@ pub fn stop_numbers(card: &Card) -> Vec<u32> {
         Some(Some(End::Stop(stop))) => *stop,
         _ => 0,
     };
-    stops_of(card).into_iter().map(|(_, _, ends)| first(ends)).collect()
+    stops_of(card)
+        .into_iter()
+        .map(|(_, _, ends)| first(ends))
+        .collect()
 }
 
 /// 4.10: each stop, by steps that are as the row says.
@@ -133,7 +152,13 @@ pub fn stops(ctx: &Context, table: &Table, findings: &mut Findings) {
             }
         }
     }
-    let transfers: Vec<u32> = ctx.facts.operations.iter().filter(|o| o.ends.contains(&End::Stop(13))).map(|o| o.number).collect();
+    let transfers: Vec<u32> = ctx
+        .facts
+        .operations
+        .iter()
+        .filter(|o| o.ends.contains(&End::Stop(13)))
+        .map(|o| o.number)
+        .collect();
     if transfers != (36..=50).chain([54]).collect::<Vec<_>>() {
         findings.table(table, format!("in a slot stop 13 is of {transfers:?}"));
     }
@@ -146,7 +171,17 @@ pub fn ticks(ctx: &Context, table: &Table, findings: &mut Findings) {
     }
     for row in &table.rows {
         for timer in 0..2 {
-            for (count, max) in [(0, 0), (0, 1), (4, 5), (5, 5), (7, 5), (u32::MAX, 0), (u32::MAX, 3), (u32::MAX, u32::MAX), (9, 0)] {
+            for (count, max) in [
+                (0, 0),
+                (0, 1),
+                (4, 5),
+                (5, 5),
+                (7, 5),
+                (u32::MAX, 0),
+                (u32::MAX, 3),
+                (u32::MAX, u32::MAX),
+                (9, 0),
+            ] {
                 for cont in 0..2 {
                     tick(ctx, table, row, findings, timer, (count, max, cont));
                 }
@@ -155,7 +190,14 @@ pub fn ticks(ctx: &Context, table: &Table, findings: &mut Findings) {
     }
 }
 
-fn tick(ctx: &Context, table: &Table, row: &Row, findings: &mut Findings, timer: usize, (count, max, cont): (u32, u32, u32)) {
+fn tick(
+    ctx: &Context,
+    table: &Table,
+    row: &Row,
+    findings: &mut Findings,
+    timer: usize,
+    (count, max, cont): (u32, u32, u32),
+) {
     let before = match table.cell(row, "Count before the tick") {
         "not the maximum" => count != max,
         "the maximum" => count == max,
@@ -172,7 +214,10 @@ fn tick(ctx: &Context, table: &Table, row: &Row, findings: &mut Findings, timer:
     let mut given = at(&[0, 0]);
     let half = 1 << 15 | cont << 14 | 1 << 13 | (2 + timer as u32) << 8;
     given.image.set_control(0x27, half << (16 * timer));
-    given.image.set_control(0x23 + 2 * timer, count).set_control(0x24 + 2 * timer, max);
+    given
+        .image
+        .set_control(0x23 + 2 * timer, count)
+        .set_control(0x24 + 2 * timer, max);
     let left = ctx.card.run(&given).image;
     let after = match table.cell(row, "Count after it") {
         "one more, modulo 2^32" => count.wrapping_add(1),
@@ -188,7 +233,14 @@ fn tick(ctx: &Context, table: &Table, row: &Row, findings: &mut Findings, timer:
     };
     let requests = u32::from(reached) << (6 + timer);
     if left.control(0x23 + 2 * timer) != after || left.control(INT_PEND) != requests {
-        findings.row(table, row, format!("timer {timer} with count {count}, maximum {max}, CONT {cont} goes to {}", left.control(0x23 + 2 * timer)));
+        findings.row(
+            table,
+            row,
+            format!(
+                "timer {timer} with count {count}, maximum {max}, CONT {cont} goes to {}",
+                left.control(0x23 + 2 * timer)
+            ),
+        );
     }
 }
 
@@ -209,7 +261,11 @@ pub fn worked(ctx: &Context, table: &Table, findings: &mut Findings) {
         }
         given.cells = vec![77; 32];
         let image = &mut given.image;
-        image.set(PSR, 9).set(CONDITIONS, 5).set_control(DMEM_LO, 0x10).set_control(DMEM_HI, 0x13);
+        image
+            .set(PSR, 9)
+            .set(CONDITIONS, 5)
+            .set_control(DMEM_LO, 0x10)
+            .set_control(DMEM_HI, 0x13);
         for (column, offset) in [("R1", SET_1 + 4), ("R2", SET_1 + 8)] {
             match number(table.cell(row, column)) {
                 Some(value) => drop(image.set(offset, value)),
@@ -217,11 +273,17 @@ pub fn worked(ctx: &Context, table: &Table, findings: &mut Findings) {
             }
         }
         let line = ctx.card.line(wide, word);
-        let listed = [&line[25..33], &line[34..47]].map(text).join(" ").trim().to_string();
+        let listed = [&line[25..33], &line[34..47]]
+            .map(text)
+            .join(" ")
+            .trim()
+            .to_string();
         let besides = instruction.strip_prefix(&listed);
         match besides {
             Some("" | ", two nops behind it") => {}
-            Some(", with PSR 01h, R25 3, R26 10") => drop(image.set(PSR, 1).set(SET_1 + 100, 3).set(SET_1 + 104, 10)),
+            Some(", with PSR 01h, R25 3, R26 10") => {
+                drop(image.set(PSR, 1).set(SET_1 + 100, 3).set(SET_1 + 104, 10))
+            }
             _ => findings.row(table, row, format!("the word is listed as '{listed}'")),
         }
         let outcome = ctx.card.run(&given);
@@ -232,24 +294,28 @@ pub fn worked(ctx: &Context, table: &Table, findings: &mut Findings) {
         };
         findings.cell(table, row, "Outcome", end);
         let left = &outcome.image;
-        let parts: Vec<String> = table.cell(row, "After it").split(", ").map(|part| {
-            let (name, value) = part.rsplit_once(' ').unwrap_or((part, ""));
-            let found = match name {
-                "R3" => left.get(SET_1 + 12),
-                "R25" => left.get(SET_1 + 100),
-                "C0" => left.get(CONDITIONS),
-                "PC" => left.get(PC),
-                "slot flag" => left.get(SLOT),
-                "target" => left.get(TARGET),
-                "product high half" => left.get(HIGH),
-                "EXCEPTION_PSR" => left.control(EXCEPTION_PSR),
-                _ => return "a place that the test knows".to_string(),
-            };
-            match value.strip_suffix('h') {
-                Some(hex) => format!("{name} {found:0w$X}h", w = hex.len()),
-                None => format!("{name} {found}"),
-            }
-        }).collect();
+        let parts: Vec<String> = table
+            .cell(row, "After it")
+            .split(", ")
+            .map(|part| {
+                let (name, value) = part.rsplit_once(' ').unwrap_or((part, ""));
+                let found = match name {
+                    "R3" => left.get(SET_1 + 12),
+                    "R25" => left.get(SET_1 + 100),
+                    "C0" => left.get(CONDITIONS),
+                    "PC" => left.get(PC),
+                    "slot flag" => left.get(SLOT),
+                    "target" => left.get(TARGET),
+                    "product high half" => left.get(HIGH),
+                    "EXCEPTION_PSR" => left.control(EXCEPTION_PSR),
+                    _ => return "a place that the test knows".to_string(),
+                };
+                match value.strip_suffix('h') {
+                    Some(hex) => format!("{name} {found:0w$X}h", w = hex.len()),
+                    None => format!("{name} {found}"),
+                }
+            })
+            .collect();
         findings.cell(table, row, "After it", parts.join(", "));
     }
 }
