@@ -17,10 +17,7 @@ fn main() {
     let library = directory.join("libcoffee.a");
     println!("cargo:rerun-if-changed={}", library.display());
     if !library.is_file() {
-        eprintln!(
-            "{} is absent: make it with `rt lib` in crates/coffee, or name its directory in {VARIABLE}",
-            library.display()
-        );
+        eprintln!("{} is absent: make it with `rt lib` in crates/coffee, or name its directory in {VARIABLE}", library.display());
         std::process::exit(1);
     }
     println!("cargo:rustc-link-arg-bins={}", library.display());

@@ -17,13 +17,7 @@ pub struct Register {
 
 pub fn all(card: &Card, sources: &Sources) -> Vec<Register> {
     let reset = card.reset();
-    (0..REGISTERS)
-        .map(|k| Register {
-            reset: reset.control(k),
-            bits: bits(card, sources, k),
-            keeps: keeps(card, k),
-        })
-        .collect()
+    (0..REGISTERS).map(|k| Register { reset: reset.control(k), bits: bits(card, sources, k), keeps: keeps(card, k) }).collect()
 }
 
 /// The most bits of a number that question 3 lets pass; of a register that is always the same, what its definition says.
@@ -31,34 +25,23 @@ fn bits(card: &Card, sources: &Sources, register: usize) -> u32 {
     let passes = |value: u32| {
         let mut given = plain(true);
         given.limit = 0;
-        given
-            .image
-            .set_control(register, if register == 0 { value & !0xFF } else { value });
+        given.image.set_control(register, if register == 0 { value & !0xFF } else { value });
         card.run(&given).refusal != 3
     };
-    let most = (0..=32)
-        .rev()
-        .find(|&bits| passes((1u64 << bits).wrapping_sub(1) as u32))
-        .unwrap_or(0);
+    let most = (0..=32).rev().find(|&bits| passes((1u64 << bits).wrapping_sub(1) as u32)).unwrap_or(0);
     if most > 1 {
         return most;
     }
     let mark = format!("-- {register:02X}h ");
-    let line = sources
-        .control
-        .lines()
-        .find(|line| line.contains(&mark) && line.contains("register constant"));
-    line.and_then(|line| line.split_whitespace().nth(2)?.parse().ok())
-        .unwrap_or(0)
+    let line = sources.control.lines().find(|line| line.contains(&mark) && line.contains("register constant"));
+    line.and_then(|line| line.split_whitespace().nth(2)?.parse().ok()).unwrap_or(0)
 }
 
 /// The bits of a stored value that the register then has, as "31..8"; with an entry on the interrupt stack.
 fn keeps(card: &Card, register: usize) -> String {
     let stored = |entries: &[[u32; 4]], value: u32| {
         let mut given = plain(true);
-        let store = Card::default()
-            .encode(28, true, None, [1, 2, register as i32, 0])
-            .expect("st");
+        let store = Card::default().encode(28, true, None, [1, 2, register as i32, 0]).expect("st");
         given.program = program(true, &[store, 0]);
         let base = given.image.control(0);
         given.image = given.image.stacked(entries, [0, 0]);
@@ -74,9 +57,7 @@ fn keeps(card: &Card, register: usize) -> String {
     let all: Vec<u32> = (0..32).filter(|&bit| kept(&one, bit)).collect();
     let empty: Vec<u32> = (0..32).filter(|&bit| kept(&[], bit)).collect();
     let (Some(low), Some(high)) = (all.first(), all.last()) else {
-        let stays = [0, 1, u32::MAX, 0x1234_5678]
-            .iter()
-            .all(|&v| stored(&one, v).0 == stored(&one, v).1);
+        let stays = [0, 1, u32::MAX, 0x1234_5678].iter().all(|&v| stored(&one, v).0 == stored(&one, v).1);
         return if stays { "nothing" } else { "something" }.to_string();
     };
     let whole = all.len() as u32 == high - low + 1;
@@ -89,17 +70,8 @@ fn keeps(card: &Card, register: usize) -> String {
 
 /// The names of the service program's list that begins with a mark, in their order.
 pub fn names(sources: &Sources, mark: &str) -> Vec<String> {
-    let list = sources
-        .names
-        .split(mark)
-        .nth(1)
-        .and_then(|rest| rest.split("};").next())
-        .unwrap_or("");
-    list.split('"')
-        .skip(1)
-        .step_by(2)
-        .map(str::to_string)
-        .collect()
+    let list = sources.names.split(mark).nth(1).and_then(|rest| rest.split("};").next()).unwrap_or("");
+    list.split('"').skip(1).step_by(2).map(str::to_string).collect()
 }
 
 pub fn register_names(sources: &Sources) -> Vec<String> {
@@ -117,9 +89,7 @@ pub fn registers(ctx: &Context, table: &Table, findings: &mut Findings) {
     let mut expected: Vec<(usize, usize)> = Vec::new();
     for k in 0..REGISTERS {
         match expected.last_mut() {
-            Some((first, last)) if groups.iter().any(|g| g.contains(first) && g.contains(&k)) => {
-                *last = k
-            }
+            Some((first, last)) if groups.iter().any(|g| g.contains(first) && g.contains(&k)) => *last = k,
             _ => expected.push((k, k)),
         }
     }
@@ -128,44 +98,18 @@ pub fn registers(ctx: &Context, table: &Table, findings: &mut Findings) {
     }
     let joined = |a: String, b: String| if a == b { a } else { format!("{a} to {b}") };
     for (row, (first, last)) in table.rows.iter().zip(expected) {
-        findings.cell(
-            table,
-            row,
-            "Offset",
-            joined(format!("{first:02X}h"), format!("{last:02X}h")),
-        );
-        findings.cell(
-            table,
-            row,
-            "Name",
-            joined(names[first].clone(), names[last].clone()),
-        );
+        findings.cell(table, row, "Offset", joined(format!("{first:02X}h"), format!("{last:02X}h")));
+        findings.cell(table, row, "Name", joined(names[first].clone(), names[last].clone()));
         for register in &ctx.facts.registers[first..=last] {
             let digits = register.bits.div_ceil(4) as usize;
             findings.cell(table, row, "Bits", register.bits.to_string());
-            findings.cell(
-                table,
-                row,
-                "At reset",
-                format!("{:0digits$X}h", register.reset),
-            );
+            findings.cell(table, row, "At reset", format!("{:0digits$X}h", register.reset));
             findings.cell(table, row, "A store keeps", &register.keeps);
         }
         if first != last {
-            let sources: Vec<usize> = (0..12)
-                .filter(|&s| (first..=last).contains(&vector(&ctx.card, s)))
-                .collect();
+            let sources: Vec<usize> = (0..12).filter(|&s| (first..=last).contains(&vector(&ctx.card, s))).collect();
             let (a, b) = (sources.first(), sources.last());
-            findings.cell(
-                table,
-                row,
-                "Note",
-                format!(
-                    "vectors of sources {} to {}",
-                    a.unwrap_or(&99),
-                    b.unwrap_or(&99)
-                ),
-            );
+            findings.cell(table, row, "Note", format!("vectors of sources {} to {}", a.unwrap_or(&99), b.unwrap_or(&99)));
         }
     }
 }
@@ -186,7 +130,7 @@ fn vector(card: &Card, source: usize) -> usize {
     let left = card.run(&open(1 << source)).image;
     let entry = left.get(516) == source as u32 && left.control(INT_SERV) == 1 << source;
     let by = left.get(PC).wrapping_sub(0x1000);
-    if entry && by % 4 == 0 {
+    if entry && by.is_multiple_of(4) {
         (by / 4) as usize
     } else {
         99
@@ -195,15 +139,10 @@ fn vector(card: &Card, source: usize) -> usize {
 
 /// The register and the bit where a source's priority number begins: with it alone 0, the source is accepted before all others.
 fn priority(card: &Card, source: usize) -> Option<(usize, u32)> {
-    let all = [0x15, 0x16]
-        .into_iter()
-        .flat_map(|r| (0..8).map(move |k| (r, 4 * k)));
+    let all = [0x15, 0x16].into_iter().flat_map(|r| (0..8).map(move |k| (r, 4 * k)));
     let mut found = all.filter(|&(register, bit)| {
         let mut given = open(0xFFF);
-        given
-            .image
-            .set_control(0x15, 0x7777_7777)
-            .set_control(0x16, 0x7777);
+        given.image.set_control(0x15, 0x7777_7777).set_control(0x16, 0x7777);
         let old = given.image.control(register);
         if old >> bit & 0xF != 7 {
             return false;
@@ -242,56 +181,25 @@ pub fn interrupts(ctx: &Context, table: &Table, findings: &mut Findings) {
     let registers = register_names(ctx.sources);
     let groups = vectors(&ctx.card);
     if names.len() != 12 || !findings.rows(table, groups.len()) {
-        return findings.table(
-            table,
-            format!("{} names, {} groups", names.len(), groups.len()),
-        );
+        return findings.table(table, format!("{} names, {} groups", names.len(), groups.len()));
     }
     let mut first = 0;
     for (row, group) in table.rows.iter().zip(groups) {
         let last = first + group.len() - 1;
         findings.cell(table, row, "Source", format!("{first} to {last}"));
-        findings.cell(
-            table,
-            row,
-            "Name",
-            format!("{} to {}", names[first], names[last]),
-        );
+        findings.cell(table, row, "Name", format!("{} to {}", names[first], names[last]));
         for (source, offset) in (first..).zip(group) {
-            findings.cell(
-                table,
-                row,
-                "Vector",
-                format!(
-                    "register at offset {:02X}h + source",
-                    offset.wrapping_sub(source)
-                ),
-            );
+            findings.cell(table, row, "Vector", format!("register at offset {:02X}h + source", offset.wrapping_sub(source)));
             let Some((register, bit)) = priority(&ctx.card, source) else {
-                findings.row(
-                    table,
-                    row,
-                    format!("source {source} has no priority number of its own"),
-                );
+                findings.row(table, row, format!("source {source} has no priority number of its own"));
                 continue;
             };
-            let number = if first == 0 {
-                "source".to_string()
-            } else {
-                format!("(source - {first})")
-            };
-            let step = if source == first {
-                4
-            } else {
-                bit / (source - first) as u32
-            };
+            let number = if first == 0 { "source".to_string() } else { format!("(source - {first})") };
+            let step = if source == first { 4 } else { bit / (source - first) as u32 };
             let right = if source == first && bit != 0 {
                 "another bit".to_string()
             } else {
-                format!(
-                    "{}, four bits from bit {step} × {number} up",
-                    registers[register]
-                )
+                format!("{}, four bits from bit {step} × {number} up", registers[register])
             };
             findings.cell(table, row, "Priority number", right);
         }

@@ -25,38 +25,11 @@ mod c {
             buffer_bytes: usize,
         ) -> Answer;
         pub fn coffee_reset(buffer: *mut u8, buffer_bytes: usize) -> u32;
-        pub fn coffee_carry_over(
-            image: *const u8,
-            image_bytes: usize,
-            buffer: *mut u8,
-            buffer_bytes: usize,
-        ) -> u32;
-        pub fn coffee_listing(
-            program: *const u8,
-            program_bytes: usize,
-            wide: u32,
-            text: *mut u8,
-            text_bytes: usize,
-        ) -> u32;
-        pub fn coffee_encode(
-            operation: u32,
-            wide: u32,
-            conditional: u32,
-            creg: u32,
-            condition: u32,
-            a: i32,
-            b: i32,
-            c: i32,
-            d: i32,
-        ) -> u64;
-        pub fn coffee_reach(
-            program: *const u8,
-            program_bytes: usize,
-            wide: u32,
-            start: u32,
-            map: *mut u8,
-            map_bytes: usize,
-        ) -> u32;
+        pub fn coffee_carry_over(image: *const u8, image_bytes: usize, buffer: *mut u8, buffer_bytes: usize) -> u32;
+        pub fn coffee_listing(program: *const u8, program_bytes: usize, wide: u32, text: *mut u8, text_bytes: usize) -> u32;
+        pub fn coffee_encode(operation: u32, wide: u32, conditional: u32, creg: u32, condition: u32, a: i32, b: i32, c: i32, d: i32)
+            -> u64;
+        pub fn coffee_reach(program: *const u8, program_bytes: usize, wide: u32, start: u32, map: *mut u8, map_bytes: usize) -> u32;
     }
 }
 
@@ -131,14 +104,8 @@ impl Card {
         if let (Some(Fault::Left(offset)), 1..) = (self.fault, answer.steps) {
             left.set(offset, left.get(offset) ^ 1);
         }
-        let ending =
-            answer.ending ^ u32::from(answer.ending != 0 && self.fault == Some(Fault::Ending));
-        Outcome {
-            refusal: self.refusal(answer.refusal),
-            ending,
-            image: left,
-            cells,
-        }
+        let ending = answer.ending ^ u32::from(answer.ending != 0 && self.fault == Some(Fault::Ending));
+        Outcome { refusal: self.refusal(answer.refusal), ending, image: left, cells }
     }
 
     pub fn reset(&self) -> Image {
@@ -160,33 +127,16 @@ impl Card {
 
     pub fn carry_over(&self, image: &[u8], room: usize) -> (u32, Image) {
         let mut buffer = vec![0; room];
-        let refusal = unsafe {
-            c::coffee_carry_over(
-                image.as_ptr(),
-                image.len(),
-                buffer.as_mut_ptr(),
-                buffer.len(),
-            )
-        };
+        let refusal = unsafe { c::coffee_carry_over(image.as_ptr(), image.len(), buffer.as_mut_ptr(), buffer.len()) };
         (self.refusal(refusal), Image::of(&buffer))
     }
 
     /// The refusal, and the lines.
     pub fn listing(&self, program: &[u8], wide: bool, room: usize) -> (u32, Vec<u8>) {
         let mut text = vec![0; room];
-        let refusal = unsafe {
-            c::coffee_listing(
-                program.as_ptr(),
-                program.len(),
-                u32::from(wide),
-                text.as_mut_ptr(),
-                text.len(),
-            )
-        };
+        let refusal = unsafe { c::coffee_listing(program.as_ptr(), program.len(), u32::from(wide), text.as_mut_ptr(), text.len()) };
         if let Some(Fault::Listing(column)) = self.fault {
-            text.chunks_mut(48)
-                .filter(|line| line.len() > column)
-                .for_each(|line| line[column] ^= 1);
+            text.chunks_mut(48).filter(|line| line.len() > column).for_each(|line| line[column] ^= 1);
         }
         (self.refusal(refusal), text)
     }
@@ -197,28 +147,10 @@ impl Card {
     }
 
     /// A word, or the refusal.
-    pub fn encode(
-        &self,
-        operation: u32,
-        wide: bool,
-        condition: Option<(u32, u32)>,
-        operands: [i32; 4],
-    ) -> Result<u32, u32> {
+    pub fn encode(&self, operation: u32, wide: bool, condition: Option<(u32, u32)>, operands: [i32; 4]) -> Result<u32, u32> {
         let (creg, number) = condition.unwrap_or((0, 0));
         let [a, b, c, d] = operands;
-        let answer = unsafe {
-            c::coffee_encode(
-                operation,
-                u32::from(wide),
-                u32::from(condition.is_some()),
-                creg,
-                number,
-                a,
-                b,
-                c,
-                d,
-            )
-        };
+        let answer = unsafe { c::coffee_encode(operation, u32::from(wide), u32::from(condition.is_some()), creg, number, a, b, c, d) };
         match (answer >> 32, self.fault) {
             (0, Some(Fault::Encode(bit))) => Ok(answer as u32 ^ 1 << bit),
             (0, _) => Ok(answer as u32),
@@ -229,21 +161,9 @@ impl Card {
     /// The refusal, and the map.
     pub fn reach(&self, program: &[u8], wide: bool, start: u32, room: usize) -> (u32, Vec<u8>) {
         let mut map = vec![0; room];
-        let refusal = unsafe {
-            c::coffee_reach(
-                program.as_ptr(),
-                program.len(),
-                u32::from(wide),
-                start,
-                map.as_mut_ptr(),
-                map.len(),
-            )
-        };
+        let refusal = unsafe { c::coffee_reach(program.as_ptr(), program.len(), u32::from(wide), start, map.as_mut_ptr(), map.len()) };
         if let Some(Fault::Map(address)) = self.fault {
-            map.iter_mut()
-                .skip(address)
-                .take(1)
-                .for_each(|byte| *byte ^= 1);
+            map.iter_mut().skip(address).take(1).for_each(|byte| *byte ^= 1);
         }
         (self.refusal(refusal), map)
     }

@@ -57,27 +57,18 @@ impl Findings {
 
     /// A difference in a row.
     pub fn row(&mut self, table: &Table, row: &Row, text: impl AsRef<str>) {
-        self.lines.push(format!(
-            "Manual {}, line {}: {}",
-            table.section,
-            row.line,
-            text.as_ref()
-        ));
+        self.lines.push(format!("Manual {}, line {}: {}", table.section, row.line, text.as_ref()));
     }
 
     /// A difference of a whole table.
     pub fn table(&mut self, table: &Table, text: impl AsRef<str>) {
-        self.lines
-            .push(format!("Manual {}: {}", table.section, text.as_ref()));
+        self.lines.push(format!("Manual {}: {}", table.section, text.as_ref()));
     }
 
     /// Compares the number of rows.
     pub fn rows(&mut self, table: &Table, right: usize) -> bool {
         if table.rows.len() != right {
-            self.table(
-                table,
-                format!("{} rows, and there must be {right}", table.rows.len()),
-            );
+            self.table(table, format!("{} rows, and there must be {right}", table.rows.len()));
         }
         table.rows.len() == right
     }

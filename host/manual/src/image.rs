@@ -74,10 +74,7 @@ impl Image {
         entries.iter().flatten().for_each(|&n| push(n));
         push(2);
         dividers.iter().for_each(|&n| push(n));
-        image.set_control(
-            INT_SERV,
-            entries.iter().fold(0, |flags, e| flags | 1 << e[0].min(31)),
-        );
+        image.set_control(INT_SERV, entries.iter().fold(0, |flags, e| flags | 1 << e[0].min(31)));
         let top = entries.last().copied().unwrap_or([0, 1, 9, 0]);
         for (k, &number) in top[1..].iter().enumerate() {
             image.set_control(RETI_ADDR + k, number);

@@ -10,11 +10,7 @@ use crate::steps::stop_numbers;
 
 /// Interrupt stacks of 0, 1 and 12 entries.
 fn stacks() -> Vec<Vec<[u32; 4]>> {
-    vec![
-        vec![],
-        vec![[7, 0x40, 0x19, 2]],
-        (0..12).map(|s| [s, s, 9, 0]).collect(),
-    ]
+    vec![vec![], vec![[7, 0x40, 0x19, 2]], (0..12).map(|s| [s, s, 9, 0]).collect()]
 }
 
 /// The refusal of a run call of no steps.
@@ -66,43 +62,20 @@ pub fn layout(ctx: &Context, table: &Table, findings: &mut Findings) {
                 if place + bytes > covered.len() {
                     findings.row(table, row, "behind the image's end");
                 }
-                covered
-                    .iter_mut()
-                    .skip(place)
-                    .take(bytes)
-                    .for_each(|c| *c += 1);
+                covered.iter_mut().skip(place).take(bytes).for_each(|c| *c += 1);
                 limits(ctx, table, row, findings, &image, place, k);
             }
         }
         if covered.iter().any(|&c| c != 1) {
-            findings.table(
-                table,
-                format!(
-                    "byte {:?} of {} is in no row or in two",
-                    covered.iter().position(|&c| c != 1),
-                    covered.len()
-                ),
-            );
+            findings.table(table, format!("byte {:?} of {} is in no row or in two", covered.iter().position(|&c| c != 1), covered.len()));
         }
     }
-    let texts: Vec<String> = table
-        .rows
-        .iter()
-        .map(|row| table.cell(row, "Field").to_string())
-        .collect();
+    let texts: Vec<String> = table.rows.iter().map(|row| table.cell(row, "Field").to_string()).collect();
     fields(ctx, table, findings, &texts);
 }
 
 /// The range of one number of the image.
-fn limits(
-    ctx: &Context,
-    table: &Table,
-    row: &Row,
-    findings: &mut Findings,
-    image: &Image,
-    place: usize,
-    k: usize,
-) {
+fn limits(ctx: &Context, table: &Table, row: &Row, findings: &mut Findings, image: &Image, place: usize, k: usize) {
     let asked = |value: u32| {
         let mut image = image.clone();
         image.set(place, value);
@@ -116,7 +89,7 @@ fn limits(
         }
         _ => asked(value),
     };
-    let register = place >= CONTROL && place < CONTROL + 180;
+    let register = (CONTROL..CONTROL + 180).contains(&place);
     let most = match table.cell(row, "Most") {
         "2^Bits - 1, Bits of 5.1" if register => (1u64 << ctx.facts.registers[k].bits) as u32,
         text => number(text).map_or(0, |n| n.wrapping_add(1)),
@@ -130,13 +103,7 @@ fn limits(
     let (Some(least), Some(right)) = (least, right) else {
         return findings.row(table, row, "no number where one must be");
     };
-    let mut wrong = |value: u32| {
-        findings.row(
-            table,
-            row,
-            format!("{value:X}h at {place} gets refusal {}", asked(value)),
-        )
-    };
+    let mut wrong = |value: u32| findings.row(table, row, format!("{value:X}h at {place} gets refusal {}", asked(value)));
     if most < u32::MAX && (right == 0 || asked(most + 1) != right) {
         wrong(most + 1);
     }
@@ -149,18 +116,14 @@ fn limits(
     // Rules of 8.2 come besides.
     let besides = [304, 476, 480, 496, 504, 508].contains(&place);
     for value in [least, most] {
-        if !besides && [2, 3].contains(&asked(value))
-            || right == 5 && value == least && asked(value) == 3
-        {
+        if !besides && [2, 3].contains(&asked(value)) || right == 5 && value == least && asked(value) == 3 {
             wrong(value);
         }
     }
     if right == 5 && k == 0 && place < 532 {
         // The most is no source of another entry only where there is one entry.
         let mut image = image.clone();
-        image
-            .set(place, most)
-            .set_control(INT_SERV, 1 << most.min(31));
+        image.set(place, most).set_control(INT_SERV, 1 << most.min(31));
         if image.get(ENTRIES) == 1 && refusal(&ctx.card, &image) != 0 {
             findings.row(table, row, format!("source {most} is refused"));
         }
@@ -173,9 +136,7 @@ fn fields(ctx: &Context, table: &Table, findings: &mut Findings, texts: &[String
     // A store of register k of a set goes to cell 5.
     let holds = |psr: u32, offset: usize, register: usize| {
         let base = if register == 0 { 1 } else { 0 };
-        let word = Card::default()
-            .encode(28, true, None, [register as i32, base, 5, 0])
-            .expect("st");
+        let word = Card::default().encode(28, true, None, [register as i32, base, 5, 0]).expect("st");
         let mut given = plain(true);
         given.program = word.to_be_bytes().to_vec();
         given.image.set(SPSR, 0).set(PSR, psr);
@@ -186,67 +147,22 @@ fn fields(ctx: &Context, table: &Table, findings: &mut Findings, texts: &[String
     };
     let counted = |first: &str, last: usize| has(&format!("{first}, k from 0 to {last}"));
     let place = |text: &str| {
-        let row = table
-            .rows
-            .iter()
-            .find(|row| table.cell(row, "Field") == text);
-        row.and_then(|row| offsets(table.cell(row, "Offset"), 1, text))
-            .and_then(|o| o.first().copied())
-            .unwrap_or(0)
+        let row = table.rows.iter().find(|row| table.cell(row, "Field") == text);
+        row.and_then(|row| offsets(table.cell(row, "Offset"), 1, text)).and_then(|o| o.first().copied()).unwrap_or(0)
     };
     let right = [
-        (
-            counted("Rk", 31) && (0..32).all(|k| holds(8, SET_1 + 4 * k, k)),
-            "Rk",
-        ),
-        (
-            counted("PRk", 28) && (0..29).all(|k| holds(10, SET_2 + 4 * k, k)),
-            "PRk",
-        ),
+        (counted("Rk", 31) && (0..32).all(|k| holds(8, SET_1 + 4 * k, k)), "Rk"),
+        (counted("PRk", 28) && (0..29).all(|k| holds(10, SET_2 + 4 * k, k)), "PRk"),
         (holds(10, place("PSR, which is PR29"), 29), "PSR"),
         (holds(10, place("SPSR, which is PR30"), 30), "SPSR"),
         (holds(10, place("PR31"), 31), "PR31"),
         (counted("Ck", 7) && condition_places(ctx), "Ck"),
-        (
-            has("control register at offset k, k from 0 to 44 (2Ch)"),
-            "control register",
-        ),
-        (
-            place("count of set 1") == 0 && place("count of set 2") == SET_2 - 4,
-            "counts of the sets",
-        ),
-        (
-            entry_places(
-                ctx,
-                [
-                    place("address of entry i"),
-                    place("PSR of entry i"),
-                    place("C0 of entry i"),
-                ],
-            ),
-            "entry",
-        ),
-        (
-            divider(ctx, place("divider of timer 0"), 0)
-                && divider(ctx, place("divider of timer 1"), 1),
-            "dividers",
-        ),
-        (
-            flag(
-                ctx,
-                place("slot flag, 1 while a branch slot waits"),
-                0x9000_0002,
-            ),
-            "slot flag",
-        ),
-        (
-            flag(
-                ctx,
-                place("product flag, 1 while a product is held for mulhi"),
-                0x2000_1483,
-            ),
-            "product flag",
-        ),
+        (has("control register at offset k, k from 0 to 44 (2Ch)"), "control register"),
+        (place("count of set 1") == 0 && place("count of set 2") == SET_2 - 4, "counts of the sets"),
+        (entry_places(ctx, [place("address of entry i"), place("PSR of entry i"), place("C0 of entry i")]), "entry"),
+        (divider(ctx, place("divider of timer 0"), 0) && divider(ctx, place("divider of timer 1"), 1), "dividers"),
+        (flag(ctx, place("slot flag, 1 while a branch slot waits"), 0x9000_0002), "slot flag"),
+        (flag(ctx, place("product flag, 1 while a product is held for mulhi"), 0x2000_1483), "product flag"),
     ];
     for (_, name) in right.iter().filter(|(right, _)| !right) {
         findings.table(table, format!("{name} is not as its row says"));
@@ -266,14 +182,10 @@ fn condition_places(ctx: &Context) -> bool {
 /// reti takes PC, PSR and C0 from an entry's numbers.
 fn entry_places(ctx: &Context, places: [usize; 3]) -> bool {
     let mut given = plain(true);
-    given.program = [50u32 << 26, 0, 0, 0]
-        .iter()
-        .flat_map(|word| word.to_be_bytes())
-        .collect();
+    given.program = [50u32 << 26, 0, 0, 0].iter().flat_map(|word| word.to_be_bytes()).collect();
     given.image = given.image.stacked(&[[3, 4, 8, 6]], [0, 0]);
     let left = ctx.card.run(&given).image;
-    places.map(|place| given.image.get(place))
-        == [left.get(PC), left.get(PSR), left.get(CONDITIONS)]
+    places.map(|place| given.image.get(place)) == [left.get(PC), left.get(PSR), left.get(CONDITIONS)]
 }
 
 /// The divider at an offset (with one entry) grows with the timer's DIV above it.
@@ -296,10 +208,7 @@ pub fn rules(ctx: &Context, table: &Table, findings: &mut Findings) {
     let layout = ctx.manual.table("8.1");
     let names = register_names(ctx.sources);
     let place = |field: &str| {
-        let found = layout
-            .rows
-            .iter()
-            .find(|row| layout.cell(row, "Field").split(", ").next() == Some(field));
+        let found = layout.rows.iter().find(|row| layout.cell(row, "Field").split(", ").next() == Some(field));
         found.map(|row| layout.cell(row, "Offset").to_string())
     };
     if !findings.rows(table, 12) {
@@ -308,9 +217,7 @@ pub fn rules(ctx: &Context, table: &Table, findings: &mut Findings) {
     let entry = [7, 0x40, 0x19, 2];
     for row in &table.rows {
         let field = table.cell(row, "Field");
-        let register = names
-            .iter()
-            .position(|name| field.starts_with(&format!("{name} (")));
+        let register = names.iter().position(|name| field.starts_with(&format!("{name} (")));
         let offset = match (register, field) {
             (Some(k), _) => {
                 findings.cell(table, row, "Field", format!("{} ({k:02X}h)", names[k]));
@@ -328,44 +235,29 @@ pub fn rules(ctx: &Context, table: &Table, findings: &mut Findings) {
             }
             refusal(&ctx.card, &image)
         };
-        let at = offset
-            .split(',')
-            .next()
-            .and_then(|o| o.parse().ok())
-            .unwrap_or(0);
+        let at = offset.split(',').next().and_then(|o| o.parse().ok()).unwrap_or(0);
         // Where a value is refused by this rule, whatever others are.
-        let just = |entries: &[[u32; 4]],
-                    besides: &[(usize, u32)],
-                    at: usize,
-                    holds: &dyn Fn(u32) -> bool| {
+        let just = |entries: &[[u32; 4]], besides: &[(usize, u32)], at: usize, holds: &dyn Fn(u32) -> bool| {
             (0..32).all(|value| {
                 let mut all = besides.to_vec();
                 all.push((at, value));
                 asked(entries, &all) == if holds(value) { 0 } else { right }
             })
         };
-        let user =
-            |list: &[u64], psr: u32| psr < 32 && (psr & 1 == 0 || list.contains(&u64::from(psr)));
+        let user = |list: &[u64], psr: u32| psr < 32 && (psr & 1 == 0 || list.contains(&u64::from(psr)));
         let (shape, n) = template(table.cell(row, "Rule"));
         let constant = |k: usize| n[k] as u32;
         let good = match shape.as_str() {
-            "a multiple of #" => (0..9).all(|bit| {
-                asked(&[], &[(at, 1 << bit)]) == if 1 << bit < constant(0) { right } else { 0 }
-            }),
-            "#" => [0, 1, 2, u32::MAX]
-                .iter()
-                .all(|&v| asked(&[], &[(at, v)]) == if v == constant(0) { 0 } else { right }),
+            "a multiple of #" => (0..9).all(|bit| asked(&[], &[(at, 1 << bit)]) == if 1 << bit < constant(0) { right } else { 0 }),
+            "#" => [0, 1, 2, u32::MAX].iter().all(|&v| asked(&[], &[(at, v)]) == if v == constant(0) { 0 } else { right }),
             "# where the slot flag is #" => {
-                constant(1) == 0
-                    && just(&[], &[(SLOT, 0)], at, &|v| v == constant(0))
-                    && just(&[], &[(SLOT, 1)], at, &|_| true)
+                constant(1) == 0 && just(&[], &[(SLOT, 0)], at, &|v| v == constant(0)) && just(&[], &[(SLOT, 1)], at, &|_| true)
             }
             "# where the product flag is #" => {
                 constant(1) == 0
-                    && [HIGH, LOW].iter().all(|&half| {
-                        just(&[], &[(PRODUCT, 0)], half, &|v| v == constant(0))
-                            && just(&[], &[(PRODUCT, 1)], half, &|_| true)
-                    })
+                    && [HIGH, LOW]
+                        .iter()
+                        .all(|&half| just(&[], &[(PRODUCT, 0)], half, &|v| v == constant(0)) && just(&[], &[(PRODUCT, 1)], half, &|_| true))
             }
             "where bit # (UM) is #, bits # and # are #: #, #, # or #" => {
                 n[..5] == [0, 1, 1, 2, 0]
@@ -377,9 +269,7 @@ pub fn rules(ctx: &Context, table: &Table, findings: &mut Findings) {
                 let holds = user(&[1, 9, 17, 25], psr);
                 asked(&[[7, 0x40, psr, 2]], &[]) == if holds { 0 } else { right }
             }),
-            "no two entries have the same" => {
-                asked(&[entry, entry], &[]) == right && asked(&[entry, [8, 1, 9, 0]], &[]) == 0
-            }
+            "no two entries have the same" => asked(&[entry, entry], &[]) == right && asked(&[entry, [8, 1, 9, 0]], &[]) == 0,
             "bit s is # just where some entry has source s" => {
                 constant(0) == 1
                     && (0..0x1000).all(|v| (asked(&[entry], &[(at, v)]) == 0) == (v == 1 << 7))
@@ -401,9 +291,7 @@ type Asked<'a> = &'a dyn Fn(&[[u32; 4]], &[(usize, u32)]) -> u32;
 /// A RETI_ register shows the top of two entries, or what it shows of none.
 fn top(asked: Asked, at: usize, right: u32, shown: u32, n: &[u64]) -> bool {
     let two = [[8, 1, 9, 0], [7, 0x40, 0x19, 2]];
-    let rule = |entries: &[[u32; 4]], v: u32, shown: u32| {
-        asked(entries, &[(at, v)]) == if v == shown { 0 } else { right }
-    };
+    let rule = |entries: &[[u32; 4]], v: u32, shown: u32| asked(entries, &[(at, v)]) == if v == shown { 0 } else { right };
     n[1] == 0
         && (0..8)
             .chain([9, 0x19, 0x40])
@@ -415,11 +303,7 @@ fn top(asked: Asked, at: usize, right: u32, shown: u32, n: &[u64]) -> bool {
 fn all_wrong(card: &Card, call: &str, wrong: &[u32]) -> Option<u32> {
     let is = |q: u32| wrong.contains(&q);
     let mut image = card.reset();
-    let numbers = [
-        (3, CONTROL + 4 * 0x2C, 0),
-        (4, PSR, 7),
-        (5, CONTROL + 4 * INT_SERV, 1),
-    ];
+    let numbers = [(3, CONTROL + 4 * 0x2C, 0), (4, PSR, 7), (5, CONTROL + 4 * INT_SERV, 1)];
     for &(_, offset, value) in numbers.iter().filter(|n| is(n.0)) {
         image.set(offset, value);
     }
@@ -437,10 +321,7 @@ fn all_wrong(card: &Card, call: &str, wrong: &[u32]) -> Option<u32> {
             .refusal
         }
         "reset" => card.reset_refusal(room),
-        "carry over" => {
-            card.carry_over(image.cut(if is(2) { 512 } else { 516 }).bytes(), room)
-                .0
-        }
+        "carry over" => card.carry_over(image.cut(if is(2) { 512 } else { 516 }).bytes(), room).0,
         "list" => {
             let length = if is(1) {
                 65_537
@@ -449,31 +330,12 @@ fn all_wrong(card: &Card, call: &str, wrong: &[u32]) -> Option<u32> {
             } else {
                 4
             };
-            card.listing(
-                &vec![0; length],
-                true,
-                if is(17) { 47 } else { 48 * 20_000 },
-            )
-            .0
+            card.listing(&vec![0; length], true, if is(17) { 47 } else { 48 * 20_000 }).0
         }
-        "encode" => card
-            .encode(
-                if is(18) { 64 } else { 1 },
-                true,
-                None,
-                [if is(19) { 32 } else { 0 }; 4],
-            )
-            .err()
-            .unwrap_or(0),
+        "encode" => card.encode(if is(18) { 64 } else { 1 }, true, None, [if is(19) { 32 } else { 0 }; 4]).err().unwrap_or(0),
         "reach" => {
             let length = if is(1) { 65_537 } else { 4 };
-            card.reach(
-                &vec![0; length],
-                true,
-                u32::from(is(27)),
-                if is(28) { 3 } else { 70_000 },
-            )
-            .0
+            card.reach(&vec![0; length], true, u32::from(is(27)), if is(28) { 3 } else { 70_000 }).0
         }
         _ => return None,
     })
@@ -505,11 +367,7 @@ pub fn calls(ctx: &Context, table: &Table, findings: &mut Findings) {
             let right = list.get(k).copied().unwrap_or(0);
             let found = all_wrong(&ctx.card, call, &list[k..]);
             if found != Some(right) {
-                findings.row(
-                    table,
-                    row,
-                    format!("with {:?} answered no the refusal is {found:?}", &list[k..]),
-                );
+                findings.row(table, row, format!("with {:?} answered no the refusal is {found:?}", &list[k..]));
             }
         }
     }
@@ -534,10 +392,7 @@ pub fn refusals(ctx: &Context, table: &Table, findings: &mut Findings) {
     let image = |offset: usize, value: u32| {
         let mut image = card.reset();
         image.set(offset, value);
-        [
-            refusal(card, &image),
-            card.carry_over(image.cut(516).bytes(), ROOM).0,
-        ]
+        [refusal(card, &image), card.carry_over(image.cut(516).bytes(), ROOM).0]
     };
     let limit = |program: usize, call: &str| match call {
         "list" => card.listing(&vec![0; program], false, 48 * 33_000).0,
@@ -564,10 +419,14 @@ pub fn refusals(ctx: &Context, table: &Table, findings: &mut Findings) {
                 vec![card.carry_over(card.reset().bytes(), ROOM).0, image(132, 31)[1]],
                 vec![card.carry_over(card.reset().cut(516).bytes(), ROOM).0],
             ),
-            ("run, carry over", "a number of the image breaks a rule of #.# or #.# that has # beside it") if n[..4] == [8, 1, 8, 2] && n[4] == right as usize => {
+            ("run, carry over", "a number of the image breaks a rule of #.# or #.# that has # beside it")
+                if n[..4] == [8, 1, 8, 2] && n[4] == right as usize =>
+            {
                 ([image(PSR, 32), image(SLOT, 2), image(CONTROL + 4 * INT_MASK, 0x1000), image(CONTROL + 4 * 0x2B, 1)].concat(), vec![])
             }
-            ("run, carry over", "PSR, or that of an entry, breaks the rule that has # beside it") if n[0] == right as usize => (image(PSR, 11).to_vec(), vec![]),
+            ("run, carry over", "PSR, or that of an entry, breaks the rule that has # beside it") if n[0] == right as usize => {
+                (image(PSR, 11).to_vec(), vec![])
+            }
             ("run, carry over", "sources, INT_SERV or RETI_ registers break a rule that has # beside it") if n[0] == right as usize => {
                 ([image(CONTROL + 4 * INT_SERV, 2), image(CONTROL + 4 * RETI_ADDR, 2)].concat(), vec![])
             }
@@ -579,7 +438,9 @@ pub fn refusals(ctx: &Context, table: &Table, findings: &mut Findings) {
                 (vec![limit(n[0] + 1)], vec![limit(n[0])])
             }
             ("run, reset, carry over", "the image buffer has fewer than # bytes") => {
-                let room = |room: usize| vec![run(&|g| g.room = room), card.reset_refusal(room), card.carry_over(card.reset().cut(516).bytes(), room).0];
+                let room = |room: usize| {
+                    vec![run(&|g| g.room = room), card.reset_refusal(room), card.carry_over(card.reset().cut(516).bytes(), room).0]
+                };
                 (room(n[0] - 1), room(n[0]))
             }
             ("list", "the program's length is no multiple of the word's, # or # bytes") => {
@@ -605,18 +466,10 @@ pub fn refusals(ctx: &Context, table: &Table, findings: &mut Findings) {
             _ => (vec![], vec![]),
         };
         if refused.is_empty() {
-            findings.row(
-                table,
-                row,
-                format!("no refusal that the test knows: {shape}"),
-            );
+            findings.row(table, row, format!("no refusal that the test knows: {shape}"));
         }
         if refused.iter().any(|&r| r != right) || taken.iter().any(|&r| r != 0) {
-            findings.row(
-                table,
-                row,
-                format!("such calls are refused with {refused:?}, others with {taken:?}"),
-            );
+            findings.row(table, row, format!("such calls are refused with {refused:?}, others with {taken:?}"));
         }
     }
 }
@@ -636,54 +489,25 @@ pub fn transitions(ctx: &Context, table: &Table, findings: &mut Findings) {
 
 /// 10.2: the offsets and values of the hypotheses.
 pub fn hypotheses(ctx: &Context, table: &Table, findings: &mut Findings) {
-    let psr: Vec<String> = (0..64)
-        .filter(|&psr| psr & 1 == 1 && refusal(&ctx.card, ctx.card.reset().set(PSR, psr)) == 0)
-        .map(|psr| psr.to_string())
-        .collect();
+    let psr: Vec<String> =
+        (0..64).filter(|&psr| psr & 1 == 1 && refusal(&ctx.card, ctx.card.reset().set(PSR, psr)) == 0).map(|psr| psr.to_string()).collect();
     let [first @ .., last] = &psr[..] else {
         return findings.table(table, "no PSR of user mode is accepted");
     };
     // The last address of the block, by a load that finds no cell beyond.
     let found = |by: u32| {
         let mut given = plain(true);
-        given.program = Card::default()
-            .encode(27, true, None, [1, 2, 0, 0])
-            .expect("ld")
-            .to_be_bytes()
-            .to_vec();
+        given.program = Card::default().encode(27, true, None, [1, 2, 0, 0]).expect("ld").to_be_bytes().to_vec();
         let base = given.image.control(0);
         given.image.set(SET_1 + 8, base + by);
         ctx.card.run(&given).ending == 0
     };
     let size = (0..1000).take_while(|&by| found(by)).count();
     let right = [
-        (
-            "H1",
-            "the image",
-            0,
-            "2, 3, 4 and 5 of 9.2 do not refuse it".to_string(),
-        ),
-        (
-            "H2",
-            "PSR",
-            PSR,
-            format!(
-                "bit 0 (UM) is 1; by H1 it is then {} or {last}",
-                first.join(", ")
-            ),
-        ),
-        (
-            "H3",
-            "DMEM_BOUND_LO",
-            CONTROL + 4 * DMEM_LO,
-            format!("not above CCB_BASE (offset {CONTROL})"),
-        ),
-        (
-            "H4",
-            "DMEM_BOUND_HI",
-            CONTROL + 4 * DMEM_HI,
-            format!("not below CCB_BASE + {}", size - 1),
-        ),
+        ("H1", "the image", 0, "2, 3, 4 and 5 of 9.2 do not refuse it".to_string()),
+        ("H2", "PSR", PSR, format!("bit 0 (UM) is 1; by H1 it is then {} or {last}", first.join(", "))),
+        ("H3", "DMEM_BOUND_LO", CONTROL + 4 * DMEM_LO, format!("not above CCB_BASE (offset {CONTROL})")),
+        ("H4", "DMEM_BOUND_HI", CONTROL + 4 * DMEM_HI, format!("not below CCB_BASE + {}", size - 1)),
     ];
     if findings.rows(table, right.len()) {
         for (row, (name, field, offset, condition)) in table.rows.iter().zip(right) {
@@ -699,12 +523,7 @@ pub fn hypotheses(ctx: &Context, table: &Table, findings: &mut Findings) {
 pub fn integrity(ctx: &Context, table: &Table, findings: &mut Findings) {
     let names = register_names(ctx.sources);
     let status = (PSR - SET_2) / 4;
-    let named = |name: &str| {
-        format!(
-            "{name} ({:02X}h)",
-            names.iter().position(|n| n == name).unwrap_or(0)
-        )
-    };
+    let named = |name: &str| format!("{name} ({:02X}h)", names.iter().position(|n| n == name).unwrap_or(0));
     let conditions = ctx.card.reset().get(CONDITIONS - 4) - 1;
     let right = [
         format!("PR0 to PR{}, PR{} and PR{}", status - 1, status + 1, ctx.card.reset().get(SET_2 - 4) - 1),
@@ -718,11 +537,6 @@ pub fn integrity(ctx: &Context, table: &Table, findings: &mut Findings) {
         for (row, right) in table.rows.iter().zip(right) {
             findings.cell(table, row, "Part", right);
         }
-        findings.cell(
-            table,
-            &table.rows[4],
-            "After a transition of the segment",
-            "1",
-        );
+        findings.cell(table, &table.rows[4], "After a transition of the segment", "1");
     }
 }

@@ -79,12 +79,7 @@ const fn check(
     free: &'static [&'static str],
     run: fn(&Context, &Table, &mut Findings),
 ) -> Check {
-    Check {
-        section,
-        header,
-        free,
-        run,
-    }
+    Check { section, header, free, run }
 }
 
 fn main() -> ExitCode {
@@ -122,26 +117,12 @@ fn compare(root: &Path, faults: bool) -> Result<bool, String> {
         control: read("crates/machine/specs/Control.antt")?,
     };
     let facts = facts(&Card::default(), &sources);
-    let right = everything(&Context {
-        card: Card::default(),
-        manual: &manual,
-        facts: &facts,
-        sources: &sources,
-    });
+    let right = everything(&Context { card: Card::default(), manual: &manual, facts: &facts, sources: &sources });
     for line in &right {
         println!("{line}");
     }
-    let rows: usize = CHECKS
-        .iter()
-        .map(|check| {
-            manual
-                .tables
-                .iter()
-                .filter(|t| t.section == check.section)
-                .map(|t| t.rows.len())
-                .sum::<usize>()
-        })
-        .sum();
+    let rows: usize =
+        CHECKS.iter().map(|check| manual.tables.iter().filter(|t| t.section == check.section).map(|t| t.rows.len()).sum::<usize>()).sum();
     if !faults {
         println!(
             "{} tables with {rows} rows compared, {} not (sections {}), {} differences",
@@ -156,17 +137,7 @@ fn compare(root: &Path, faults: bool) -> Result<bool, String> {
     for check in &CHECKS {
         for (what, wrong) in alterations(&manual, check) {
             altered += 1;
-            if one(
-                &Context {
-                    card: Card::default(),
-                    manual: &wrong,
-                    facts: &facts,
-                    sources: &sources,
-                },
-                check,
-            )
-            .is_empty()
-            {
+            if one(&Context { card: Card::default(), manual: &wrong, facts: &facts, sources: &sources }, check).is_empty() {
                 missed += 1;
                 println!("not noticed: {what}");
             }
@@ -177,50 +148,27 @@ fn compare(root: &Path, faults: bool) -> Result<bool, String> {
         let facts = self::facts(&card, &sources);
         for check in CHECKS.iter().filter(|check| check.section == section) {
             altered += 1;
-            if one(
-                &Context {
-                    card,
-                    manual: &manual,
-                    facts: &facts,
-                    sources: &sources,
-                },
-                check,
-            )
-            .is_empty()
-            {
+            if one(&Context { card, manual: &manual, facts: &facts, sources: &sources }, check).is_empty() {
                 missed += 1;
                 println!("not noticed: {fault:?} by Manual {section}");
             }
         }
     }
-    println!(
-        "{altered} faults in {} tables and {} kinds of answers, {missed} not noticed",
-        CHECKS.len(),
-        FAULTS.len()
-    );
+    println!("{altered} faults in {} tables and {} kinds of answers, {missed} not noticed", CHECKS.len(), FAULTS.len());
     Ok(right.is_empty() && missed == 0)
 }
 
 fn facts(card: &Card, sources: &Sources) -> Facts {
-    Facts {
-        operations: operations::all(card),
-        registers: block::all(card, sources),
-    }
+    Facts { operations: operations::all(card), registers: block::all(card, sources) }
 }
 
 /// Compares every table, and sees that each is known here.
 fn everything(context: &Context) -> Vec<String> {
-    let mut lines: Vec<String> = CHECKS
-        .iter()
-        .flat_map(|check| one(context, check))
-        .collect();
+    let mut lines: Vec<String> = CHECKS.iter().flat_map(|check| one(context, check)).collect();
     for table in &context.manual.tables {
         let compared = CHECKS.iter().any(|check| check.section == table.section);
         if !compared && !NOT_COMPARED.contains(&table.section.as_str()) {
-            lines.push(format!(
-                "Manual {}: the table is not compared",
-                table.section
-            ));
+            lines.push(format!("Manual {}: the table is not compared", table.section));
         }
     }
     lines
@@ -229,40 +177,21 @@ fn everything(context: &Context) -> Vec<String> {
 /// Compares one table.
 fn one(context: &Context, check: &Check) -> Vec<String> {
     let mut findings = Findings::default();
-    let tables: Vec<&Table> = context
-        .manual
-        .tables
-        .iter()
-        .filter(|t| t.section == check.section)
-        .collect();
+    let tables: Vec<&Table> = context.manual.tables.iter().filter(|t| t.section == check.section).collect();
     match tables[..] {
-        [table] if table.header.join(" | ") != check.header => {
-            findings.table(table, format!("the columns must be {}", check.header))
-        }
-        [table] => match table
-            .rows
-            .iter()
-            .find(|row| row.cells.len() != table.header.len())
-        {
+        [table] if table.header.join(" | ") != check.header => findings.table(table, format!("the columns must be {}", check.header)),
+        [table] => match table.rows.iter().find(|row| row.cells.len() != table.header.len()) {
             Some(row) => findings.row(table, row, "not as many cells as columns"),
             None => (check.run)(context, table, &mut findings),
         },
-        _ => findings.lines.push(format!(
-            "Manual {}: {} tables, and there must be one",
-            check.section,
-            tables.len()
-        )),
+        _ => findings.lines.push(format!("Manual {}: {} tables, and there must be one", check.section, tables.len())),
     }
     findings.lines
 }
 
 /// Copies of the manual with one number of a table another, or without one of its rows.
 fn alterations(manual: &Manual, check: &Check) -> Vec<(String, Manual)> {
-    let Some(place) = manual
-        .tables
-        .iter()
-        .position(|t| t.section == check.section)
-    else {
+    let Some(place) = manual.tables.iter().position(|t| t.section == check.section) else {
         return Vec::new();
     };
     let table = &manual.tables[place];
@@ -271,10 +200,7 @@ fn alterations(manual: &Manual, check: &Check) -> Vec<(String, Manual)> {
         if check.section != EXAMPLES {
             let mut without = manual.clone();
             without.tables[place].rows.remove(index);
-            all.push((
-                format!("Manual {} without line {}", check.section, row.line),
-                without,
-            ));
+            all.push((format!("Manual {} without line {}", check.section, row.line), without));
         }
         for (column, cell) in row.cells.iter().enumerate() {
             if check.free.contains(&table.header[column].as_str()) {
@@ -283,13 +209,7 @@ fn alterations(manual: &Manual, check: &Check) -> Vec<(String, Manual)> {
             for other in altered(cell) {
                 let mut wrong = manual.clone();
                 wrong.tables[place].rows[index].cells[column] = other.clone();
-                all.push((
-                    format!(
-                        "Manual {}, line {}: {cell} as {other}",
-                        check.section, row.line
-                    ),
-                    wrong,
-                ));
+                all.push((format!("Manual {}, line {}: {cell} as {other}", check.section, row.line), wrong));
             }
         }
     }
@@ -306,14 +226,8 @@ fn altered(cell: &str) -> Vec<String> {
     while i < letters.len() {
         let run = (i..letters.len()).take_while(|&k| hexadecimal(k)).count();
         let fresh = i == 0 || !letters[i - 1].is_alphanumeric();
-        let decimal = (i..letters.len())
-            .take_while(|&k| letters[k].is_ascii_digit())
-            .count();
-        let length = if fresh && run > 0 && at(i + run) == 'h' {
-            run
-        } else {
-            decimal
-        };
+        let decimal = (i..letters.len()).take_while(|&k| letters[k].is_ascii_digit()).count();
+        let length = if fresh && run > 0 && at(i + run) == 'h' { run } else { decimal };
         if length == 0 {
             i += 1;
             continue;

@@ -50,16 +50,9 @@ impl Manual {
                 inside = false;
             } else if !inside {
                 inside = true;
-                tables.push(Table {
-                    section: section.clone(),
-                    header: cells(line),
-                    rows: Vec::new(),
-                });
+                tables.push(Table { section: section.clone(), header: cells(line), rows: Vec::new() });
             } else if !line.starts_with("|---") {
-                let row = Row {
-                    line: index + 1,
-                    cells: cells(line),
-                };
+                let row = Row { line: index + 1, cells: cells(line) };
                 tables.last_mut().expect("inside a table").rows.push(row);
             }
         }
@@ -80,29 +73,15 @@ fn cells(line: &str) -> Vec<String> {
 
 fn plain(cell: &str) -> String {
     let letters: Vec<char> = cell.replace('−', "-").chars().collect();
-    let digits = |from: usize| {
-        letters[from..]
-            .iter()
-            .take_while(|c| c.is_ascii_digit())
-            .count()
-    };
-    let inside = |i: usize| {
-        letters[i] == ',' && i > 0 && letters[i - 1].is_ascii_digit() && digits(i + 1) == 3
-    };
-    (0..letters.len())
-        .filter(|&i| !inside(i))
-        .map(|i| letters[i])
-        .collect()
+    let digits = |from: usize| letters[from..].iter().take_while(|c| c.is_ascii_digit()).count();
+    let inside = |i: usize| letters[i] == ',' && i > 0 && letters[i - 1].is_ascii_digit() && digits(i + 1) == 3;
+    (0..letters.len()).filter(|&i| !inside(i)).map(|i| letters[i]).collect()
 }
 
 /// The numbers "1", "1 to 3", "1, 2 and 5 to 7" name; nothing where it is no such list.
 pub fn numbers(list: &str) -> Option<Vec<u32>> {
     let mut all = Vec::new();
-    for part in list
-        .replace(" and ", ", ")
-        .replace(" or ", ", ")
-        .split(", ")
-    {
+    for part in list.replace(" and ", ", ").replace(" or ", ", ").split(", ") {
         match part.split_once(" to ") {
             Some((a, b)) => all.extend(number(a)?..=number(b)?),
             None => all.push(number(part)?),
@@ -117,10 +96,7 @@ pub fn number(text: &str) -> Option<u32> {
 }
 
 fn long_number(text: &str) -> Option<u64> {
-    let digits = |text: &str| {
-        text.chars()
-            .all(|c| c.is_ascii_digit() || ('A'..='F').contains(&c))
-    };
+    let digits = |text: &str| text.chars().all(|c| c.is_ascii_digit() || ('A'..='F').contains(&c));
     match text.strip_suffix('h') {
         Some(hex) if digits(hex) => u64::from_str_radix(hex, 16).ok(),
         _ => text.parse().ok(),
@@ -133,10 +109,7 @@ pub fn template(text: &str) -> (String, Vec<u64>) {
     let (mut shape, mut found, mut i) = (String::new(), Vec::new(), 0);
     while i < letters.len() {
         let fresh = i == 0 || !(letters[i - 1].is_alphanumeric() || letters[i - 1] == '_');
-        let length = letters[i..]
-            .iter()
-            .take_while(|c| c.is_ascii_alphanumeric())
-            .count();
+        let length = letters[i..].iter().take_while(|c| c.is_ascii_alphanumeric()).count();
         let token: String = letters[i..i + length].iter().collect();
         match long_number(&token) {
             Some(value) if fresh => {

@@ -24,10 +24,7 @@ impl Operand {
                 _ => pieces.push((place, place)),
             }
         }
-        let pieces: Vec<String> = pieces
-            .iter()
-            .map(|(high, low)| format!("{high}..{low}"))
-            .collect();
+        let pieces: Vec<String> = pieces.iter().map(|(high, low)| format!("{high}..{low}")).collect();
         pieces.join(" above ")
     }
 }
@@ -72,28 +69,16 @@ pub fn end_of(card: &Card, given: &Given) -> Option<End> {
 /// One step in super user mode of 32-bit or 16-bit words, nothing protected, NO_CODE.
 pub fn plain(wide: bool) -> Given {
     let mut image = Card::default().reset();
-    image
-        .set(PSR, if wide { 8 } else { 0 })
-        .set_control(EXCEPTION_CS, NO_CODE);
+    image.set(PSR, if wide { 8 } else { 0 }).set_control(EXCEPTION_CS, NO_CODE);
     for (low, high) in [(DMEM_LO, DMEM_HI), (IMEM_LO, IMEM_HI)] {
         image.set_control(low, 1).set_control(high, 0);
     }
-    Given {
-        program: vec![0; 64],
-        cells: vec![0; 32],
-        image,
-        requests: vec![],
-        limit: 1,
-        room: ROOM,
-    }
+    Given { program: vec![0; 64], cells: vec![0; 32], image, requests: vec![], limit: 1, room: ROOM }
 }
 
 /// A word at the front of a program, and others behind it.
 pub fn program(wide: bool, words: &[u32]) -> Vec<u8> {
-    words
-        .iter()
-        .flat_map(|&word| bytes_of(wide, word))
-        .collect()
+    words.iter().flat_map(|&word| bytes_of(wide, word)).collect()
 }
 
 /// Numbers that are the same in each run.
@@ -105,15 +90,12 @@ impl Random {
     }
 
     pub fn next(&mut self) -> u32 {
-        self.0 = self
-            .0
-            .wrapping_mul(6364136223846793005)
-            .wrapping_add(1442695040888963407);
+        self.0 = self.0.wrapping_mul(6364136223846793005).wrapping_add(1442695040888963407);
         (self.0 >> 33) as u32 ^ (self.0 >> 13) as u32
     }
 
     pub fn below(&mut self, limit: u32) -> u32 {
-        (u64::from(self.next()) * u64::from(limit) >> 32) as u32
+        ((u64::from(self.next()) * u64::from(limit)) >> 32) as u32
     }
 
     pub fn of<T: Copy>(&mut self, all: &[T]) -> T {
@@ -154,17 +136,10 @@ pub fn text(bytes: &[u8]) -> String {
 }
 
 /// Operands with which the operation is written, 0 or 24 each.
-fn base(
-    card: &Card,
-    number: u32,
-    wide: bool,
-    condition: Option<(u32, u32)>,
-) -> Option<([i32; 4], u32)> {
+fn base(card: &Card, number: u32, wide: bool, condition: Option<(u32, u32)>) -> Option<([i32; 4], u32)> {
     (0..16).find_map(|choice: u32| {
         let operands = [0, 1, 2, 3].map(|k| if choice >> k & 1 == 1 { 24 } else { 0 });
-        card.encode(number, wide, condition, operands)
-            .ok()
-            .map(|word| (operands, word))
+        card.encode(number, wide, condition, operands).ok().map(|word| (operands, word))
     })
 }
 
@@ -177,13 +152,10 @@ fn operands(card: &Card, number: u32, wide: bool) -> Option<Vec<Operand>> {
     };
     let line = card.line(wide, word);
     let shown = text(&line[34..47]);
-    let letters: Vec<char> = shown
-        .split(' ')
-        .map(|s| s.chars().next().unwrap_or(' '))
-        .collect();
+    let letters: Vec<char> = shown.split(' ').map(|s| s.chars().next().unwrap_or(' ')).collect();
     let mut all = Vec::new();
-    for k in 0..4 {
-        let from = i64::from(base[k]);
+    for (k, &from) in base.iter().enumerate() {
+        let from = i64::from(from);
         let most = furthest(|by| with(k, from + by).is_some()) + from;
         let least = from - furthest(|by| with(k, from - by).is_some());
         if most == least {
@@ -193,27 +165,14 @@ fn operands(card: &Card, number: u32, wide: bool) -> Option<Vec<Operand>> {
         let width = 64 - (most - least).leading_zeros();
         let mut places = Vec::new();
         for bit in 0..width {
-            let value = if least < 0 && bit == width - 1 {
-                least
-            } else {
-                least.max(0) + (1 << bit)
-            };
+            let value = if least < 0 && bit == width - 1 { least } else { least.max(0) + (1 << bit) };
             let differ = with(k, value)? ^ number << if wide { 26 } else { 10 };
             if differ.count_ones() == 1 {
                 places.push(differ.trailing_zeros());
             }
         }
-        let letter = letters
-            .get(k)
-            .copied()
-            .filter(|c| c.is_ascii_uppercase())
-            .unwrap_or(' ');
-        all.push(Operand {
-            letter,
-            places,
-            least,
-            most,
-        });
+        let letter = letters.get(k).copied().filter(|c| c.is_ascii_uppercase()).unwrap_or(' ');
+        all.push(Operand { letter, places, least, most });
     }
     Some(all)
 }
@@ -258,9 +217,7 @@ fn nops(card: &Card, number: u32) -> u32 {
             given.image = given.image.stacked(&[[3, 4, 8, 0]], [0, 0]);
             end_of(card, &given)
         };
-        (0..5)
-            .find(|&nops| with(nops) != Some(End::Stop(20)))
-            .unwrap_or(5) as u32
+        (0..5).find(|&nops| with(nops) != Some(End::Stop(20))).unwrap_or(5) as u32
     };
     assert_eq!(needed(false), needed(true), "nops of operation {number}");
     needed(true)
@@ -282,35 +239,14 @@ fn ends(card: &Card, number: u32) -> BTreeSet<End> {
         let mut words = vec![0; 8];
         words.push(number << shift | field & ((1 << shift) - 1));
         for _ in 0..3 {
-            words.push(if random.below(8) == 0 {
-                random.below(64) << shift
-            } else {
-                0
-            });
+            words.push(if random.below(8) == 0 { random.below(64) << shift } else { 0 });
         }
         let mut given = plain(wide);
         let pc = 8 * n;
         given.program = program(wide, &words);
-        given
-            .program
-            .truncate((pc + n + random.below(4 * n)) as usize);
+        given.program.truncate((pc + n + random.below(4 * n)) as usize);
         let image = &mut given.image;
-        let pool = [
-            0,
-            1,
-            2,
-            4,
-            8,
-            31,
-            32,
-            100,
-            0x7FFF_FFFF,
-            0x8000_0000,
-            u32::MAX,
-            0xFFFF_FFFC,
-            0x1_0000,
-            0x1_0018,
-        ];
+        let pool = [0, 1, 2, 4, 8, 31, 32, 100, 0x7FFF_FFFF, 0x8000_0000, u32::MAX, 0xFFFF_FFFC, 0x1_0000, 0x1_0018];
         for k in 0..32 {
             image.set(SET_1 + 4 * k, random.of(&pool));
         }
@@ -320,20 +256,11 @@ fn ends(card: &Card, number: u32) -> BTreeSet<End> {
         for k in 0..8 {
             image.set(CONDITIONS + 4 * k, random.below(8));
         }
-        let modes = if random.below(2) == 0 {
-            1
-        } else {
-            random.below(4) << 1
-        };
+        let modes = if random.below(2) == 0 { 1 } else { random.below(4) << 1 };
         image.set(PSR, modes | if wide { 8 } else { 0 });
         let (lo, hi) = random.of(&[(1, 0), (0, 15), (0, u32::MAX), (100, u32::MAX)]);
         image.set_control(DMEM_LO, lo).set_control(DMEM_HI, hi);
-        let (lo, hi) = random.of(&[
-            (1, 0),
-            (0, pc - 1),
-            (pc + n, u32::MAX),
-            (pc + 2 * n, u32::MAX),
-        ]);
+        let (lo, hi) = random.of(&[(1, 0), (0, pc - 1), (pc + n, u32::MAX), (pc + 2 * n, u32::MAX)]);
         image.set_control(IMEM_LO, lo).set_control(IMEM_HI, hi);
         image.set(PC, pc);
         if random.below(4) == 0 {
@@ -372,26 +299,18 @@ fn flags(card: &Card, number: u32) -> String {
             given.image.set(CONDITIONS + 4 * k, random.below(8));
         }
         for k in 0..32 {
-            given
-                .image
-                .set(SET_1 + 4 * k, random.next() >> random.below(32));
+            given.image.set(SET_1 + 4 * k, random.next() >> random.below(32));
         }
         given.image = given.image.stacked(&[[3, 4, 8, random.below(8)]], [0, 0]);
         let outcome = card.run(&given);
         if outcome.ending == 0 && outcome.image.control(EXCEPTION_CS) == NO_CODE {
-            changed.extend((0..8).filter(|k| {
-                outcome.image.get(CONDITIONS + 4 * k) != given.image.get(CONDITIONS + 4 * k)
-            }));
+            changed.extend((0..8).filter(|k| outcome.image.get(CONDITIONS + 4 * k) != given.image.get(CONDITIONS + 4 * k)));
         }
     }
     match changed.iter().copied().collect::<Vec<_>>()[..] {
         [] => "none".to_string(),
         [5] => "creg".to_string(),
         [0, 1, 2, 3, 4, 5, 6, 7] => "C0 to C7".to_string(),
-        ref some => some
-            .iter()
-            .map(|k| format!("C{k}"))
-            .collect::<Vec<_>>()
-            .join(", "),
+        ref some => some.iter().map(|k| format!("C{k}")).collect::<Vec<_>>().join(", "),
     }
 }

@@ -24,16 +24,8 @@ fn reached(card: &Card, wide: bool, word: u32, leading: bool) -> Vec<usize> {
     }
     let code = program(wide, &words);
     let (_, map) = card.reach(&code, wide, (AT * length) as u32, code.len());
-    let places = map
-        .iter()
-        .enumerate()
-        .filter(|(_, &byte)| byte == 1)
-        .map(|(k, _)| k);
-    places
-        .filter(|&k| k % length == 0)
-        .map(|k| k / length)
-        .filter(|&k| k != AT)
-        .collect()
+    let places = map.iter().enumerate().filter(|(_, &byte)| byte == 1).map(|(k, _)| k);
+    places.filter(|&k| k % length == 0).map(|k| k / length).filter(|&k| k != AT).collect()
 }
 
 /// The target of the word k on.
@@ -44,26 +36,15 @@ fn own(k: usize) -> usize {
 /// 13.1: what each operation reaches, with and without a condition and with both widths of swm.
 pub fn flows(ctx: &Context, table: &Table, findings: &mut Findings) {
     for operation in 0..64 {
-        let about = |row: &&Row| {
-            numbers(table.cell(row, "Operations")).is_some_and(|l| l.contains(&operation))
-        };
+        let about = |row: &&Row| numbers(table.cell(row, "Operations")).is_some_and(|l| l.contains(&operation));
         let rows: Vec<&Row> = table.rows.iter().filter(about).collect();
         let [row] = rows[..] else {
-            findings.table(
-                table,
-                format!("{} rows are about operation {operation}", rows.len()),
-            );
+            findings.table(table, format!("{} rows are about operation {operation}", rows.len()));
             continue;
         };
         for wide in [false, true] {
             for low in 0..4 {
-                flow(
-                    ctx,
-                    table,
-                    row,
-                    findings,
-                    (operation, wide, low & 1 == 1, low >> 1),
-                );
+                flow(ctx, table, row, findings, (operation, wide, low & 1 == 1, low >> 1));
             }
         }
     }
@@ -74,13 +55,7 @@ pub fn flows(ctx: &Context, table: &Table, findings: &mut Findings) {
     }
 }
 
-fn flow(
-    ctx: &Context,
-    table: &Table,
-    row: &Row,
-    findings: &mut Findings,
-    (operation, wide, conditional, low): (u32, bool, bool, u32),
-) {
+fn flow(ctx: &Context, table: &Table, row: &Row, findings: &mut Findings, (operation, wide, conditional, low): (u32, bool, bool, u32)) {
     let immediate = (TARGET - AT - 1) as u32 * if wide { 2 } else { 1 };
     let jump = (36..=37).contains(&operation) || (40..=47).contains(&operation);
     let word = match (wide, jump) {
@@ -101,16 +76,12 @@ fn flow(
         "no" => {}
         _ => return findings.row(table, row, "no target that the test knows"),
     }
-    let (Some(on), Some(slots)) = (
-        number(table.cell(row, "Words on")),
-        number(table.cell(row, "Slots")),
-    ) else {
+    let (Some(on), Some(slots)) = (number(table.cell(row, "Words on")), number(table.cell(row, "Slots"))) else {
         return findings.row(table, row, "no number where one must be");
     };
     let (on, slots) = (on as usize, slots as usize);
     // What is reached in full is said once, and no slot besides.
-    let twice =
-        full.contains(&(AT + on)) || slots > 0 && !conditional && full.contains(&(AT + slots));
+    let twice = full.contains(&(AT + on)) || slots > 0 && !conditional && full.contains(&(AT + slots));
     if on > 0 && (operation != 54 || low & 1 == u32::from(wide)) {
         full.push(AT + on);
     }
@@ -118,10 +89,7 @@ fn flow(
         return findings.row(table, row, "a word is said to be reached twice");
     }
     for leading in [false, true] {
-        let mut right: Vec<usize> = (1..=slots)
-            .map(|k| AT + k)
-            .chain(full.iter().copied())
-            .collect();
+        let mut right: Vec<usize> = (1..=slots).map(|k| AT + k).chain(full.iter().copied()).collect();
         for k in (1..=3).filter(|k| leading && full.contains(&(AT + k))) {
             right.extend([own(k), AT + k + 1]);
         }
@@ -129,11 +97,7 @@ fn flow(
         right.dedup();
         let found = reached(&ctx.card, wide, word, leading);
         if found != right {
-            return findings.row(
-                table,
-                row,
-                format!("operation {operation} ({word:X}h) at word {AT} reaches {found:?}"),
-            );
+            return findings.row(table, row, format!("operation {operation} ({word:X}h) at word {AT} reaches {found:?}"));
         }
     }
 }

@@ -19,26 +19,16 @@ fn code(header: &str) -> String {
 pub fn parameters(ctx: &Context, table: &Table, findings: &mut Findings) {
     let code = code(&ctx.sources.header);
     let mut slices: Vec<[String; 4]> = Vec::new();
-    for declaration in code
-        .split("coffee_")
-        .skip(1)
-        .filter_map(|d| d.split_once('('))
-    {
+    for declaration in code.split("coffee_").skip(1).filter_map(|d| d.split_once('(')) {
         let Some((list, _)) = declaration.1.split_once(");") else {
             continue;
         };
         let list: Vec<&str> = list.split(", ").collect();
         for pair in list.windows(2) {
-            let (Some((kind, name)), Some(count)) =
-                (pair[0].split_once('*'), pair[1].strip_prefix("size_t "))
-            else {
+            let (Some((kind, name)), Some(count)) = (pair[0].split_once('*'), pair[1].strip_prefix("size_t ")) else {
                 continue;
             };
-            let unit = if kind.contains("uint8_t") {
-                "byte"
-            } else {
-                "32-bit number"
-            };
+            let unit = if kind.contains("uint8_t") { "byte" } else { "32-bit number" };
             let written = if kind.contains("const") { "no" } else { "yes" };
             let slice = [name, count, unit, written].map(str::to_string);
             if !slices.contains(&slice) {
@@ -57,24 +47,13 @@ pub fn parameters(ctx: &Context, table: &Table, findings: &mut Findings) {
 
 /// 14.2: the constants, all that the header defines.
 pub fn constants(ctx: &Context, table: &Table, findings: &mut Findings) {
-    let constants: Vec<(&str, &str)> = ctx
-        .sources
-        .header
-        .lines()
-        .filter_map(|line| line.strip_prefix("#define ")?.split_once(' '))
-        .collect();
+    let constants: Vec<(&str, &str)> =
+        ctx.sources.header.lines().filter_map(|line| line.strip_prefix("#define ")?.split_once(' ')).collect();
     if findings.rows(table, constants.len()) {
         for (row, (name, value)) in table.rows.iter().zip(constants) {
-            let shifted = value
-                .strip_prefix("(UINT64_C(1) << ")
-                .and_then(|v| v.trim_end_matches(')').parse::<u32>().ok());
+            let shifted = value.strip_prefix("(UINT64_C(1) << ").and_then(|v| v.trim_end_matches(')').parse::<u32>().ok());
             findings.cell(table, row, "Constant", name);
-            findings.cell(
-                table,
-                row,
-                "Value",
-                shifted.map_or(value.to_string(), |by| (1u64 << by).to_string()),
-            );
+            findings.cell(table, row, "Value", shifted.map_or(value.to_string(), |by| (1u64 << by).to_string()));
         }
     }
 }
@@ -87,12 +66,7 @@ fn valued(source: &str, name: &str) -> String {
 
 /// The commands of main.c: name, options, words, least and most.
 fn commands(sources: &Sources) -> Vec<[String; 5]> {
-    let list = sources
-        .commands
-        .split("} commands[] = {")
-        .nth(1)
-        .and_then(|l| l.split("\n};").next())
-        .unwrap_or("");
+    let list = sources.commands.split("} commands[] = {").nth(1).and_then(|l| l.split("\n};").next()).unwrap_or("");
     let entry = |text: &str| {
         let parts: Vec<&str> = text.split('"').collect();
         let options = parts.get(3)?.replace(['[', ']'], "");
@@ -101,18 +75,8 @@ fn commands(sources: &Sources) -> Vec<[String; 5]> {
             "MOST_WORDS" => valued(&sources.limits, "MOST_WORDS"),
             most => most.to_string(),
         };
-        let options = if options.is_empty() {
-            "none"
-        } else {
-            options.trim()
-        };
-        Some([
-            parts[1].to_string(),
-            options.to_string(),
-            parts[5].to_string(),
-            numbers[1].to_string(),
-            most,
-        ])
+        let options = if options.is_empty() { "none" } else { options.trim() };
+        Some([parts[1].to_string(), options.to_string(), parts[5].to_string(), numbers[1].to_string(), most])
     };
     list.split("_command}").filter_map(entry).collect()
 }
@@ -122,10 +86,7 @@ pub fn service(ctx: &Context, table: &Table, findings: &mut Findings) {
     let commands = commands(ctx.sources);
     if findings.rows(table, commands.len()) {
         for (row, command) in table.rows.iter().zip(commands) {
-            for (column, text) in ["Command", "Options", "Words", "Least", "Most"]
-                .iter()
-                .zip(command)
-            {
+            for (column, text) in ["Command", "Options", "Words", "Least", "Most"].iter().zip(command) {
                 findings.cell(table, row, column, text);
             }
         }

@@ -12,13 +12,7 @@ pub fn status(ctx: &Context, table: &Table, findings: &mut Findings) {
     let after = |psr: u32, word: u32| {
         let mut given = plain(true);
         given.program = program(true, &[word, 0, 0]);
-        given
-            .image
-            .set(PSR, psr)
-            .set(SET_1 + 8, 1)
-            .set(SET_2 + 8, 2)
-            .set_control(INT_MASK, 0xFFF)
-            .set_control(0x16, 0);
+        given.image.set(PSR, psr).set(SET_1 + 8, 1).set(SET_2 + 8, 2).set_control(INT_MASK, 0xFFF).set_control(0x16, 0);
         given.requests = vec![1];
         (end_of(&ctx.card, &given), ctx.card.run(&given).image)
     };
@@ -47,36 +41,16 @@ pub fn status(ctx: &Context, table: &Table, findings: &mut Findings) {
     let user = |psr: u32| after(psr, 51 << 26).0 == Some(End::Exception(2));
     let reads = |value: u32| format!("from set {value}");
     let right = [
-        (
-            "UM",
-            bit(&|b| user(8 | alone(b))),
-            "super user mode".into(),
-            "user mode".into(),
-        ),
-        (
-            "RSRD",
-            bit(&|b| b != 0 && source(8 | alone(b)) == 2),
-            format!("sources are read {}", reads(source(8))),
-            reads(source(10)),
-        ),
+        ("UM", bit(&|b| user(8 | alone(b))), "super user mode".into(), "user mode".into()),
+        ("RSRD", bit(&|b| b != 0 && source(8 | alone(b)) == 2), format!("sources are read {}", reads(source(8))), reads(source(10))),
         (
             "RSWR",
             bit(&|b| b != 0 && b != 4 && target(8 | alone(b)) == 2),
             format!("results go to set {}", target(8)),
             format!("to set {}", target(12)),
         ),
-        (
-            "IL",
-            bit(&|b| wide(alone(b)) == 32),
-            format!("words of {} bits", wide(0)),
-            format!("of {} bits", wide(8)),
-        ),
-        (
-            "IE",
-            bit(&|b| accepts(8 | alone(b))),
-            "interrupts are not accepted".into(),
-            "may be accepted".into(),
-        ),
+        ("IL", bit(&|b| wide(alone(b)) == 32), format!("words of {} bits", wide(0)), format!("of {} bits", wide(8))),
+        ("IE", bit(&|b| accepts(8 | alone(b))), "interrupts are not accepted".into(), "may be accepted".into()),
     ];
     if findings.rows(table, right.len()) {
         for (row, (name, bit, zero, one)) in table.rows.iter().zip(right) {
@@ -90,14 +64,7 @@ pub fn status(ctx: &Context, table: &Table, findings: &mut Findings) {
 
 /// The names of an operation's operands in 3.1, in words of a width; nothing where there is no form.
 fn named<'a>(table: &Table, row: &'a Row, wide: bool) -> Option<Vec<&'a str>> {
-    match table.cell(
-        row,
-        if wide {
-            "32-bit operands"
-        } else {
-            "16-bit operands"
-        },
-    ) {
+    match table.cell(row, if wide { "32-bit operands" } else { "16-bit operands" }) {
         "no form" => None,
         "none" => Some(Vec::new()),
         list => Some(list.split(", ").collect()),
@@ -128,9 +95,7 @@ pub fn operands(ctx: &Context, table: &Table, findings: &mut Findings) {
     for (row, operation) in by_operation.rows.iter().zip(&ctx.facts.operations) {
         for wide in [false, true] {
             let names = named(by_operation, row, wide).unwrap_or_default();
-            let shown = operation.operands[usize::from(wide)]
-                .as_deref()
-                .unwrap_or(&[]);
+            let shown = operation.operands[usize::from(wide)].as_deref().unwrap_or(&[]);
             for (name, operand) in names.iter().zip(shown) {
                 let about = |r: &&Row| {
                     table.cell(r, "Operand") == *name
@@ -142,29 +107,15 @@ pub fn operands(ctx: &Context, table: &Table, findings: &mut Findings) {
                     findings.cell(table, one, "Bits", operand.bits());
                     findings.cell(table, one, "Least", operand.least.to_string());
                     findings.cell(table, one, "Most", operand.most.to_string());
-                    uses[table
-                        .rows
-                        .iter()
-                        .position(|r| r.line == one.line)
-                        .unwrap_or(0)] += 1;
+                    uses[table.rows.iter().position(|r| r.line == one.line).unwrap_or(0)] += 1;
                 } else {
-                    findings.table(
-                        table,
-                        format!(
-                            "{} rows say where {name} of operation {} stands",
-                            found.len(),
-                            operation.number
-                        ),
-                    );
+                    findings.table(table, format!("{} rows say where {name} of operation {} stands", found.len(), operation.number));
                 }
             }
         }
     }
     for (row, uses) in table.rows.iter().zip(uses) {
-        let listed = numbers(table.cell(row, "Operations"))
-            .unwrap_or_default()
-            .len()
-            * widths(table.cell(row, "Words")).len();
+        let listed = numbers(table.cell(row, "Operations")).unwrap_or_default().len() * widths(table.cell(row, "Words")).len();
         if uses == 0 || uses < listed {
             findings.row(table, row, "names operations that have no such operand");
         }
@@ -177,21 +128,10 @@ pub fn conditions(ctx: &Context, table: &Table, findings: &mut Findings) {
         return;
     }
     for (condition, row) in (0u32..).zip(&table.rows) {
-        let mov = ctx
-            .card
-            .encode(29, true, Some((2, condition)), [1, 2, 0, 0])
-            .unwrap_or(0);
-        let branch = ctx
-            .card
-            .encode(40 + condition, true, None, [2, 4, 0, 0])
-            .unwrap_or(0);
+        let mov = ctx.card.encode(29, true, Some((2, condition)), [1, 2, 0, 0]).unwrap_or(0);
+        let branch = ctx.card.encode(40 + condition, true, None, [2, 4, 0, 0]).unwrap_or(0);
         findings.cell(table, row, "No.", condition.to_string());
-        findings.cell(
-            table,
-            row,
-            "Condition",
-            text(&ctx.card.line(true, mov)[18..24]).trim_end_matches(" C2"),
-        );
+        findings.cell(table, row, "Condition", text(&ctx.card.line(true, mov)[18..24]).trim_end_matches(" C2"));
         for flags in 0..8 {
             let run = |word: u32| {
                 let mut given = plain(true);
@@ -202,13 +142,7 @@ pub fn conditions(ctx: &Context, table: &Table, findings: &mut Findings) {
             let executed = [run(mov).get(SET_1 + 4) == 9, run(branch).get(SLOT) == 1];
             let holds = formula(table.cell(row, "Holds if"), flags);
             if executed.iter().any(|&e| Some(e) != holds) {
-                findings.row(
-                    table,
-                    row,
-                    format!(
-                        "with flags {flags} the word is executed, the branch taken: {executed:?}"
-                    ),
-                );
+                findings.row(table, row, format!("with flags {flags} the word is executed, the branch taken: {executed:?}"));
             }
         }
     }
@@ -245,11 +179,8 @@ fn name_of<'a>(table: &'a Table, wide: bool, operation: u32, operand: &Operand) 
     match rows[..] {
         [one] => {
             let name = table.cell(one, "Operand");
-            let bits = name
-                .strip_prefix("imm")
-                .map(|n| n.trim_end_matches(" (signed)").parse());
-            let right = bits.is_none_or(|b| b == Ok(operand.places.len()))
-                && name.ends_with(" (signed)") == (operand.least < 0);
+            let bits = name.strip_prefix("imm").map(|n| n.trim_end_matches(" (signed)").parse());
+            let right = bits.is_none_or(|b| b == Ok(operand.places.len())) && name.ends_with(" (signed)") == (operand.least < 0);
             if right {
                 name
             } else {
@@ -281,9 +212,7 @@ const ORDER: [End; 13] = [
 fn ends(found: &std::collections::BTreeSet<End>) -> String {
     let mut all: Vec<End> = found.iter().copied().collect();
     all.sort_by_key(|end| ORDER.iter().position(|o| o == end).unwrap_or(ORDER.len()));
-    let traps = (0xE0..=0xFF)
-        .filter(|&code| all.contains(&End::Exception(code)))
-        .count();
+    let traps = (0xE0..=0xFF).filter(|&code| all.contains(&End::Exception(code))).count();
     all.retain(|end| !matches!(end, End::Exception(0xE0..=0xFF)));
     let mut texts: Vec<String> = all
         .iter()
@@ -319,22 +248,11 @@ pub fn operations(ctx: &Context, table: &Table, findings: &mut Findings) {
                 None => "no form".to_string(),
                 Some(shown) if shown.is_empty() => "none".to_string(),
                 Some(shown) => {
-                    let names = shown
-                        .iter()
-                        .map(|o| name_of(places, wide, operation.number, o));
+                    let names = shown.iter().map(|o| name_of(places, wide, operation.number, o));
                     names.collect::<Vec<_>>().join(", ")
                 }
             };
-            findings.cell(
-                table,
-                row,
-                if wide {
-                    "32-bit operands"
-                } else {
-                    "16-bit operands"
-                },
-                names,
-            );
+            findings.cell(table, row, if wide { "32-bit operands" } else { "16-bit operands" }, names);
         }
         findings.cell(table, row, "Flags", &operation.flags);
         findings.cell(table, row, "Conditional", yes(operation.conditional));
@@ -359,35 +277,16 @@ fn worked(ctx: &Context, table: &Table, row: &Row, operation: u32, findings: &mu
         return findings.row(table, row, "Worked word begins with no word");
     };
     let line = ctx.card.line(true, word);
-    let parts = [&line[18..24], &line[25..33], &line[34..47]]
-        .map(text)
-        .join(" ");
+    let parts = [&line[18..24], &line[25..33], &line[34..47]].map(text).join(" ");
     let parts: Vec<&str> = parts.split(' ').filter(|p| !p.is_empty()).collect();
-    findings.cell(
-        table,
-        row,
-        "Worked word",
-        format!("{word:08X}h = {}", parts.join(" ")),
-    );
-    let condition = (word >> 25 & 1 == 1 && ctx.facts.operations[operation as usize].conditional)
-        .then_some((word >> 22 & 7, word >> 19 & 7));
-    let values: Vec<i32> = text(&line[34..47])
-        .split(' ')
-        .filter_map(|o| o.trim_start_matches(['R', 'C']).parse().ok())
-        .collect();
+    findings.cell(table, row, "Worked word", format!("{word:08X}h = {}", parts.join(" ")));
+    let condition =
+        (word >> 25 & 1 == 1 && ctx.facts.operations[operation as usize].conditional).then_some((word >> 22 & 7, word >> 19 & 7));
+    let values: Vec<i32> = text(&line[34..47]).split(' ').filter_map(|o| o.trim_start_matches(['R', 'C']).parse().ok()).collect();
     let value = |k: usize| values.get(k).copied().unwrap_or(0);
-    let written = ctx.card.encode(
-        operation,
-        true,
-        condition,
-        [value(0), value(1), value(2), value(3)],
-    );
+    let written = ctx.card.encode(operation, true, condition, [value(0), value(1), value(2), value(3)]);
     if written != Ok(word) {
-        findings.row(
-            table,
-            row,
-            format!("Worked word is written as {written:X?}"),
-        );
+        findings.row(table, row, format!("Worked word is written as {written:X?}"));
     }
 }
 
@@ -398,12 +297,7 @@ pub fn line(ctx: &Context, table: &Table, findings: &mut Findings) {
     }
     let mut random = Random::new(11);
     let mut sample: Vec<(bool, u32)> = (0..400).map(|k| (k % 2 == 0, random.next())).collect();
-    sample.extend([
-        (true, 0x07C8_7FDD),
-        (true, 0xFDFF_FFFF),
-        (true, 13 << 26),
-        (false, 34 << 10),
-    ]);
+    sample.extend([(true, 0x07C8_7FDD), (true, 0xFDFF_FFFF), (true, 13 << 26), (false, 34 << 10)]);
     let mut full = [false; 6];
     for (wide, word) in sample {
         let word = if wide { word } else { word & 0xFFFF };
@@ -456,12 +350,8 @@ pub fn line(ctx: &Context, table: &Table, findings: &mut Findings) {
             };
             let cell = |column: &str| number(table.cell(row, column)).unwrap_or(99) as usize;
             let (from, width) = (cell("Column"), cell("Characters"));
-            let found = line
-                .get(from..from + width)
-                .map(|b| String::from_utf8_lossy(b).to_string());
-            if found != Some(format!("{part:width$}"))
-                || from > 0 && from < 47 && line[from - 1] != b' '
-            {
+            let found = line.get(from..from + width).map(|b| String::from_utf8_lossy(b).to_string());
+            if found != Some(format!("{part:width$}")) || from > 0 && from < 47 && line[from - 1] != b' ' {
                 return findings.row(table, row, format!("the line is '{}'", text(line)));
             }
             full[k] |= part.len() == width;
@@ -481,17 +371,10 @@ pub fn questions(ctx: &Context, table: &Table, findings: &mut Findings) {
     // The values of a written word: the least of each operand.
     let values = |n: u32, wide: bool| {
         let operation = ctx.facts.operations.get(n as usize);
-        let shown = operation
-            .and_then(|o| o.operands[usize::from(wide)].as_deref())
-            .unwrap_or(&[]);
+        let shown = operation.and_then(|o| o.operands[usize::from(wide)].as_deref()).unwrap_or(&[]);
         [0, 1, 2, 3].map(|k| shown.get(k).map_or(0, |o| o.least.max(0) as i32))
     };
-    let asked = |n: u32, wide: bool, condition| {
-        ctx.card
-            .encode(n, wide, condition, values(n, wide))
-            .err()
-            .unwrap_or(0)
-    };
+    let asked = |n: u32, wide: bool, condition| ctx.card.encode(n, wide, condition, values(n, wide)).err().unwrap_or(0);
     let conditional = |n: u32| asked(n, true, Some((0, 0))) == 0;
     for (question, row) in (1u32..).zip(&table.rows) {
         findings.cell(table, row, "Question", question.to_string());
@@ -507,76 +390,46 @@ pub fn questions(ctx: &Context, table: &Table, findings: &mut Findings) {
             }
             (2, "the width is #, and the operation is #, # or #") => {
                 let without = |o: u32| n(0) == 16 && (o == n(1) || o == n(2) || o == n(3));
-                every().all(|(o, wide)| {
-                    asked(o, wide, None) == if !wide && without(o) { refusal } else { 0 }
-                }) && every().all(|(o, wide)| {
-                    !(without(o) && !wide)
-                        || ctx.card.encode(o, wide, None, [-9; 4]) == Err(refusal)
-                })
+                every().all(|(o, wide)| asked(o, wide, None) == if !wide && without(o) { refusal } else { 0 })
+                    && every().all(|(o, wide)| !without(o) || wide || ctx.card.encode(o, wide, None, [-9; 4]) == Err(refusal))
             }
             (3, "the width is #, and a condition is given") => {
-                n(0) == 16
-                    && (0..64)
-                        .all(|o| ctx.card.encode(o, false, Some((9, 9)), [-9; 4]) == Err(refusal))
+                n(0) == 16 && (0..64).all(|o| ctx.card.encode(o, false, Some((9, 9)), [-9; 4]) == Err(refusal))
             }
-            (
-                4,
-                "a condition is given, and the operation is none of # to #, #, #, # and # to #",
-            ) => {
-                let list = when
-                    .split_once("none of ")
-                    .and_then(|(_, list)| numbers(list))
-                    .unwrap_or_default();
+            (4, "a condition is given, and the operation is none of # to #, #, #, # and # to #") => {
+                let list = when.split_once("none of ").and_then(|(_, list)| numbers(list)).unwrap_or_default();
                 (0..64).all(|o| conditional(o) == list.contains(&o))
-                    && (0..64).all(|o| {
-                        conditional(o)
-                            || ctx.card.encode(o, true, Some((9, 9)), [-9; 4]) == Err(refusal)
+                    && (0..64).all(|o| conditional(o) || ctx.card.encode(o, true, Some((9, 9)), [-9; 4]) == Err(refusal))
+            }
+            (5, "the condition's register is above #") => (0..64)
+                .filter(|o| conditional(*o))
+                .all(|o| asked(o, true, Some((n(0), 0))) == 0 && asked(o, true, Some((n(0) + 1, 0))) == refusal),
+            (6, "the condition is above #") => (0..64)
+                .filter(|o| conditional(*o))
+                .all(|o| asked(o, true, Some((0, n(0)))) == 0 && asked(o, true, Some((0, n(0) + 1))) == refusal),
+            (7, "an operand is below its least or above its most number (#.#)") => every().all(|(o, wide)| {
+                let shown = ctx.facts.operations[o as usize].operands[usize::from(wide)].as_deref().unwrap_or(&[]);
+                shown.iter().enumerate().all(|(k, operand)| {
+                    [operand.least - 1, operand.most + 1].iter().all(|&outside| {
+                        let mut all = values(o, wide);
+                        all[k] = outside as i32;
+                        ctx.card.encode(o, wide, None, all) == Err(refusal)
                     })
-            }
-            (5, "the condition's register is above #") => {
-                (0..64).filter(|o| conditional(*o)).all(|o| {
-                    asked(o, true, Some((n(0), 0))) == 0
-                        && asked(o, true, Some((n(0) + 1, 0))) == refusal
                 })
-            }
-            (6, "the condition is above #") => (0..64).filter(|o| conditional(*o)).all(|o| {
-                asked(o, true, Some((0, n(0)))) == 0
-                    && asked(o, true, Some((0, n(0) + 1))) == refusal
             }),
-            (7, "an operand is below its least or above its most number (#.#)") => {
-                every().all(|(o, wide)| {
-                    let shown = ctx.facts.operations[o as usize].operands[usize::from(wide)]
-                        .as_deref()
-                        .unwrap_or(&[]);
-                    shown.iter().enumerate().all(|(k, operand)| {
-                        [operand.least - 1, operand.most + 1]
-                            .iter()
-                            .all(|&outside| {
-                                let mut all = values(o, wide);
-                                all[k] = outside as i32;
-                                ctx.card.encode(o, wide, None, all) == Err(refusal)
-                            })
-                    })
-                })
-            }
-            (8, "an operand that the operation does not have is not #") => {
-                every().all(|(o, wide)| {
-                    let Some(shown) = &ctx.facts.operations[o as usize].operands[usize::from(wide)]
-                    else {
-                        return true;
+            (8, "an operand that the operation does not have is not #") => every().all(|(o, wide)| {
+                let Some(shown) = &ctx.facts.operations[o as usize].operands[usize::from(wide)] else {
+                    return true;
+                };
+                (shown.len()..4).all(|k| {
+                    let with = |value: i32| {
+                        let mut all = values(o, wide);
+                        all[k] = value;
+                        ctx.card.encode(o, wide, None, all)
                     };
-                    (shown.len()..4).all(|k| {
-                        let with = |value: i32| {
-                            let mut all = values(o, wide);
-                            all[k] = value;
-                            ctx.card.encode(o, wide, None, all)
-                        };
-                        with(n(0) as i32).is_ok()
-                            && with(n(0) as i32 + 1) == Err(refusal)
-                            && with(-1) == Err(refusal)
-                    })
+                    with(n(0) as i32).is_ok() && with(n(0) as i32 + 1) == Err(refusal) && with(-1) == Err(refusal)
                 })
-            }
+            }),
             _ => false,
         };
         if !right {
