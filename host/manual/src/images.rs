@@ -6,7 +6,6 @@ use crate::check::{Context, Findings};
 use crate::image::*;
 use crate::manual::{number, numbers, template, Row, Table};
 use crate::operations::plain;
-use crate::steps::stop_numbers;
 
 /// Interrupt stacks of 0, 1 and 12 entries.
 fn stacks() -> Vec<Vec<[u32; 4]>> {
@@ -375,7 +374,7 @@ pub fn calls(ctx: &Context, table: &Table, findings: &mut Findings) {
 
 /// 9.2: each refusal, just beyond the numbers of its row, and none just inside.
 pub fn refusals(ctx: &Context, table: &Table, findings: &mut Findings) {
-    if !findings.rows(table, 16) {
+    if !findings.rows(table, 14) {
         return;
     }
     let card = &ctx.card;
@@ -404,20 +403,25 @@ pub fn refusals(ctx: &Context, table: &Table, findings: &mut Findings) {
         let n: Vec<usize> = n.iter().map(|&n| n.min(2_000_000) as usize).collect();
         // Calls that are refused, and calls that are not.
         let (refused, taken): (Vec<u32>, Vec<u32>) = match (table.cell(row, "Asked by"), shape.as_str()) {
-            ("run", "the program has more than # bytes, or there are more than # cells") => (
-                vec![run(&|g| g.program = vec![0; n[0] + 1]), run(&|g| g.cells = vec![0; n[1] + 1])],
-                vec![run(&|g| g.program = vec![0; n[0]]), run(&|g| g.cells = vec![0; n[1]])],
+            ("run, list, reach", "the program has more than # bytes; in run also: there are more than # cells") => (
+                vec![
+                    run(&|g| g.program = vec![0; n[0] + 1]),
+                    run(&|g| g.cells = vec![0; n[1] + 1]),
+                    limit(n[0] + 1, "list"),
+                    limit(n[0] + 1, "reach"),
+                ],
+                vec![run(&|g| g.program = vec![0; n[0]]), run(&|g| g.cells = vec![0; n[1]]), limit(n[0], "list"), limit(n[0], "reach")],
             ),
-            ("list, reach", "the program has more than # bytes") => {
-                (vec![limit(n[0] + 1, "list"), limit(n[0] + 1, "reach")], vec![limit(n[0], "list"), limit(n[0], "reach")])
-            }
-            ("run", "the image has not length and counts of the present layout") => (
-                vec![refusal(card, &card.reset().cut(516)), refusal(card, &card.reset().cut(527)), image(0, 31)[0], image(516, 1)[0]],
-                vec![refusal(card, &card.reset())],
-            ),
-            ("carry over", "the image has not length and counts of the earlier layout") => (
-                vec![card.carry_over(card.reset().bytes(), ROOM).0, image(132, 31)[1]],
-                vec![card.carry_over(card.reset().cut(516).bytes(), ROOM).0],
+            ("run, carry over", "the image has not length and counts of its layout (#.#): present for run, earlier for carry over") => (
+                vec![
+                    refusal(card, &card.reset().cut(516)),
+                    refusal(card, &card.reset().cut(527)),
+                    image(0, 31)[0],
+                    image(516, 1)[0],
+                    card.carry_over(card.reset().bytes(), ROOM).0,
+                    image(132, 31)[1],
+                ],
+                vec![refusal(card, &card.reset()), card.carry_over(card.reset().cut(516).bytes(), ROOM).0],
             ),
             ("run, carry over", "a number of the image breaks a rule of #.# or #.# that has # beside it")
                 if n[..4] == [8, 1, 8, 2] && n[4] == right as usize =>
@@ -472,19 +476,6 @@ pub fn refusals(ctx: &Context, table: &Table, findings: &mut Findings) {
             findings.row(table, row, format!("such calls are refused with {refused:?}, others with {taken:?}"));
         }
     }
-}
-
-/// 10.1: the stops' numbers.
-pub fn transitions(ctx: &Context, table: &Table, findings: &mut Findings) {
-    let stops = stop_numbers(&ctx.card);
-    let rows = table.rows.iter().filter(|row| {
-        let list = table.cell(row, "Transition").strip_prefix("a stop, ");
-        list.and_then(numbers).is_some_and(|list| list == stops)
-    });
-    if rows.count() != 1 {
-        findings.table(table, format!("the stops are {stops:?}"));
-    }
-    findings.rows(table, 7);
 }
 
 /// 10.2: the offsets and values of the hypotheses.

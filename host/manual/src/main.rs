@@ -22,7 +22,7 @@ use std::path::Path;
 use std::process::ExitCode;
 
 /// The tables that are compared.
-const CHECKS: [Check; 24] = [
+const CHECKS: [Check; 23] = [
     check("1.4", "Bit | Name | 0 | 1", &[], words::status),
     check("2.3", "Operand | Words | Operations | Bits | Least | Most", &[], words::operands),
     check("2.6", "No. | Condition | Holds if", &[], words::conditions),
@@ -37,7 +37,6 @@ const CHECKS: [Check; 24] = [
     check("8.2", "Field | Offset | Rule | Refusal", &[], images::rules),
     check("9.1", "Call | Library | C | Questions in order", &[], images::calls),
     check("9.2", "Refusal | Asked by | When", &[], images::refusals),
-    check("10.1", "Transition | Class", &[], images::transitions),
     check("10.2", "Hypothesis | Field | Offset | Condition", &[], images::hypotheses),
     check("10.3", "Part | After a transition of the segment", &[], images::integrity),
     check("11.1", "Column | Characters | Part", &[], words::line),

@@ -124,15 +124,6 @@ fn stops_of(card: &Card) -> Vec<(&'static str, &'static str, Vec<Option<End>>)> 
     ]
 }
 
-/// "11, 12", of the stops that such steps come to.
-pub fn stop_numbers(card: &Card) -> Vec<u32> {
-    let first = |ends: Vec<Option<End>>| match ends.first() {
-        Some(Some(End::Stop(stop))) => *stop,
-        _ => 0,
-    };
-    stops_of(card).into_iter().map(|(_, _, ends)| first(ends)).collect()
-}
-
 /// 4.10: each stop, by steps that are as the row says.
 pub fn stops(ctx: &Context, table: &Table, findings: &mut Findings) {
     let cases = stops_of(&ctx.card);
