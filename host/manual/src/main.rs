@@ -6,6 +6,7 @@
 mod block;
 mod card;
 mod check;
+mod effects;
 mod image;
 mod images;
 mod manual;
@@ -27,7 +28,7 @@ const CHECKS: [Check; 23] = [
     check("2.3", "Operand | Words | Operations | Bits | Least | Most", &[], words::operands),
     check("2.6", "No. | Condition | Holds if", &[], words::conditions),
     check("3.1", "No. | Mnemonic | 32-bit operands | 16-bit operands | Reads | Writes | Flags | Conditional | Where | Slot | Nops | Ends with | Worked word",
-        &["Reads", "Writes"], words::operations),
+        &[], words::operations),
     check("4.2", "Source | Name | Vector | Priority number", &[], block::interrupts),
     check("4.9", "Code | When", &[], steps::exceptions),
     check("4.10", "Stop | Name | When", &[], steps::stops),

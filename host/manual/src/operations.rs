@@ -1,6 +1,7 @@
 //! What the library says of each operation: its name, its operands and their bits, and what its steps end with.
 
 use crate::card::{bytes_of, Card, Given, ROOM};
+use crate::effects::{self, Effects};
 use crate::image::*;
 use std::collections::BTreeSet;
 
@@ -40,8 +41,7 @@ pub struct Operation {
     pub not_user: bool,
     pub slot: bool,
     pub nops: u32,
-    /// The condition registers that it writes.
-    pub flags: String,
+    pub effects: Effects,
     pub ends: BTreeSet<End>,
 }
 
@@ -125,7 +125,7 @@ fn operation(card: &Card, number: u32) -> Operation {
         not_user: refused(false, true) && refused(true, true),
         slot: leaves_slot(card, number),
         nops: nops(card, number),
-        flags: flags(card, number),
+        effects: effects::of(card, number),
         ends: ends(card, number),
         operands,
     }
@@ -275,42 +275,4 @@ fn ends(card: &Card, number: u32) -> BTreeSet<End> {
         found.extend(end_of(card, &given));
     }
     found
-}
-
-/// The condition registers that it changes, in 32-bit words that name C5.
-fn flags(card: &Card, number: u32) -> String {
-    let mut random = Random::new(u64::from(number) + 77);
-    let mut changed = BTreeSet::new();
-    let Some(shown) = operands(card, number, true) else {
-        return String::new();
-    };
-    for _ in 0..60 {
-        let values = [0, 1, 2, 3].map(|k| match shown.get(k) {
-            Some(o) if o.letter == 'C' => 5,
-            Some(o) if o.letter == 'R' => 1 + k as i32,
-            _ => 0,
-        });
-        let Ok(word) = card.encode(number, true, None, values) else {
-            return String::new();
-        };
-        let mut given = plain(true);
-        given.program = program(true, &[word, 0, 0, 0]);
-        for k in 0..8 {
-            given.image.set(CONDITIONS + 4 * k, random.below(8));
-        }
-        for k in 0..32 {
-            given.image.set(SET_1 + 4 * k, random.next() >> random.below(32));
-        }
-        given.image = given.image.stacked(&[[3, 4, 8, random.below(8)]], [0, 0]);
-        let outcome = card.run(&given);
-        if outcome.ending == 0 && outcome.image.control(EXCEPTION_CS) == NO_CODE {
-            changed.extend((0..8).filter(|k| outcome.image.get(CONDITIONS + 4 * k) != given.image.get(CONDITIONS + 4 * k)));
-        }
-    }
-    match changed.iter().copied().collect::<Vec<_>>()[..] {
-        [] => "none".to_string(),
-        [5] => "creg".to_string(),
-        [0, 1, 2, 3, 4, 5, 6, 7] => "C0 to C7".to_string(),
-        ref some => some.iter().map(|k| format!("C{k}")).collect::<Vec<_>>().join(", "),
-    }
 }

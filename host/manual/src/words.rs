@@ -2,6 +2,7 @@
 
 use crate::card::bytes_of;
 use crate::check::{Context, Findings};
+use crate::effects::parts;
 use crate::image::*;
 use crate::manual::{number, numbers, template, Row, Table};
 use crate::operations::{end_of, plain, program, text, End, Operand, Random};
@@ -254,7 +255,13 @@ pub fn operations(ctx: &Context, table: &Table, findings: &mut Findings) {
             };
             findings.cell(table, row, if wide { "32-bit operands" } else { "16-bit operands" }, names);
         }
-        findings.cell(table, row, "Flags", &operation.flags);
+        for (column, right) in [("Reads", &operation.effects.reads), ("Writes", &operation.effects.writes)] {
+            if parts(table.cell(row, column)) != *right {
+                findings.row(table, row, format!("{column} must have {right:?}"));
+            }
+        }
+        let flags = operation.effects.writes.iter().find(|part| part.starts_with('C') || *part == "creg");
+        findings.cell(table, row, "Flags", flags.map_or("none", |flags| flags));
         findings.cell(table, row, "Conditional", yes(operation.conditional));
         let place = match (operation.not_narrow, operation.not_user) {
             (false, false) => "everywhere",
