@@ -6,6 +6,7 @@ use crate::manual::{Manual, Row, Table};
 use crate::operations::Operation;
 
 /// Texts beside the library that tables are compared with.
+#[derive(Clone)]
 pub struct Sources {
     /// include/coffee.h
     pub header: String,
@@ -24,6 +25,7 @@ pub struct Facts {
     pub registers: Vec<Register>,
 }
 
+#[derive(Clone, Copy)]
 pub struct Context<'a> {
     pub card: Card,
     pub manual: &'a Manual,

@@ -73,6 +73,15 @@ const FAULTS: [(Fault, &str); 12] = [
     (Fault::Map(20), "13.1"),
 ];
 
+/// Texts beside the library, the lines in them whose numbers are altered, and a table that must notice.
+type Text = fn(&mut Sources) -> &mut String;
+const NUMBERS: [(Text, &str, &str); 4] = [
+    (|sources| &mut sources.header, "#define COFFEE_", "14.2"),
+    (|sources| &mut sources.header, "_bytes", "14.1"),
+    (|sources| &mut sources.limits, "MOST_WORDS = ", "15.3"),
+    (|sources| &mut sources.statuses, " = ", "15.4"),
+];
+
 const fn check(
     section: &'static str,
     header: &'static str,
@@ -117,45 +126,61 @@ fn compare(root: &Path, faults: bool) -> Result<bool, String> {
         control: read("crates/machine/specs/Control.antt")?,
     };
     let facts = facts(&Card::default(), &sources);
-    let right = everything(&Context { card: Card::default(), manual: &manual, facts: &facts, sources: &sources });
+    let context = Context { card: Card::default(), manual: &manual, facts: &facts, sources: &sources };
+    let right = everything(&context);
     for line in &right {
         println!("{line}");
     }
-    let rows: usize =
-        CHECKS.iter().map(|check| manual.tables.iter().filter(|t| t.section == check.section).map(|t| t.rows.len()).sum::<usize>()).sum();
-    if !faults {
-        println!(
-            "{} tables with {rows} rows compared, {} not (sections {}), {} differences",
-            CHECKS.len(),
-            NOT_COMPARED.len(),
-            NOT_COMPARED.join(", "),
-            right.len()
-        );
-        return Ok(right.is_empty());
-    }
+    Ok(right.is_empty() && if faults { alter(&context) } else { tell(&manual) })
+}
+
+/// Says how much is compared.
+fn tell(manual: &Manual) -> bool {
+    let compared = |table: &&Table| CHECKS.iter().any(|check| check.section == table.section);
+    let rows: usize = manual.tables.iter().filter(compared).map(|table| table.rows.len()).sum();
+    let free = |check: &Check| check.free.iter().map(|column| format!("{column} of {}", check.section)).collect::<Vec<_>>();
+    let columns: Vec<String> = CHECKS.iter().filter(|check| check.section != EXAMPLES).flat_map(free).collect();
+    println!("not compared: the tables of {}; the columns {}", NOT_COMPARED.join(", "), columns.join(", "));
+    println!("manual: {} tables with {rows} rows compared, no difference", CHECKS.len());
+    true
+}
+
+/// Sees that each number that is another, on either side, makes a difference.
+fn alter(right: &Context) -> bool {
     let (mut altered, mut missed) = (0, 0);
+    let mut see = |context: &Context, check: &Check, what: &str| {
+        altered += 1;
+        if one(context, check).is_empty() {
+            missed += 1;
+            println!("not noticed: {what}");
+        }
+    };
     for check in &CHECKS {
-        for (what, wrong) in alterations(&manual, check) {
-            altered += 1;
-            if one(&Context { card: Card::default(), manual: &wrong, facts: &facts, sources: &sources }, check).is_empty() {
-                missed += 1;
-                println!("not noticed: {what}");
-            }
+        for (what, wrong) in alterations(right.manual, check) {
+            see(&Context { manual: &wrong, ..*right }, check, &what);
         }
     }
     for (fault, section) in FAULTS {
         let card = Card { fault: Some(fault) };
-        let facts = self::facts(&card, &sources);
+        let facts = facts(&card, right.sources);
         for check in CHECKS.iter().filter(|check| check.section == section) {
-            altered += 1;
-            if one(&Context { card, manual: &manual, facts: &facts, sources: &sources }, check).is_empty() {
-                missed += 1;
-                println!("not noticed: {fault:?} by Manual {section}");
+            see(&Context { card, facts: &facts, ..*right }, check, &format!("{fault:?} by Manual {section}"));
+        }
+    }
+    for (text, mark, section) in NUMBERS {
+        let mut sources = right.sources.clone();
+        let source = text(&mut sources).clone();
+        for line in source.lines().filter(|line| line.contains(mark)) {
+            for other in numbers_altered(line) {
+                *text(&mut sources) = source.replace(line, &other);
+                for check in CHECKS.iter().filter(|check| check.section == section) {
+                    see(&Context { sources: &sources, ..*right }, check, &other);
+                }
             }
         }
     }
-    println!("{altered} faults in {} tables and {} kinds of answers, {missed} not noticed", CHECKS.len(), FAULTS.len());
-    Ok(right.is_empty() && missed == 0)
+    println!("manual: {altered} faults in {} tables and on the library's side, {missed} not noticed", CHECKS.len());
+    missed == 0
 }
 
 fn facts(card: &Card, sources: &Sources) -> Facts {
@@ -206,7 +231,7 @@ fn alterations(manual: &Manual, check: &Check) -> Vec<(String, Manual)> {
             if check.free.contains(&table.header[column].as_str()) {
                 continue;
             }
-            for other in altered(cell) {
+            for other in numbers_altered(cell) {
                 let mut wrong = manual.clone();
                 wrong.tables[place].rows[index].cells[column] = other.clone();
                 all.push((format!("Manual {}, line {}: {cell} as {other}", check.section, row.line), wrong));
@@ -217,7 +242,7 @@ fn alterations(manual: &Manual, check: &Check) -> Vec<(String, Manual)> {
 }
 
 /// The text with the last digit of one number another, for each number; references to sections stay.
-fn altered(cell: &str) -> Vec<String> {
+fn numbers_altered(cell: &str) -> Vec<String> {
     let letters: Vec<char> = cell.chars().collect();
     let hexadecimal = |i: usize| letters[i].is_ascii_digit() || ('A'..='F').contains(&letters[i]);
     let at = |i: usize| letters.get(i).copied().unwrap_or(' ');

@@ -29,11 +29,13 @@ impl Table {
 #[derive(Clone)]
 pub struct Manual {
     pub tables: Vec<Table>,
+    /// The lines of code, of all sections.
+    pub code: String,
 }
 
 impl Manual {
     pub fn read(text: &str) -> Manual {
-        let mut tables: Vec<Table> = Vec::new();
+        let (mut tables, mut code): (Vec<Table>, String) = Default::default();
         let (mut section, mut inside, mut drawn) = (String::new(), false, false);
         for (index, line) in text.lines().enumerate() {
             if line.starts_with("```") {
@@ -46,6 +48,9 @@ impl Manual {
                 let title = line.trim_start_matches('#').trim();
                 section = title.split(' ').next().unwrap_or("").to_string();
             }
+            if line.starts_with("    ") {
+                code.push_str(line);
+            }
             if !line.starts_with('|') {
                 inside = false;
             } else if !inside {
@@ -56,7 +61,7 @@ impl Manual {
                 tables.last_mut().expect("inside a table").rows.push(row);
             }
         }
-        Manual { tables }
+        Manual { tables, code }
     }
 
     pub fn table(&self, section: &str) -> &Table {

@@ -36,6 +36,14 @@ pub fn parameters(ctx: &Context, table: &Table, findings: &mut Findings) {
             }
         }
     }
+    let dense = |text: &str| text.split_whitespace().collect::<String>();
+    let declared = dense(&ctx.manual.code);
+    for declaration in code.split(';').filter(|d| d.contains("coffee_") && d.ends_with(')')) {
+        let declaration = dense(declaration.rsplit('}').next().unwrap_or(""));
+        if !declared.contains(&declaration) {
+            findings.table(table, format!("does not have '{declaration};'"));
+        }
+    }
     if findings.rows(table, slices.len()) {
         for (row, slice) in table.rows.iter().zip(&slices) {
             for (column, text) in ["Parameter", "Count", "Unit", "Written"].iter().zip(slice) {
