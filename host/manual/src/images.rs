@@ -473,7 +473,7 @@ pub fn refusals(ctx: &Context, table: &Table, findings: &mut Findings) {
             findings.row(table, row, format!("no refusal that the test knows: {shape}"));
         }
         if refused.iter().any(|&r| r != right) || taken.iter().any(|&r| r != 0) {
-            findings.row(table, row, format!("such calls are refused with {refused:?}, others with {taken:?}"));
+            findings.row(table, row, format!("just beyond its numbers the refusals are {refused:?}, just inside {taken:?}"));
         }
     }
 }
