@@ -32,9 +32,10 @@ fn bits(card: &Card, sources: &Sources, register: usize) -> u32 {
     if most > 1 {
         return most;
     }
-    let mark = format!("-- {register:02X}h ");
-    let line = sources.control.lines().find(|line| line.contains(&mark) && line.contains("register constant"));
-    line.and_then(|line| line.split_whitespace().nth(2)?.parse().ok()).unwrap_or(0)
+    let mark = format!("{register:02X}h ");
+    let line = sources.definitions.lines().find(|line| line.contains(&mark) && line.contains(" constant "));
+    let bits = line.and_then(|line| line.split(" constant ").nth(1)?.split(' ').next()?.parse().ok());
+    bits.unwrap_or(0)
 }
 
 /// The bits of a stored value that the register then has, as "31..8"; with an entry on the interrupt stack.

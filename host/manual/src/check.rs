@@ -15,8 +15,8 @@ pub struct Sources {
     pub commands: String,
     pub limits: String,
     pub statuses: String,
-    /// The control registers' definition
-    pub control: String,
+    /// crates/*/specs
+    pub definitions: String,
 }
 
 /// What the library says, found once.

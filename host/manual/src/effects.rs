@@ -60,7 +60,8 @@ fn machine(number: u32, random: &mut Random) -> Given {
         40..=47 => (CREG as u32) << 22 | 2,
         54 => 0,
         63 => 8 << 19 | 5 << 10 | 6 << 5 | 7,
-        _ => (CREG as u32) << 22 & if number == 32 || number == 33 { u32::MAX } else { 0 } | 5 << 10 | 6 << 5 | 7,
+        32 | 33 => (CREG as u32) << 22 | 6 << 5 | 7,
+        _ => 5 << 10 | 6 << 5 | 7,
     };
     let mut given = plain(true);
     given.program = program(true, &[number << 26 | fields, 0, 0, 0]);

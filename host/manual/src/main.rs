@@ -123,7 +123,7 @@ fn compare(root: &Path, faults: bool) -> Result<bool, String> {
         commands: read("host/service/main.c")?,
         limits: read("host/service/commands.h")?,
         statuses: read("host/service/report.h")?,
-        control: read("crates/machine/specs/Control.antt")?,
+        definitions: definitions(&root.join("crates")).map_err(|error| format!("crates: {error}"))?,
     };
     let facts = facts(&Card::default(), &sources);
     let context = Context { card: Card::default(), manual: &manual, facts: &facts, sources: &sources };
@@ -132,6 +132,23 @@ fn compare(root: &Path, faults: bool) -> Result<bool, String> {
         println!("{line}");
     }
     Ok(right.is_empty() && if faults { alter(&context) } else { tell(&manual) })
+}
+
+/// The definitions of all crates, one after another.
+fn definitions(crates: &Path) -> std::io::Result<String> {
+    let mut text = String::new();
+    for folder in std::fs::read_dir(crates)? {
+        let specs = folder?.path().join("specs");
+        if specs.is_dir() {
+            for file in std::fs::read_dir(specs)? {
+                let path = file?.path();
+                if path.is_file() {
+                    text.push_str(&std::fs::read_to_string(path)?);
+                }
+            }
+        }
+    }
+    Ok(text)
 }
 
 /// Says how much is compared.
