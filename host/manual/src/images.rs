@@ -510,24 +510,50 @@ pub fn hypotheses(ctx: &Context, table: &Table, findings: &mut Findings) {
     }
 }
 
+/// "PR0 to PR28, PR30 and PR31", all of set 2 but PSR, and "C0 to C7".
+fn register_lists(ctx: &Context) -> [String; 2] {
+    let (status, reset) = ((PSR - SET_2) / 4, ctx.card.reset());
+    let (last, conditions) = (reset.get(SET_2 - 4) - 1, reset.get(CONDITIONS - 4) - 1);
+    [format!("PR0 to PR{}, PR{} and PR{last}", status - 1, status + 1), format!("C0 to C{conditions}")]
+}
+
 /// 10.3: the numbers of registers.
 pub fn integrity(ctx: &Context, table: &Table, findings: &mut Findings) {
     let names = register_names(ctx.sources);
-    let status = (PSR - SET_2) / 4;
     let named = |name: &str| format!("{name} ({:02X}h)", names.iter().position(|n| n == name).unwrap_or(0));
-    let conditions = ctx.card.reset().get(CONDITIONS - 4) - 1;
+    let [set_2, conditions] = register_lists(ctx);
     let right = [
-        format!("PR0 to PR{}, PR{} and PR{}", status - 1, status + 1, ctx.card.reset().get(SET_2 - 4) - 1),
+        set_2,
         format!("control registers but {}, {} and {}", named("INT_PEND"), named("TMR0_CNT"), named("TMR1_CNT")),
         "the interrupt stack, entries and number".into(),
         "protected cells".into(),
         "bit 0 of PSR".into(),
-        format!("set 1, C0 to C{conditions}, the rest of PSR, position, open cells, INT_PEND, TMR0_CNT, TMR1_CNT, dividers"),
+        format!("set 1, {conditions}, the rest of PSR, position, open cells, INT_PEND, TMR0_CNT, TMR1_CNT, dividers"),
     ];
     if findings.rows(table, right.len()) {
         for (row, right) in table.rows.iter().zip(right) {
             findings.cell(table, row, "Part", right);
         }
         findings.cell(table, &table.rows[4], "After a transition of the segment", "1");
+    }
+}
+
+/// 10.4: the numbers of registers and of the position.
+pub fn confidentiality(ctx: &Context, table: &Table, findings: &mut Findings) {
+    let [set_2, conditions] = register_lists(ctx);
+    let position = match ctx.card.reset().get(PC - 4) {
+        6 => "the position, six numbers",
+        _ => "the position",
+    };
+    if findings.rows(table, 8) {
+        findings.cell(table, &table.rows[0], "Equal at the start", "set 1");
+        findings.cell(table, &table.rows[0], "May differ at the start", set_2);
+        findings.cell(table, &table.rows[1], "Equal at the start", conditions);
+        let all =
+            "every control register but the four bounds, as far as H1, H3 and H4 let it: CCB_BASE, vectors, masks, pending flags, timers";
+        findings.cell(table, &table.rows[1], "May differ at the start", all);
+        findings.cell(table, &table.rows[3], "Equal at the start", position);
+        let entries = "the interrupt stack's entries, and their number where it is not 0";
+        findings.cell(table, &table.rows[6], "May differ at the start", entries);
     }
 }

@@ -23,7 +23,7 @@ use std::path::Path;
 use std::process::ExitCode;
 
 /// The tables that are compared.
-const CHECKS: [Check; 23] = [
+const CHECKS: [Check; 24] = [
     check("1.4", "Bit | Name | 0 | 1", &[], words::status),
     check("2.3", "Operand | Words | Operations | Bits | Least | Most", &[], words::operands),
     check("2.6", "No. | Condition | Holds if", &[], words::conditions),
@@ -40,6 +40,7 @@ const CHECKS: [Check; 23] = [
     check("9.2", "Refusal | Asked by | When", &[], images::refusals),
     check("10.2", "Hypothesis | Field | Offset | Condition", &[], images::hypotheses),
     check("10.3", "Part | After a transition of the segment", &[], images::integrity),
+    check("10.4", "Equal at the start | May differ at the start", &[], images::confidentiality),
     check("11.1", "Column | Characters | Part", &[], words::line),
     check("12.1", "Question | Refusal | When", &[], words::questions),
     check("13.1", "Operations | Next word | Target | Words on | Slots", &[], reach::flows),
@@ -52,7 +53,7 @@ const CHECKS: [Check; 23] = [
 ];
 
 /// The tables that are not: words alone, and examples that the gate proves or runs.
-const NOT_COMPARED: [&str; 3] = ["10.4", "16.2", "Glossary"];
+const NOT_COMPARED: [&str; 2] = ["16.2", "Glossary"];
 
 /// The table that may have fewer rows.
 const EXAMPLES: &str = "16.1";
