@@ -1,8 +1,8 @@
 -- Answers as numbers, for C. Assumes nothing.
-use Rattle.std.specs.Prelude.{List, ℕ, ◌+◌, ◌^◌}
+use Rattle.std.specs.Prelude.{Bool, List, ℕ, ◌+◌, ◌^◌, ℤ}
 use Rattle.machine.specs.Machine.{Memory}
 use Rattle.emulator.specs.Run.{Reply, RefusedWith, RanFor, Outcome}
-use Rattle.encoder.specs.Encode.{Encoding, Encodes, RefusedWith as EncodingRefused}
+use Rattle.encoder.specs.Encode.{Choice, guard_by, Encoding, Encodes, RefusedWith as EncodingRefused}
 use Rattle.coffee.specs.declared.CoffeeAnswer.{CoffeeAnswer}
 
 -- ---- a run call
@@ -26,6 +26,11 @@ abbrev pub in_numbers : Outcome → Shown
 in_numbers o = shown (answer_numbers o.answer) o.buffer o.memory
 
 -- ---- an encoding
+
+-- what a word is to be made from, in numbers; without a condition, creg and condition are no part of it
+abbrev pub choice_by : (operation : ℕ) (conditional : Bool) (creg condition : ℕ) (a b c d : ℤ) → Choice
+choice_by operation conditional creg condition a b c d =
+    record { operation = operation; guard = guard_by conditional creg condition; first = a; second = b; third = c; fourth = d }
 
 -- the word, which has at most 32 bits; or 2 ^ 32 and the refusal's number
 unfoldable pub encoding_number : Encoding → ℕ

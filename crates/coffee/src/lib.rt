@@ -1,31 +1,45 @@
-// The C interface: the calls of the emulator, the listing, the encoder and the search for reachable code, with numbers and slices only.
-// include/coffee.h declares them for C.
+//! The C interface: the calls of the emulator, the listing, the encoder and the search for reachable code, with numbers and slices only
+//! (Manual 14). include/coffee.h declares them for C.
 #![tactic(auto)]
 
 ghost use Rattle.std.specs.Prelude.{◌≡◌, not, eqb};
 ghost use Rattle.isa.specs.Operation.{width_by};
 ghost use Rattle.listing.specs.Listing.{listed, listing_call};
-ghost use Rattle.encoder.specs.Encode.{chosen, encoding_of, encode_of};
+ghost use Rattle.encoder.specs.Encode.{encoding_of, encode_of};
 ghost use Rattle.reach.specs.Call.{mapped, reach_call};
 ghost use Rattle.emulator.specs.Run.{reply_of, run_call};
 ghost use Rattle.emulator.specs.Outcome.{image_outcome};
 ghost use Rattle.emulator.specs.Reset.{reset_call};
 ghost use Rattle.emulator.specs.CarryOver.{carry_over_call};
-ghost use Rattle.coffee.specs.Numbers.{answer_numbers, shown, in_numbers, encoding_number};
+ghost use Rattle.coffee.specs.Numbers.{answer_numbers, shown, in_numbers, encoding_number, choice_by};
 ghost use Rattle.machine.specs.Machine.{memory_of};
+ghost use Rattle.machine.specs.Refusal.{refused_by};
 
 use emulator::Answer;
-use encoder::Encoded;
+use encoder::{Choice, Guard};
+use isa::Width;
+use machine::Refusal;
 
-// What a run call answers, in numbers.
+/// What a run call answers, in numbers.
 #[repr(C)]
 #[derive(Clone, Copy)]
 pub struct CoffeeAnswer {
-    // The number of the first question that is answered no, or 0.
+    /// The number of the first question that is answered no, or 0.
     pub refusal: u32,
+    /// The steps done.
     pub steps: u32,
-    // 0 for the limit, or the number of a stop.
+    /// 0 for the limit, or the number of a stop.
     pub ending: u32,
+}
+
+// What a call that is done or refused answers: 0, or the number of the refusal.
+fn refusal_number(answer: Result<(), Refusal>) -> u32
+    ensures { result ≡ refused_by answer }
+{
+    match answer {
+        Ok(()) => 0,
+        Err(why) => why.number(),
+    }
 }
 
 // An answer in numbers.
@@ -46,7 +60,7 @@ fn numbers(a: Answer) -> CoffeeAnswer
     }
 }
 
-// Runs a machine image for at most `limit` steps.
+/// Runs a machine image for at most `limit` steps.
 #[unsafe(no_mangle)]
 pub extern "C" fn coffee_run(
     program: &[u8],
@@ -61,7 +75,7 @@ pub extern "C" fn coffee_run(
     numbers(emulator::run(program, cells, image, requests, limit, buffer))
 }
 
-// Writes the image of the machine at reset to the buffer's front.
+/// Writes the image of the machine at reset to the buffer's front.
 #[unsafe(no_mangle)]
 pub extern "C" fn coffee_reset(buffer: &mut [u8]) -> u32
     ensures { image_outcome result buffer.new ≡ reset_call buffer.old }
@@ -69,7 +83,7 @@ pub extern "C" fn coffee_reset(buffer: &mut [u8]) -> u32
     emulator::reset(buffer)
 }
 
-// Writes the machine of an image of the earlier layout, with dividers 0, to the buffer's front.
+/// Writes the machine of an image of the earlier layout, with dividers 0, to the buffer's front.
 #[unsafe(no_mangle)]
 pub extern "C" fn coffee_carry_over(image: &[u8], buffer: &mut [u8]) -> u32
     ensures { image_outcome result buffer.new ≡ carry_over_call image.now buffer.old }
@@ -77,25 +91,27 @@ pub extern "C" fn coffee_carry_over(image: &[u8], buffer: &mut [u8]) -> u32
     emulator::carry_over(image, buffer)
 }
 
-// Writes the listing of a program, a line for each instruction word, to the text's front; wide 0 is 16-bit words, any other number 32-bit.
+/// Writes the listing of a program, a line for each instruction word, to the text's front; wide 0 is 16-bit words, any other number 32-bit.
 #[unsafe(no_mangle)]
 pub extern "C" fn coffee_listing(program: &[u8], wide: u32, text: &mut [u8]) -> u32
     ensures { listed result text.new ≡ listing_call (width_by (not (eqb wide 0))) program.now text.old }
 {
-    listing::list(program, wide != 0, text)
+    refusal_number(listing::list(program, Width::from(wide != 0), text))
 }
 
 // A word, or 2^32 and the number of a refusal.
-fn encoding_number(e: Encoded) -> u64
-    ensures { result ≡ encoding_number (encoding_of e) }
+#[tactic(auto, unfolding(crate::specs::Numbers::encoding_number, encoder::specs::Encode::encoding_of))]
+fn encoding_number(answer: Result<u32, Refusal>) -> u64
+    ensures { result ≡ encoding_number (encoding_of answer) }
 {
-    match e {
-        Encoded::Word(w) => w as u64,
-        Encoded::Refusal(n) => 0x1_0000_0000 + n as u64,
+    match answer {
+        Ok(word) => u64::from(word),
+        Err(why) => 0x1_0000_0000 + u64::from(why.number()),
     }
 }
 
-// Makes an instruction word from what a listing shows of it; wide 0 is 16-bit words, conditional 0 is no condition.
+/// Makes an instruction word from what a listing shows of it; wide 0 is 16-bit words, conditional 0 is no condition.
+#[tactic(auto, unfolding(crate::specs::Numbers::choice_by, encoder::specs::Encode::guard_by, word::specs::Choice::choices))]
 #[unsafe(no_mangle)]
 pub extern "C" fn coffee_encode(
     operation: u32,
@@ -108,26 +124,26 @@ pub extern "C" fn coffee_encode(
     c: i32,
     d: i32,
 ) -> u64
-    ensures { result ≡ encoding_number (encode_of (width_by (not (eqb wide 0))) (chosen operation (not (eqb conditional 0)) creg condition a b c d)) }
+    ensures { result ≡ encoding_number (encode_of (width_by (not (eqb wide 0))) (choice_by operation (not (eqb conditional 0)) creg condition a b c d)) }
 {
-    encoding_number(encoder::encode(
+    let condition = if conditional != 0 {
+        Some(Guard { creg, condition })
+    } else {
+        None
+    };
+    let choice = Choice {
         operation,
-        wide != 0,
-        conditional != 0,
-        creg,
         condition,
-        a,
-        b,
-        c,
-        d,
-    ))
+        operands: [a, b, c, d],
+    };
+    encoding_number(encoder::encode(Width::from(wide != 0), choice))
 }
 
-// Writes 1 to a map's byte at the address of each word that can be reached from a start address, and 0 to the others over the program's length;
-// wide 0 is 16-bit words, any other number 32-bit.
+/// Writes 1 to a map's byte at the address of each word that can be reached from a start address, and 0 to the others over the program's
+/// length; wide 0 is 16-bit words, any other number 32-bit.
 #[unsafe(no_mangle)]
 pub extern "C" fn coffee_reach(program: &[u8], wide: u32, start: u32, map: &mut [u8]) -> u32
     ensures { mapped result map.new ≡ reach_call (width_by (not (eqb wide 0))) program.now start map.old }
 {
-    reach::reach(program, wide != 0, start, map)
+    refusal_number(reach::reach(program, Width::from(wide != 0), start, map))
 }
