@@ -2,8 +2,8 @@
 use mathlib.Core.Path.{◌≡◌, refl, sym, ap, subst, ◌∙◌}
 use mathlib.Core.Logic.{◌⊎◌, inl, inr, ◌≢◌, ◌↔◌}
 use mathlib.Core.Bool.{true, and-false}
-use mathlib.Core.List.{List}
-use Prim.Native.Nat.{ℕ, ◌+◌, ◌%◌, ◌<◌}
+use mathlib.Core.List.{List, ◌++◌}
+use Prim.Native.Nat.{ℕ, ◌+◌, ◌%◌, ◌≤◌, ◌<◌}
 use native.Mathlib.Omega.{arith}
 use lib.Dec.{leb, eqb}
 use lib.ListN.{length, get_or, drop, get_or-append}
@@ -127,9 +127,12 @@ exactly width program start map =
       },
     ))
 
--- the same of a map that is known to be the call's
-pub marked : (width : Width) (program : List ℕ) (start : ℕ) (map after : List ℕ) → mapped 0 after ≡ reach_call width program start map
-    → Mappable width program start map × Exact width program start map after
-marked width program start map after e =
-    subst (λ (m : Mapped). Mappable width program start map × Exact width program start map m.map) (sym e)
-    (exactly width program start map (ap (λ (m : Mapped). m.answer) (sym e)))
+-- ---- a call that is not refused
+
+module _ (width : Width) (program : List ℕ) (start : ℕ) (map : List ℕ) (size : length program ≤ MOST_MEMORY) (room : length program ≤ length map) (word : is_word width (length program) start ≡ true) where
+  -- the map that it leaves, whose front is what is reached
+  pub marked : (front : List ℕ) → front ≡ reached_map width program start → Exact width program start map (front ++ drop (length program) map)
+  marked front e =
+      let called = mappable width program start map size room word in
+      rw (e, ← (map_length width program start word))
+      (subst (λ (m : Mapped). Exact width program start map m.map) (sym called) (exactly width program start map (ap (λ (m : Mapped). m.answer) (sym called))).1)

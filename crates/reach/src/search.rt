@@ -6,9 +6,8 @@ ghost use Rattle.machine.specs.Machine.{MOST_MEMORY};
 ghost use Rattle.reach.specs.Successors.{is_word, present, successors};
 ghost use Rattle.reach.specs.Search.{visit, visit_all, searched};
 
+use crate::code::Code;
 use crate::queue::Queue;
-use crate::successors::successors;
-use isa::Width;
 
 /// Marks an address that is not marked yet, and queues it.
 fn visit(map: &mut [u8], queue: &mut Queue, b: u32)
@@ -39,18 +38,16 @@ fn visit_all(map: &mut [u8], queue: &mut Queue, words: [Option<u32>; 3])
 }
 
 /// Marks what is reached in full from a start address, in a map of zeros.
-#[tactic(auto, using(crate::proofs::Words::inside, crate::proofs::ProgramSearch::begun, crate::proofs::ProgramSearch::few, crate::proofs::ProgramSearch::next_word, crate::proofs::ProgramSearch::more, crate::proofs::ProgramSearch::ended))]
-pub fn search(program: &[u8], width: Width, start: u32, map: &mut [u8])
-    requires blank { map.old ≡ replicate (length program.now) 0 }
-    requires fits { length program.now ≤ MOST_MEMORY }
-    requires word { is_word width (length program.now) start ≡ true }
-    ensures { map.new ≡ (searched (successors width program.now) (length program.now) start).marks }
+pub fn search(code: Code<'_>, start: u32, map: &mut [u8])
+    requires blank { map.old ≡ replicate (length code.program.now) 0 }
+    requires word { is_word code.width (length code.program.now) start ≡ true }
+    ensures { map.new ≡ (searched (successors code.entry.width code.entry.program.now) (length code.entry.program.now) start).marks }
 {
     let mut queue = Queue::new();
     visit(map, &mut queue, start);
     let mut head = 0;
     while head < queue.len() {
-        let words = successors(program, width, u32::from(queue.at(head)));
+        let words = code.successors(u32::from(queue.at(head)));
         visit_all(map, &mut queue, words);
         head += 1;
     }

@@ -6,8 +6,9 @@ ghost use Rattle.machine.specs.Machine.{MOST_MEMORY};
 ghost use Rattle.reach.specs.Successors.{words_among, next_addresses, slots};
 ghost use Rattle.reach.specs.Search.{mark_all, with_slots_of, with_slots, MarksWords};
 
+use crate::code::Code;
 use crate::successors::{is_word, slot_words};
-use isa::{Operation, Width};
+use isa::Width;
 
 /// Marks an address where there is a word.
 #[tactic(auto, using(crate::proofs::Words::inside, crate::proofs::Marks::mark_word, crate::proofs::Marks::mark_absent))]
@@ -35,28 +36,25 @@ fn mark_next(map: &mut [u8], width: Width, a: u32, count: u32)
 
 /// Marks the slots of the word at an address, if it is marked.
 #[tactic(auto, using(crate::proofs::Flows::slot_few, crate::proofs::Words::wholly), unfolding(word::specs::Choice::choices, crate::specs::Search::with_slots_of, crate::specs::Successors::slots, isa::specs::Decode::decode, isa::specs::Decode::assembled))]
-fn mark_slots_at(program: &[u8], width: Width, map: &mut [u8], a: usize)
+fn mark_slots_at(code: Code<'_>, map: &mut [u8], a: usize)
     requires there { a < length map.old }
-    requires sized { length map.old ≡ length program.now }
-    requires fits { length program.now ≤ MOST_MEMORY }
-    requires words { MarksWords width (length program.now) map.old }
-    ensures { map.new ≡ with_slots_of (slots width program.now) a map.old }
+    requires sized { length map.old ≡ length code.program.now }
+    requires words { MarksWords code.width (length code.program.now) map.old }
+    ensures { map.new ≡ with_slots_of (slots code.entry.width code.entry.program.now) a map.old }
 {
     if map[a] == 1 {
-        let operation = Operation::from_number(width.opcode(width.word_at(program, a)));
-        mark_next(map, width, a as u32, slot_words(operation));
+        mark_next(map, code.width, a as u32, slot_words(code.operation(a)));
     }
 }
 
 /// Marks the slots of what is marked, from the highest address down, so that a mark made here is never looked at.
 #[tactic(auto, using(crate::proofs::Marks::slots_keep_words, crate::proofs::Marks::slots_next, crate::proofs::Marks::slots_none))]
-pub fn mark_slots(program: &[u8], width: Width, map: &mut [u8])
-    requires sized { length map.old ≡ length program.now }
-    requires fits { length program.now ≤ MOST_MEMORY }
-    requires words { MarksWords width (length program.now) map.old }
-    ensures { map.new ≡ with_slots (slots width program.now) (length map.old) map.old }
+pub fn mark_slots(code: Code<'_>, map: &mut [u8])
+    requires sized { length map.old ≡ length code.program.now }
+    requires words { MarksWords code.width (length code.program.now) map.old }
+    ensures { map.new ≡ with_slots (slots code.entry.width code.entry.program.now) (length map.old) map.old }
 {
     for a in (0..map.len()).rev() {
-        mark_slots_at(program, width, map, a);
+        mark_slots_at(code, map, a);
     }
 }

@@ -1,4 +1,4 @@
-//! Where a word leads.
+//! Where an instruction leads.
 #![tactic(auto, using(isa::proofs::Decoded::bytes_positive, isa::proofs::Decoded::bytes_most, crate::proofs::Visits::near, crate::proofs::Visits::low_bit), unfolding(word::specs::Choice::choices, crate::specs::Successors::succession))]
 
 ghost use Rattle.std.specs.Prelude.{◌≡◌, ◌+◌, ◌≤◌, ◌<◌, length, option_to_list, All, IfSome};
@@ -18,7 +18,7 @@ pub fn is_word(width: Width, size: usize, at: u32) -> bool
 }
 
 /// An address, where there is a word at it.
-fn word_among(width: Width, size: usize, at: Option<i64>) -> Option<u32>
+pub fn word_among(width: Width, size: usize, at: Option<i64>) -> Option<u32>
     requires { size ≤ MOST_MEMORY }
     ensures exact { option_to_list result ≡ words_among width size (option_to_list at) }
     ensures inside { IfSome result (λ b. b < size) }
@@ -94,7 +94,7 @@ pub fn slot_words(operation: Operation) -> u32
 }
 
 /// The address of the next word, if the instruction at an address leads there.
-fn next_of(width: Width, i: Instruction, a: u32) -> Option<i64>
+pub fn next_of(width: Width, i: Instruction, a: u32) -> Option<i64>
     ensures { option_to_list result ≡ next_of width i a }
 {
     let flow = Operation::from_number(i.opcode).flow();
@@ -106,41 +106,22 @@ fn next_of(width: Width, i: Instruction, a: u32) -> Option<i64>
 }
 
 /// Its target.
-fn target_of(width: Width, i: Instruction, a: u32) -> Option<i64>
-    requires { a ≤ MOST_MEMORY }
+pub fn target_of(width: Width, i: Instruction, a: u32) -> Option<i64>
     ensures { option_to_list result ≡ target_of width i a }
 {
     let flow = Operation::from_number(i.opcode).flow();
     if has_target(flow) {
-        Some(word::jump_target(a + width.bytes(), i.immediate))
+        Some(i64::from(a) + i64::from(width.bytes()) + 2 * i64::from(i.immediate))
     } else {
         None
     }
 }
 
 /// The address of the word at which a call returns, or a swm goes on.
-fn resumption_of(width: Width, i: Instruction, a: u32) -> Option<i64>
-    requires { a ≤ MOST_MEMORY }
+pub fn resumption_of(width: Width, i: Instruction, a: u32) -> Option<i64>
     ensures { option_to_list result ≡ resumption_of width i a }
 {
     let flow = Operation::from_number(i.opcode).flow();
     let words = resume_words(flow, keeps_width(width, i.immediate))?;
-    Some(i64::from(a + words * width.bytes()))
-}
-
-/// The words to which the word at an address leads in full: the next one, its target, and where it goes on.
-#[tactic(auto, using(crate::proofs::Visits::led_to))]
-pub fn successors(program: &[u8], width: Width, a: u32) -> [Option<u32>; 3]
-    requires word { a + word_bytes width ≤ length program.now }
-    requires fits { length program.now ≤ MOST_MEMORY }
-    ensures exact { present result ≡ successors width program.now a }
-    ensures inside { All (λ o. IfSome o (λ b. b < length program.now)) result }
-{
-    let size = program.len();
-    let i = Instruction::decode(width.word_at(program, a as usize), width);
-    [
-        word_among(width, size, next_of(width, i, a)),
-        word_among(width, size, target_of(width, i, a)),
-        word_among(width, size, resumption_of(width, i, a)),
-    ]
+    Some(i64::from(a) + i64::from(words * width.bytes()))
 }

@@ -11,15 +11,15 @@ visit-requires-clause-there c = let h = inside _ _ _ c.requires.word in rw (c.re
 pub loop-head-init : goal.loop-head-init
 loop-head-init c = rw (c.visit.ensures.exact, c.requires.blank, c.new-queue.ensures) (begun _ _ _ c.requires.word)
 
-pub successors-words-requires-clause-word : goal.successors-words-requires-clause-word
-successors-words-requires-clause-word c =
+pub successors-words-requires : goal.successors-words-requires
+successors-words-requires c =
     let l = c.loop-head in
     rw (c.from.ensures, c.at.ensures) (next_word _ _ _ c.requires.word l.head (record { marks = l.map; found = l.queue }) l.invariant (search rules))
 
 pub visit_all-requires-clause-room : goal.visit_all-requires-clause-room
 visit_all-requires-clause-room c =
     let l = c.loop-head in
-    omega (arith, few _ _ _ c.requires.word l.head (record { marks = l.map; found = l.queue }) l.invariant, c.requires.fits)
+    omega (arith, few _ _ _ c.requires.word l.head (record { marks = l.map; found = l.queue }) l.invariant, c.args.code.fits)
 
 pub loop-head-smaller : goal.loop-head-smaller
 loop-head-smaller c =

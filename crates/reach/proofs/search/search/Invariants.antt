@@ -4,7 +4,7 @@ use Rattle.reach.proofs.ProgramSearch.{Going}
 use Rattle.reach.proofs.search.search.Given as goal
 
 abbrev pub invariant-loop-head : goal.invariant-loop-head
-invariant-loop-head l = Going l.width l.program l.start l.head (record { marks = l.map; found = l.queue })
+invariant-loop-head l = Going l.code.width l.code.program.now l.start l.head (record { marks = l.map; found = l.queue })
 
 abbrev pub decreases-loop-head : goal.decreases-loop-head
-decreases-loop-head l = length l.program - l.head
+decreases-loop-head l = length l.code.program.now - l.head

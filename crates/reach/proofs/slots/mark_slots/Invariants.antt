@@ -7,6 +7,6 @@ use Rattle.reach.proofs.slots.mark_slots.Given as goal
 abbrev pub invariant-loop-a : goal.invariant-loop-a
 invariant-loop-a l =
     record {
-      words : MarksWords l.width (length l.program) l.map;
-      so_far : with_slots (slots l.width l.program) l.a l.map ≡ with_slots (slots l.width l.program) (length l.initial.map) l.initial.map;
+      words : MarksWords l.code.width (length l.code.program.now) l.map;
+      so_far : with_slots (slots l.code.width l.code.program.now) l.a l.map ≡ with_slots (slots l.code.width l.code.program.now) (length l.initial.map) l.initial.map;
     }
