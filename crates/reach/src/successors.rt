@@ -7,7 +7,7 @@ ghost use Rattle.isa.specs.Decode.{word_bytes};
 ghost use Rattle.machine.specs.Machine.{MOST_MEMORY};
 ghost use Rattle.reach.specs.Successors.{is_word, words_among, falls_through, has_target, words_on, resume_words, slot_words, keeps_width, next_of, target_of, resumption_of, present, successors};
 
-use isa::{Flow, Instruction, Operation, Width};
+use isa::{Flow, Instruction, Operation, Role, Width};
 
 /// Whether there is a word at an address of a program of so many bytes.
 pub fn is_word(width: Width, size: usize, at: u32) -> bool
@@ -57,11 +57,12 @@ fn has_target(flow: Flow) -> bool
     )
 }
 
-/// Whether a swm with this immediate keeps the width.
-fn keeps_width(width: Width, immediate: i32) -> bool
-    ensures { result ≡ keeps_width width immediate }
+/// Whether a swm keeps the width.
+#[tactic(auto, using(crate::proofs::Visits::low_bit), unfolding(isa::specs::Shown::shown_value, crate::specs::Successors::keeps_width))]
+fn keeps_width(width: Width, i: Instruction) -> bool
+    ensures { result ≡ keeps_width width i.immediate }
 {
-    let wide = immediate.cast_unsigned() % 2 == 1;
+    let wide = i.operand(Role::Imm) % 2 == 1;
     match width {
         Width::Narrow => !wide,
         Width::Wide => wide,
@@ -122,6 +123,6 @@ pub fn resumption_of(width: Width, i: Instruction, a: u32) -> Option<i64>
     ensures { option_to_list result ≡ resumption_of width i a }
 {
     let flow = Operation::from_number(i.opcode).flow();
-    let words = resume_words(flow, keeps_width(width, i.immediate))?;
+    let words = resume_words(flow, keeps_width(width, i))?;
     Some(i64::from(a) + i64::from(words * width.bytes()))
 }
