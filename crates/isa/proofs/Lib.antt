@@ -2,6 +2,7 @@
 pub mod Fields
 pub mod Table
 pub mod Roles
+pub mod Places
 pub mod Rules
 pub mod Groups
 pub mod Rows

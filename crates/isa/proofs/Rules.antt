@@ -1,4 +1,4 @@
--- The table of operations against the sentences of 01 and 02, each by one computed test; mnemonic_short is for a listing. Assumes nothing.
+-- The table of operations against its rules, each by one computed test; mnemonic_short is for a listing. Assumes nothing.
 use mathlib.Core.Path.{◌≡◌, refl}
 use mathlib.Core.Logic.{◌≢◌}
 use mathlib.Core.Bool.{Bool, true, false, ◌||◌, and-false}

@@ -1,4 +1,4 @@
--- What a listing shows of an instruction, against the sentences of 01 and 02. Assumes nothing.
+-- What a listing shows of an instruction, against its rules. Assumes nothing.
 use mathlib.Core.Path.{◌≡◌, refl, ap, ◌∙◌}
 use mathlib.Core.Bool.{Bool, true, false, not, ◌&&◌, ◌||◌, and-false}
 use mathlib.Core.List.{List, [], ◌∷◌, ◌++◌}

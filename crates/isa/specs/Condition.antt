@@ -1,4 +1,4 @@
--- Conditions (01 "Conditions 0 to 7"). Assumes nothing.
+-- Conditions 0 to 7, and the flags that they are tested against (Manual 2.6). Assumes nothing.
 use Rattle.std.specs.Prelude.{Bool, not, ◌&&◌, ◌||◌, List, [], ◌∷◌, ℕ, get_or}
 use Rattle.word.specs.Word.{bit_at}
 use Rattle.isa.specs.Text.{bytes}

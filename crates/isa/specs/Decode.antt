@@ -1,4 +1,4 @@
--- An instruction word taken apart. Assumes nothing.
+-- An instruction word taken apart (Manual 2). Assumes nothing.
 use Rattle.std.specs.Prelude.{Bool, ◌&&◌, List, [], ◌∷◌, ℕ, ◌+◌, ◌*◌, eqb, ℤ, pos, get_or}
 use Rattle.word.specs.Choice.{choose◌then◌else◌}
 use Rattle.word.specs.Word.{Field, signed_of}
@@ -16,7 +16,7 @@ unfoldable pub word_bytes : Width → ℕ
 word_bytes Narrow = 2
 word_bytes Wide = 4
 
--- the word at an address of a program that has its bytes ("Program memory is bytes, high byte first")
+-- the word at an address of a program that has its bytes (Manual 1.1): high byte first
 unfoldable pub word_at : Width → (program : List ℕ) (address : ℕ) → ℕ
 word_at Narrow program a = get_or program a 0 * 256 + get_or program (a + 1) 0
 word_at Wide program a = number_at program a

@@ -1,4 +1,4 @@
--- Where the fields of an instruction word stand (01 "Instruction words"; exbfi: 02 wish 1), and which operands a listing shows (002 section 6.2).
+-- Where the fields of an instruction word stand, and which operands a listing shows (Manual 2; COFFEE Core user manual (July 2007), section 6.2).
 -- Assumes nothing.
 use Rattle.std.specs.Prelude.{Bool, true, false, ◌&&◌, ◌||◌, List, [], ◌∷◌, ℕ, ◌+◌, ◌-◌, ◌*◌, ◌/◌, ◌%◌, ◌^◌, leb, ltb, take, drop}
 use Rattle.word.specs.Word.{Field, bits◌to◌, field_of}
@@ -80,7 +80,7 @@ pub record Immediate : Type 0 where
   pub signed : Bool
   pub fields : List Field
 
--- the fields of the operands by role (creg's are creg_field), and the operands in the order in which 002 writes them, each field once
+-- the fields of the operands by role (creg's are creg_field), and the operands in the order in which the core's manual writes them, each field once
 pub record Layout : Type 0 where
   pub dreg : List Field
   pub sreg1 : List Field

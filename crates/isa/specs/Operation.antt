@@ -1,4 +1,4 @@
--- The operations, one row for each (01 "Operations", "Never conditional", "Super user only", stop 13; 02 wishes 1, 8 and 13; mnemonics: 002 section 6.2).
+-- The operations, one row for each (Manual 3.1; mnemonics: COFFEE Core user manual (July 2007), section 6.2).
 -- Assumes nothing.
 use Rattle.std.specs.Prelude.{Bool, true, false, Option, Some, None, Result, Ok, Err, List, [], ◌∷◌, ℕ, nat_lt, get_or, if◌then◌else◌}
 use Prim.Native.String.{String}
@@ -65,7 +65,7 @@ pub record Properties : Type 0 where
   pub conditional : Bool  -- bit 25 of a 32-bit word makes it conditional; otherwise that bit is ignored
   pub availability : Availability
   pub transfer : Bool  -- a control transfer, which stops with 13 in a branch slot
-  pub nops : ℕ  -- how many nops must follow it (002 section 6.2)
+  pub nops : ℕ  -- how many nops must follow it
   pub flow : Flow
 
 -- rows of the table: of operations that may be conditional, that never are, and of control transfers of both kinds
@@ -92,7 +92,7 @@ with_flow to p =
     record { number = p.number; mnemonic = p.mnemonic; form = p.form; conditional = p.conditional; availability = p.availability; transfer = p.transfer; nops = p.nops; flow = to }
 
 -- the table: each operation's number, mnemonic, operands, whether it may be conditional, where it is available, whether it is a control transfer,
--- how many nops must follow it: "the nops after swm, scall, retu and reti" (02, wish 8), "two, one, one, three"; and how it goes on
+-- how many nops must follow it (two after swm, one after scall and retu, three after reti: Manual 4.6), and how it goes on
 unfoldable pub properties : Operation → Properties
 properties Nop = always 0 "nop" NoOperands anywhere
 properties Add = optional 1 "add" ThreeRegisters

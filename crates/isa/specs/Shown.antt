@@ -1,4 +1,4 @@
--- What a listing shows of an instruction (02 wish 2): which of its operands, and their values. Assumes nothing.
+-- What a listing shows of an instruction: which of its operands, and their values (Manual 11). Assumes nothing.
 use Rattle.std.specs.Prelude.{Bool, false, List, [], eqb, ℤ, pos}
 use Rattle.word.specs.Choice.{choose◌then◌else◌}
 use Rattle.word.specs.Word.{bits◌to◌, field_of, word_of}
@@ -10,16 +10,15 @@ use Rattle.isa.specs.declared.form.Role.TheVariants.{Dreg, Sreg1, Sreg2, Creg, I
 use Rattle.isa.specs.Format.{layout_of}
 use Rattle.isa.specs.declared.instruction.Instruction.{Instruction}
 
--- an operation has no form in a width where it is 02h for the super user too: "Code 02h: lli, lui in 16-bit" (01), "63 exbfi: .. code 02h in
--- 16-bit" (02 wish 1)
+-- an operation has no form in a width where it is 02h for the super user too, as lli, lui and exbfi are in 16-bit words (Manual 4.4)
 unfoldable pub has_form : Width → Operation → Bool
 has_form width o = eqb (code_of (unavailable (properties o).availability width false)) 0
 
--- "Operands stand in 002's order": those of section 6.2; "an operation with no form in that width prints `?` and no operands"
+-- operands stand in the order of the core's manual (section 6.2); an operation with no form in the width has none
 unfoldable pub shown_roles : Width → Operation → List Role
 shown_roles width o = choose has_form width o then (layout_of width (properties o).form).shown else []
 
--- the value of an operand, as decode finds it: "immediates by the bits used", "16-bit registers as R24 to R31"; of exbfi the two parts of its
+-- the value of an operand, as decode finds it: an immediate by the bits used, a register of 16-bit words from 24 on; of exbfi the two parts of its
 -- immediate that it takes for length and position
 unfoldable pub shown_value : Instruction → Role → ℤ
 shown_value i Dreg = pos i.dreg

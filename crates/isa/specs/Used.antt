@@ -1,5 +1,5 @@
 -- The bits of a word that its operation uses: where the operands that a listing shows stand, and how their bits are read. All other bits are
--- ignored (01 "Bits that an operation does not use are ignored"; 02 wish 7). Assumes nothing.
+-- ignored (Manual 2.5). Assumes nothing.
 use Rattle.std.specs.Prelude.{Bool, Option, Some, None, List, [], ◌++◌, ℕ, ◌-◌, ◌^◌, ℤ, pos, neg_ℤ}
 use Rattle.std.specs.List.{slice_get}
 use Rattle.word.specs.Choice.{choose◌then◌else◌}

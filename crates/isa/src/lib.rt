@@ -7,6 +7,7 @@ pub mod form;
 pub mod instruction;
 pub mod operands;
 pub mod operation;
+pub mod theorems;
 pub mod width;
 
 pub use condition::Condition;
