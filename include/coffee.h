@@ -8,7 +8,7 @@
  * overlap no other slice of the same call. Nothing is kept between calls, no memory is allocated, and nothing else is read or written, so
  * calls on different memories may run at the same time.
  *
- * A refusal changes no memory.
+ * A refusal changes no memory. docs/MANUAL.md has every rule: images in section 8, calls and refusals in 9, this interface in 14.
  */
 #ifndef COFFEE_H
 #define COFFEE_H
@@ -85,7 +85,7 @@ struct coffee_answer {
  *   2  image not exactly the sections and counts of an image; one of the earlier layout too, which coffee_carry_over takes
  *   3  a number in the image that its register cannot hold, PSR above 31, a flag other than 0 or 1, numbers other than 0 of a 0 flag, or a
  *      divider above 255
- *   4  a current or stacked PSR with UM 1 whose set bits are not both 0
+ *   4  a current or stacked PSR with UM 1 whose RSRD and RSWR are not both 0
  *   5  stack sources not below 12, not all different or not those of INT_SERV; or RETI_ registers that do not show the stack's top
  *   6  a request above FFFh
  *   7  limit above 1,000,000
@@ -130,8 +130,8 @@ uint32_t coffee_carry_over(const uint8_t *image, size_t image_bytes, uint8_t *bu
  *   8             the word, hexadecimal: 8 digits or 4
  *   6             its condition and condition register, as `egt C7`; blank without a condition
  *   8             the operation's name, or `?` where it has no form in this width; then there are no operands
- *   13            its operands in the manual's order (002 section 6.2), single blanks between them: R0 to R31, C0 to C7, decimal numbers,
- *                 with a minus where they are negative
+ *   13            its operands (docs/MANUAL.md, table 11.3), single blanks between them: R0 to R31, C0 to C7, decimal numbers, with a minus
+ *                 where they are negative
  * 16-bit words have registers R24 to R31, no condition and no C0.
  *
  * Answers 0, or the refusal, asked in this order:
@@ -173,7 +173,7 @@ uint64_t coffee_encode(
  * scall without a condition. jmp, jal and branches lead to their target, the next word's address plus twice the immediate; jal, jalr and scall to
  * the word two on, and a swm that keeps the width to the word three on. A word is reached as a slot, too: the one after jmp, jal, jmpr, jalr, scall
  * and retu, the two after swm, the three after reti; a word reached only so leads nowhere. Only aligned words wholly in the program are reached.
- * What a register, a vector or the hardware stack says is not followed.
+ * What a register, a vector or the interrupt stack says is not followed.
  *
  * Takes up to 140 KB of stack.
  *

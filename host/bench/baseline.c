@@ -1,12 +1,13 @@
-// The same interpreter as the library's, in plain C: the same machine, questions and answers, written
-// from the same papers. The state is flat, a step is one switch on the operation.
+// The same interpreter as the library's, in plain C: the same machine, questions and answers,
+// by the same rules (docs/MANUAL.md). The state is flat, a step is one switch on the
+// operation.
 #include "baseline.h"
 
 #include <stdbool.h>
 
 // ---- the machine
 
-// Bits of PSR (002, section 2.4).
+// Bits of PSR (Manual 1.4).
 enum { UM = 1, RSRD = 2, RSWR = 4, IL = 8, IE = 16 };
 
 // PSR of system calls and exceptions.
@@ -18,7 +19,7 @@ enum { SET2 = 32, PSR = SET2 + 29, SPSR = SET2 + 30, PR31 = SET2 + 31, REGISTERS
 // The link register of either set.
 enum { LINK = 31 };
 
-// Offsets of the control block (002, section 2.9).
+// Offsets of the control block (Manual 5.1).
 enum {
     CCB_BASE = 0x00,
     PCB_BASE = 0x01,
@@ -55,16 +56,17 @@ enum {
     CONTROLS = 45,
 };
 
-// Bits of a timer's half of TMR_CONF (002, table 3.2), and where INTN begins; DIV is the lowest byte.
+// Bits of a timer's half of TMR_CONF (Manual 7.1), and where INTN begins; DIV is the lowest
+// byte.
 enum { EN = 0x8000, CONT = 0x4000, GINT = 0x2000, WDOG = 0x1000, INTN = 8, DIV = 0xFF };
 
 // Both timers.
 enum { TIMERS = 2 };
 
-// Interrupt sources, and the most entries of the hardware stack. The EXT sources come after the COP ones.
+// Interrupt sources, and the most entries of the interrupt stack. The EXT sources come after the COP ones.
 enum { EXT = 4, SOURCES = 12 };
 
-// An entry of the hardware stack.
+// An entry of the interrupt stack.
 struct entry {
     uint32_t source, address, psr, c0;
 };
@@ -97,7 +99,7 @@ enum {
     SCALL, RETU, RETI, CHRS, DI, EI, SWM, TRAP, SCON, RCON, CONB, CONH, EXB, EXH, EXBF, EXBFI,
 };
 
-// Exception codes (002, table 5.5); 01h does not occur.
+// Exception codes (Manual 4.9); 01h does not occur.
 enum {
     PROTECTED_INSTRUCTION = 0x00,
     ILLEGAL_INSTRUCTION = 0x02,
@@ -361,8 +363,8 @@ static uint32_t stored_bits(uint32_t offset)
     }
 }
 
-// Stores to a RETI_ register: replaces what it shows of the stack's top, if there is one. In a PSR
-// with UM 1 both set bits become 0.
+// Stores to a RETI_ register: replaces what it shows of the stack's top, if there is one. In a
+// PSR with UM 1 RSRD and RSWR become 0.
 static void store_top(struct machine *m, uint32_t offset, uint32_t value)
 {
     if (m->depth == 0)
@@ -788,7 +790,7 @@ static inline uint32_t step(struct machine *m, const struct memories *lent, uint
 
 // ---- timers
 
-// The machine at reset (002, section 2.9).
+// The machine at reset (Manual 4.12 and 5.1).
 static const struct machine at_reset = {
     .registers = { [PSR] = SUPER_USER, [SPSR] = 9 },
     .control = {
@@ -992,7 +994,7 @@ static bool numbers_fit(const struct machine *m)
         && (m->slot || m->target == 0) && (m->held || (m->high == 0 && m->low == 0));
 }
 
-// Whether a status with UM 1 has both set bits 0.
+// Whether a status with UM 1 has RSRD and RSWR 0.
 static bool sets_fit(uint32_t psr)
 {
     return !(psr & UM) || !(psr & (RSRD | RSWR));

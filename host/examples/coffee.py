@@ -1,4 +1,4 @@
-"""01's example: three steps from reset with 4,096 zero cells. Prints '3 0 00000000'.
+"""Three steps from reset with 4,096 zero cells (Manual 16). Prints '3 0 00000000'.
 
     python3 coffee.py [LIBRARY]
 

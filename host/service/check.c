@@ -1,5 +1,4 @@
-/* The sections of a machine file, and its first number that is wrong, in words (01 "Machine image";
-   02, wish 5). */
+/* The sections of a machine file, and its first number that is wrong, in words (Manual 8). */
 #include "check.h"
 
 #include "names.h"

@@ -1,5 +1,5 @@
-/* The layout of a machine image (01 "Machine image"; 02, wish 5): 32-bit numbers, high byte first,
-   in seven sections, each after its count. Places are counted in numbers from the image's front. */
+/* The layout of a machine image (Manual 8): 32-bit numbers, high byte first, in seven sections,
+   each after its count. Places are counted in numbers from the image's front. */
 #ifndef IMAGE_H
 #define IMAGE_H
 

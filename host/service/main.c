@@ -1,4 +1,4 @@
-/* The service laptop's program: its command line. */
+/* The service program: its command line. */
 #include "commands.h"
 
 #include <coffee.h>

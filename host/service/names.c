@@ -1,4 +1,4 @@
-/* The names of an image's numbers, from the COFFEE core manual (002). */
+/* The names of an image's numbers (Manual 5.1 and 8). */
 #include "names.h"
 
 #include <stdio.h>

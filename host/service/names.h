@@ -1,5 +1,5 @@
-/* The names of an image's numbers, from the COFFEE core manual (002), and the bits that each can
-   have: what show, cells and complaints say. */
+/* The names of an image's numbers (Manual 5.1 and 8), and the bits that each can have: what show,
+   cells and complaints say. */
 #ifndef NAMES_H
 #define NAMES_H
 
@@ -11,7 +11,7 @@ struct control {
     uint32_t free, fixed;
 };
 
-/* The control registers in the order of 002's section 2.9. */
+/* The control registers by offset (Manual 5.1). */
 extern const struct control control_registers[CONTROL_REGISTERS];
 
 /* The numbers of the position. */

@@ -30,7 +30,7 @@ fn put_request(line: &[u8], requests: &mut [u32; 16]) {
     if line.len() < 7 {
         return;
     }
-    let step = console::limit_of(&line[1..3]) as usize;
+    let step = console::limit_of(&line[1..3]).unwrap_or(u32::MAX) as usize;
     if step < 1 {
         return;
     }

@@ -136,7 +136,7 @@ pub fn example(
         program,
         size,
         requests,
-        console::limit_of(&line[2..end]),
+        console::limit_of(&line[2..end]).unwrap_or(u32::MAX),
         &mut buffer,
     );
     print_title(out, text, title);

@@ -11,7 +11,7 @@ use Rattle.isa.specs.declared.width.Width.{Width}
 use Rattle.machine.specs.Machine.{MOST_MEMORY}
 use Rattle.reach.specs.Successors.{is_word, slots}
 use Rattle.reach.specs.Call.{reached_map, mapped, reach_call}
-use Rattle.reach.proofs.Slots.{slots_length}
+use Rattle.reach.proofs.Marks.{slots_length}
 use Rattle.reach.proofs.ProgramSearch.{sound}
 
 -- what is written is as long as the program

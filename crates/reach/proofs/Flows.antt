@@ -44,15 +44,6 @@ resumption_is keeps = by_number (λ o. resume_words (properties o).flow keeps) (
     high : (n : ℕ) → 64 ≤ n → resume_by keeps n ≡ 0
     high n h = rw (ne_eqb n 37 (λ e. omega arith), ne_eqb n 39 (λ e. omega arith), ne_eqb n 48 (λ e. omega arith), ne_eqb n 54 (λ e. omega arith))
 
--- how many words on, at most
-pub resume_few : (keeps : Bool) (n : ℕ) → resume_words (properties (operation_of n)).flow keeps < 4
-unfolding instructions values succession choose◌then◌else◌
-resume_few keeps n = ltb-true _ 4 (by_number (λ o. ltb (resume_words (properties o).flow keeps) 4) (λ n. true) (computed keeps) (λ n h. refl) n)
-  where
-    computed : (k : Bool) → values (λ n. ltb (resume_words (properties (operation_of n)).flow k) 4) 0 64 ≡ values (λ n. true) 0 64
-    computed true = refl
-    computed false = refl
-
 pub slots_are : SlotsAre
 unfolding instructions values succession choose◌then◌else◌
 slots_are = by_number (λ o. slot_words (properties o).flow (properties o).nops) slots_by refl high

@@ -2,9 +2,8 @@
 pub mod Flows
 pub mod Words
 pub mod Graph
-pub mod Slots
-pub mod Addresses
-pub mod Queue
+pub mod Marks
+pub mod Visits
 pub mod ProgramSearch
 pub mod Calls
 pub mod Theorems

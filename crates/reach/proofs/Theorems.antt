@@ -22,7 +22,7 @@ use Rattle.reach.specs.Call.{reached_map, Mapped, mapped, reach_call}
 use Rattle.reach.specs.Theorems.{Mappable, Exact, Exactly, RefusedKeeps, AskedInOrder, ReachableWords, FollowedOnce}
 use Rattle.reach.proofs.Words.{whole, inside, slots_words, slots_above, in_full_word}
 use Rattle.reach.proofs.Graph.{Bits, found_few}
-use Rattle.reach.proofs.Slots.{Marked, SlotOf, with_slots_law, slots_bits}
+use Rattle.reach.proofs.Marks.{Marked, SlotOf, with_slots_law, slots_bits}
 use Rattle.reach.proofs.ProgramSearch.{sound, in_full}
 use Rattle.reach.proofs.Calls.{map_length, too_long_law, too_short_law, no_start, mappable}
 
@@ -126,3 +126,10 @@ exactly width program start map =
         beyond = drop_at front rest (length program) n ∙ ap (λ (k : ℕ). drop k map) n;
       },
     ))
+
+-- the same of a map that is known to be the call's
+pub marked : (width : Width) (program : List ℕ) (start : ℕ) (map after : List ℕ) → mapped 0 after ≡ reach_call width program start map
+    → Mappable width program start map × Exact width program start map after
+marked width program start map after e =
+    subst (λ (m : Mapped). Mappable width program start map × Exact width program start map m.map) (sym e)
+    (exactly width program start map (ap (λ (m : Mapped). m.answer) (sym e)))

@@ -1,14 +1,14 @@
 -- Words of a program: what a word leads to are words, and its slots lie above it. Assumes nothing.
 use mathlib.Core.Path.{◌≡◌, refl}
 use mathlib.Core.Logic.{◌⊎◌, inl, inr, ◌↔◌}
-use mathlib.Core.Bool.{Bool, true, false, and-false}
+use mathlib.Core.Bool.{Bool, true, false}
 use mathlib.Core.List.{List, [], ◌∷◌}
 use Prim.Native.Nat.{ℕ, zero, suc, ◌+◌, ◌%◌, ◌≤◌, ◌<◌}
 use native.Mathlib.Omega.{arith}
 use lib.Dec.{leb, eqb}
 use lib.IntN.{ℤ, pos, negsuc}
 use lib.ListN.{length}
-use borrow.Author.Tests.{eqb-true, leb-true, lt-leb, eq-eqb, le-leb}
+use borrow.Author.Tests.{eqb-true, leb-true, eq-eqb, le-leb}
 use Rattle.word.specs.Choice.{choose◌then◌else◌}
 use Rattle.word.proofs.Tests.{and_parts, and_both}
 use Rattle.isa.specs.declared.width.Width.{Width}
@@ -31,13 +31,6 @@ module _ (width : Width) (size a : ℕ) (e : is_word width size a ≡ true) wher
 
   pub inside : a < size
   inside = let h = wholly in let p = bytes_positive width in omega arith
-
--- past the end there is none
-pub no_word : (width : Width) (size a : ℕ) → size ≤ a → is_word width size a ≡ false
-unfolding is_word
-no_word width size a h =
-    let p = bytes_positive width in
-    rw (lt-leb (a + word_bytes width) size (omega arith)) (and-false (eqb (a % word_bytes width) 0))
 
 -- the test says that there is a whole word
 pub whole : (width : Width) (size a : ℕ) → (is_word width size a ≡ true) ↔ WholeWord width size a

@@ -1,4 +1,4 @@
--- The call that maps what can be reached (02 wish 13). Assumes nothing.
+-- The call that maps what can be reached (Manual 13). Assumes nothing.
 use Rattle.std.specs.Prelude.{not, List, ℕ, leb, length}
 use Rattle.word.specs.Choice.{choose◌then◌else◌}
 use Rattle.codec.specs.Number.{over}
@@ -7,7 +7,7 @@ use Rattle.machine.specs.Machine.{MOST_MEMORY}
 use Rattle.reach.specs.Successors.{is_word, successors, slots}
 use Rattle.reach.specs.Search.{searched, with_slots}
 
--- "A byte map gets 1 at the first byte of exactly the reached words, 0 elsewhere over the program's length": Theorems' `exactly` says that it does
+-- a byte for each of the program's, 1 at the address of each word that is reached and 0 elsewhere: Theorems' `Exactly` says that it is so
 unfoldable pub reached_map : Width → (program : List ℕ) (start : ℕ) → List ℕ
 reached_map width program start = with_slots (slots width program) (length program) (searched (successors width program) (length program) start).marks
 
@@ -19,8 +19,8 @@ pub record Mapped : Type 0 where
 abbrev pub mapped : (answer : ℕ) (map : List ℕ) → Mapped
 mapped answer map = record { answer = answer; map = map }
 
--- "Program at most 65,536 bytes ..? 1" (01); "27 when the start is misaligned or its word absent; 28 when the map is shorter than the program, asked
--- first after 1"; "later bytes keep their values"
+-- 1 refuses a program longer than program memory, then 28 a map shorter than the program, then 27 a start that is misaligned or whose word is absent;
+-- a refusal leaves the map as it was, and bytes of the map past the program's length keep their values
 unfoldable pub reach_call : Width → (program : List ℕ) (start : ℕ) (map : List ℕ) → Mapped
 reach_call width program start map =
     choose not (leb (length program) MOST_MEMORY) then mapped 1 map

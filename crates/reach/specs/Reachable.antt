@@ -1,4 +1,4 @@
--- The words that can be reached (02 wish 13): what a reader has to believe of them, whatever way they are found. Assumes nothing.
+-- The words that can be reached (Manual 13): what a reader has to believe of them, whatever way they are found. Assumes nothing.
 use Rattle.std.specs.Prelude.{◌≡◌, ◌⊎◌, List, [], ◌∷◌, ℕ}
 use Rattle.isa.specs.declared.width.Width.{Width}
 use Rattle.reach.specs.Successors.{successors, slots}
@@ -13,12 +13,12 @@ pub data InFull (edges : ℕ → List ℕ) (start : ℕ) : ℕ → Type 0 where
   first : InFull edges start start
   further : {a b : ℕ} → InFull edges start a → Among b (edges a) → InFull edges start b
 
--- b is a slot of a word that is reached in full; "a word reached only as a slot leads nowhere"
+-- b is a slot of a word that is reached in full; a word that is reached only as a slot leads nowhere
 pub record AsSlot (edges slots_of : ℕ → List ℕ) (start b : ℕ) : Type 0 where
   pub word : ℕ
   pub reached : InFull edges start word
   pub slot : Among b (slots_of word)
 
--- "the words reachable from a start address in one width"
+-- b is a word that can be reached from a start address in one width, in full or as a slot
 abbrev pub Reachable : Width → (program : List ℕ) (start b : ℕ) → Type 0
 Reachable width program start b = InFull (successors width program) start b ⊎ AsSlot (successors width program) (slots width program) start b

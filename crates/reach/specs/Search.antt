@@ -1,5 +1,5 @@
--- A search that finds what is reached in full, and a pass that adds the slots. Assumes nothing.
-use Rattle.std.specs.Prelude.{◌≡◌, true, List, [], ◌∷◌, ◌++◌, ℕ, zero, suc, ltb, eqb, length, get_or, set, replicate, take}
+-- A search that finds what is reached in full, and a pass that adds the slots (Manual 13). Assumes nothing.
+use Rattle.std.specs.Prelude.{◌≡◌, true, List, [], ◌∷◌, ◌++◌, ℕ, zero, suc, ltb, eqb, length, get_or, set, replicate}
 use Rattle.word.specs.Choice.{choose◌then◌else◌}
 use Rattle.isa.specs.declared.width.Width.{Width}
 use Rattle.reach.specs.Successors.{is_word}
@@ -34,10 +34,6 @@ blank size = record { marks = replicate size 0; found = [] }
 unfoldable pub searched : (edges : ℕ → List ℕ) (size start : ℕ) → Search
 searched edges size start = follow edges size 0 (visit start (blank size))
 
--- the code's search: its marks, and those found at the front of a queue
-unfoldable pub search_by : (count : ℕ) (marks queue : List ℕ) → Search
-search_by count marks queue = record { marks = marks; found = take count queue }
-
 -- ---- slots
 
 -- addresses are marked
@@ -60,5 +56,5 @@ MarksWords width size m = (a : ℕ) → get_or m a 0 ≡ 1 → is_word width siz
 
 -- to unfold all of these
 unfoldable pub searching : Unit {0}
-unfolding visit visit_all follow searched search_by mark_all with_slots_of with_slots
+unfolding visit visit_all follow searched mark_all with_slots_of with_slots
 searching = tt

@@ -1,5 +1,5 @@
--- Where the words of a program lead (02 wish 13; in the field's terms, their successors). Assumes nothing.
-use Rattle.std.specs.Prelude.{Bool, true, false, not, ◌&&◌, List, [], ◌∷◌, ◌++◌, ℕ, zero, suc, ◌+◌, ◌*◌, ◌%◌, leb, eqb, ℤ, pos, negsuc, ◌+ℤ◌, ◌*ℤ◌, length}
+-- Where the words of a program lead: their successors and their slots (Manual 13). Assumes nothing.
+use Rattle.std.specs.Prelude.{Bool, true, false, not, ◌&&◌, Option, Some, None, option_to_list, List, [], ◌∷◌, ◌++◌, ℕ, zero, suc, ◌+◌, ◌*◌, ◌%◌, leb, eqb, ℤ, pos, negsuc, ◌+ℤ◌, ◌*ℤ◌, length}
 use Rattle.word.specs.Choice.{choose◌then◌else◌}
 use Rattle.word.specs.Word.{word_of}
 use Rattle.isa.specs.declared.width.Width.{Width}
@@ -12,7 +12,7 @@ use Rattle.isa.specs.declared.instruction.Instruction.{Instruction}
 
 -- ---- words
 
--- "Only aligned words wholly in program memory are reached": there is a word at an address of a program of `size` bytes
+-- there is a word at an address of a program of `size` bytes: the address is aligned, and the word lies wholly in the program
 unfoldable pub is_word : Width → (size address : ℕ) → Bool
 is_word width size a = eqb (a % word_bytes width) 0 && leb (a + word_bytes width) size
 
@@ -24,7 +24,7 @@ words_among width size (negsuc n ∷ zs) = words_among width size zs
 
 -- ---- by the flow of a word's operation
 
--- "A reached word leads to the next one, except jmp and jal, jmpr, jalr and scall without a condition, retu, reti, swm, trap"
+-- a word leads to the next one, but not jmp and jal, not jmpr, jalr and scall where they have no condition, not retu, reti, swm and trap
 unfoldable pub falls_through : Flow → (conditional : Bool) → Bool
 falls_through Straight conditional = true
 falls_through ImmediateJump conditional = false
@@ -38,7 +38,7 @@ falls_through InterruptReturn conditional = false
 falls_through WidthSwitch conditional = false
 falls_through TrapCall conditional = false
 
--- "jmp, jal and branches to their target"; "Operands in registers are not followed"
+-- jmp, jal and branches lead to their target; an operand in a register is not followed
 unfoldable pub has_target : Flow → Bool
 has_target Straight = false
 has_target ImmediateJump = true
@@ -52,8 +52,8 @@ has_target InterruptReturn = false
 has_target WidthSwitch = false
 has_target TrapCall = false
 
--- how many words on a call returns, or a swm goes on, 0 for nowhere: "jal and jalr to the word after the slot; scall to the word after its nop, a
--- swm that keeps the width to the word three later"
+-- how many words on a call returns, or a swm goes on, 0 for nowhere: jal and jalr return to the word after the slot, scall to the word after its
+-- nop, and a swm that keeps the width goes on three words later
 unfoldable pub resume_words : Flow → (keeps_width : Bool) → ℕ
 resume_words Straight keeps_width = 0
 resume_words ImmediateJump keeps_width = 0
@@ -67,8 +67,13 @@ resume_words InterruptReturn keeps_width = 0
 resume_words WidthSwitch keeps_width = choose keeps_width then 3 else 0
 resume_words TrapCall keeps_width = 0
 
--- how many of the next words are slots: "Jumps 36 to 39 lead to their slot as a slot"; "scall and retu to the next word, swm to the next two, reti
--- to the next three, as slots", which are the nops that must follow these four
+-- that number, where it is not 0
+abbrev pub words_on : ℕ → Option ℕ
+words_on zero = None
+words_on (suc n) = Some (suc n)
+
+-- how many of the next words are slots: one after jmp, jal, jmpr and jalr; one after scall and retu, two after swm, three after reti, which are the
+-- nops that must follow these four
 unfoldable pub slot_words : Flow → (nops : ℕ) → ℕ
 slot_words Straight nops = 0
 slot_words ImmediateJump nops = 1
@@ -84,7 +89,7 @@ slot_words TrapCall nops = 0
 
 -- ---- by a word
 
--- a swm with this immediate keeps the width: its bit 0 is IL (01), 1 for 32-bit words
+-- a swm with this immediate keeps the width: its bit 0 is the width that it sets, 1 for 32-bit words
 unfoldable pub keeps_width : Width → (immediate : ℤ) → Bool
 keeps_width Narrow n = not (eqb (word_of 1 n) 1)
 keeps_width Wide n = eqb (word_of 1 n) 1
@@ -98,7 +103,7 @@ given false a = []
 unfoldable pub next_of : Width → Instruction → (address : ℕ) → List ℤ
 next_of width i a = given (falls_through (properties (operation_of i.opcode)).flow i.conditional) (pos (a + word_bytes width))
 
--- its target: "the slot's address plus twice the signed immediate" (01)
+-- its target: the slot's address plus twice the signed immediate
 unfoldable pub target_of : Width → Instruction → (address : ℕ) → List ℤ
 target_of width i a = given (has_target (properties (operation_of i.opcode)).flow) (pos (a + word_bytes width) +ℤ i.immediate *ℤ pos 2)
 
@@ -113,6 +118,11 @@ unfoldable pub successors : Width → (program : List ℕ) (address : ℕ) → L
 successors width program a =
     let i = decode width (word_at width program a) in
     words_among width (length program) (next_of width i a ++ target_of width i a ++ resumption_of width i a)
+
+-- those of a list that are there
+abbrev pub present : List (Option ℕ) → List ℕ
+present [] = []
+present (o ∷ os) = option_to_list o ++ present os
 
 -- the next `count` addresses of words, after one
 unfoldable pub next_addresses : Width → (address count : ℕ) → List ℤ

@@ -28,8 +28,9 @@ use Rattle.emulator.proofs.Asked.{sizes_no, past_image, limit_no}
 use Rattle.emulator.proofs.Closed.{result_formed}
 use Rattle.emulator.proofs.Answers.{call_refused, call_started}
 use Rattle.console.specs.Digits.{digit_of, digits_of, places_from}
-use Rattle.console.specs.Limit.{limit_of}
+use Rattle.console.specs.Limit.{bad_limit, limit_number}
 use Rattle.console.specs.Line.{ran_text, refusal_text}
+use Rattle.std.specs.Option.{unwrap_or}
 use Rattle.console.proofs.Limits.{limit_front}
 use Rattle.runner.specs.Report.{zero_memory, pc_of, answer_text, call_of, outcome_of, report_of}
 use Rattle.runner.specs.Reports.{ReportLong, ReportUnlimited, ReportRan, ReportFronts}
@@ -37,7 +38,7 @@ use Rattle.runner.specs.Reports.{ReportLong, ReportUnlimited, ReportRan, ReportF
 -- ---- the report is that of a run call
 
 -- what a run call from reset answers and leaves is what is reported
-pub report_is : (code text image : List ℕ) (limit : ℕ) (a : Reply) (buffer : List ℕ) (memory : Memory) → image ≡ write_image reset → limit ≡ limit_of text
+pub report_is : (code text image : List ℕ) (limit : ℕ) (a : Reply) (buffer : List ℕ) (memory : Memory) → image ≡ write_image reset → limit ≡ limit_number text
     → outcome a buffer memory ≡ run_call code image zero_memory (record { requests = []; limit = limit; buffer = replicate LONGEST 0 })
     → answer_text a buffer ≡ report_of code text
 unfolding call_of outcome_of report_of
@@ -46,7 +47,7 @@ report_is code text image limit a buffer memory i l e =
     ap (λ (x : Outcome). answer_text x.answer x.buffer) o
 
 -- limit.txt counts by the limit that it says
-report_by_limit : (code text other : List ℕ) → limit_of text ≡ limit_of other → report_of code text ≡ report_of code other
+report_by_limit : (code text other : List ℕ) → limit_number text ≡ limit_number other → report_of code text ≡ report_of code other
 unfolding call_of outcome_of report_of
 report_by_limit code text other e = rw e
 
@@ -68,8 +69,8 @@ unfolding ReportUnlimited asked asked_by read_by call_of all_below choose◌then
 report_unlimited code text h l =
     let yes : (leb (length code) MOST_MEMORY && leb (length zero_memory.cells) MOST_MEMORY) ≡ true = rw (le-leb (length code) MOST_MEMORY h) in
     report_refused code text 7
-    (past_image (length code) (length zero_memory.cells) (write_image reset) [] (limit_of text) LONGEST reset yes 0 (sym reset_accepted) refl
-    ∙ sym (limit_no [] (limit_of text) LONGEST reset refl l))
+    (past_image (length code) (length zero_memory.cells) (write_image reset) [] (limit_number text) LONGEST reset yes 0 (sym reset_accepted) refl
+    ∙ sym (limit_no [] (limit_number text) LONGEST reset refl l))
 
 -- ---- a call that runs
 
@@ -98,18 +99,18 @@ module _ (m : Machine) (s : List ℕ) (f : WellFormed m) where
       ∙ sym (pc_at (image_numbers m))
       ∙ ap (λ (x : Machine). x.position.pc) (machine_in_image_numbers m c)
 
-all_yes : (code text : List ℕ) → length code ≤ 65536 → limit_of text ≤ 1000000 → AllYes code (write_image reset) zero_memory (call_of text) reset
+all_yes : (code text : List ℕ) → length code ≤ 65536 → limit_number text ≤ 1000000 → AllYes code (write_image reset) zero_memory (call_of text) reset
 unfolding call_of
 all_yes code text h l = record { program_size = h; data_size = lit≤ tt; read = reset_accepted; requests = λ i. lit≤ tt; limit = l; room = lit≤ tt }
 
 pub report_ran : ReportRan
 unfolding ReportRan report_of outcome_of call_of answer_text Questions
 report_ran code text h l =
-    let e = result_from code [] (limit_of text) 0 (state_with reset zero_memory) in
+    let e = result_from code [] (limit_number text) 0 (state_with reset zero_memory) in
     let a = (questions code (write_image reset) zero_memory (call_of text) reset).1 (all_yes code text h l) in
     let o = call_started code (write_image reset) zero_memory (call_of text) reset a in
     ap (λ (x : Outcome). answer_text x.answer x.buffer) o
-    ∙ ap (ran_text e.steps e.ending) (pc_of_image e.after.machine (replicate LONGEST 0) (result_formed code [] (limit_of text) (state_with reset zero_memory) reset_formed))
+    ∙ ap (ran_text e.steps e.ending) (pc_of_image e.after.machine (replicate LONGEST 0) (result_formed code [] (limit_number text) (state_with reset zero_memory) reset_formed))
 
 -- ---- the bytes that are read
 
@@ -117,7 +118,7 @@ pub report_fronts : ReportFronts
 unfolding ReportFronts ReportLong
 report_fronts code text =
     either (leb (length code) 65536)
-    (λ e. ap (λ (x : List ℕ). report_of x (take 16 text)) (take_all 65537 code (omega (arith, leb-true (length code) 65536 e))) ∙ report_by_limit code (take 16 text) text (limit_front text 16 (lit≤ tt)))
+    (λ e. ap (λ (x : List ℕ). report_of x (take 16 text)) (take_all 65537 code (omega (arith, leb-true (length code) 65536 e))) ∙ report_by_limit code (take 16 text) text (ap (λ o. unwrap_or o bad_limit) (limit_front text 16 (lit≤ tt))))
     (λ e.
     let m : 65536 < length code = leb-false (length code) 65536 e in
     report_long (take 65537 code) (take 16 text) (omega (arith, length-take-le 65537 code m)) ∙ sym (report_long code text m))

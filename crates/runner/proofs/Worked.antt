@@ -2,14 +2,14 @@
 use mathlib.Core.Path.{◌≡◌, refl, ◌∙◌}
 use lib.Dec.{lit≤}
 use Rattle.emulator.specs.Computed.{runs}
-use Rattle.console.specs.Limit.{limit_of}
+use Rattle.console.specs.Limit.{limit_number}
 use Rattle.console.specs.Computed.{texts}
 use Rattle.console.proofs.Worked.{whole_output}
 use Rattle.runner.specs.Reports.{ReportRan}
 use Rattle.runner.specs.Worked.{code, three, ExampleOutput, ExampleLeft}
 use Rattle.runner.proofs.Reports.{report_ran}
 
-limit_three : limit_of three ≡ 3
+limit_three : limit_number three ≡ 3
 unfolding texts
 limit_three = refl
 

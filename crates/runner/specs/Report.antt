@@ -5,7 +5,7 @@ use Rattle.machine.specs.Machine.{Memory, memory_of}
 use Rattle.machine.specs.Control.{reset}
 use Rattle.image.specs.Image.{write_image, machine_in, LONGEST}
 use Rattle.emulator.specs.Run.{Call, Reply, RefusedWith, RanFor, Outcome, run_call}
-use Rattle.console.specs.Limit.{limit_of}
+use Rattle.console.specs.Limit.{limit_number}
 use Rattle.console.specs.Line.{ran_text, refusal_text}
 
 -- the program counter that an image at the front of a buffer says
@@ -23,7 +23,7 @@ zero_memory = memory_of (replicate 4096 0)
 
 -- "runs without requests", with the limit that limit.txt says and a buffer that is long enough for every image
 unfoldable pub call_of : (text : List ℕ) → Call
-call_of text = record { requests = []; limit = limit_of text; buffer = replicate LONGEST 0 }
+call_of text = record { requests = []; limit = limit_number text; buffer = replicate LONGEST 0 }
 
 -- "starts from reset with 4,096 zero cells, reads code.bin and limit.txt (decimal), runs without requests"
 unfoldable pub outcome_of : (code text : List ℕ) → Outcome

@@ -4,7 +4,7 @@ use Rattle.machine.specs.Machine.{MOST_MEMORY}
 use Rattle.machine.specs.Control.{reset}
 use Rattle.emulator.specs.Run.{MOST_STEPS, result_from, state_with}
 use Rattle.console.specs.Digits.{newline}
-use Rattle.console.specs.Limit.{limit_of}
+use Rattle.console.specs.Limit.{limit_number}
 use Rattle.console.specs.Line.{ran_text}
 use Rattle.runner.specs.Report.{zero_memory, report_of}
 
@@ -14,13 +14,13 @@ ReportLong = (code text : List ℕ) → MOST_MEMORY < length code → report_of 
 
 -- any other is refused just for its limit: `7` and a newline
 unfoldable pub ReportUnlimited : Type 0
-ReportUnlimited = (code text : List ℕ) → length code ≤ MOST_MEMORY → MOST_STEPS < limit_of text → report_of code text ≡ 55 ∷ newline ∷ []
+ReportUnlimited = (code text : List ℕ) → length code ≤ MOST_MEMORY → MOST_STEPS < limit_number text → report_of code text ≡ 55 ∷ newline ∷ []
 
 -- "prints steps, ending, PC": those of the run from reset, with no requests
 unfoldable pub ReportRan : Type 0
 ReportRan =
-    (code text : List ℕ) → length code ≤ MOST_MEMORY → limit_of text ≤ MOST_STEPS
-    → let e = result_from code [] (limit_of text) 0 (state_with reset zero_memory) in
+    (code text : List ℕ) → length code ≤ MOST_MEMORY → limit_number text ≤ MOST_STEPS
+    → let e = result_from code [] (limit_number text) 0 (state_with reset zero_memory) in
     report_of code text ≡ ran_text e.steps e.ending e.after.machine.position.pc
 
 -- of longer files the bytes that are read, 65,537 and 16, say the same

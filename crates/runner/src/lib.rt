@@ -6,7 +6,6 @@ ghost use Rattle.codec.specs.Number.{over};
 ghost use Rattle.machine.specs.Control.{reset as resetOf};
 ghost use Rattle.image.specs.Image.{write_image, LONGEST};
 ghost use Rattle.emulator.specs.Run.{reply_of};
-ghost use Rattle.console.specs.Line.{line_of};
 ghost use Rattle.std.specs.Counts.{IsPrefixLen};
 ghost use Rattle.runner.specs.Report.{pc_of, answer_text, report_of};
 
@@ -40,7 +39,7 @@ fn pc(buffer: &[u8]) -> u32
 // The line for an answer and the buffer that holds the new image.
 pub fn line(answer: Answer, buffer: &[u8]) -> Line
     requires { length buffer.now ≡ LONGEST }
-    ensures { result ≡ line_of (answer_text (reply_of answer) buffer.now) }
+    ensures { result.bytes ≡ answer_text (reply_of answer) buffer.now }
 {
     match answer {
         Answer::Refusal(n) => console::refusal_line(n),
@@ -50,12 +49,12 @@ pub fn line(answer: Answer, buffer: &[u8]) -> Line
 
 // The line that the run program prints for the bytes of code.bin and of limit.txt.
 pub fn report(code: &[u8], text: &[u8]) -> Line
-    ensures { result ≡ line_of (report_of code.now text.now) }
+    ensures { result.bytes ≡ report_of code.now text.now }
 {
     let start = reset_image();
     let mut cells = [0u32; 4096];
     let requests = [0u32; 0];
-    let limit = console::limit_of(text);
+    let limit = console::limit_of(text).unwrap_or(u32::MAX);
     let mut buffer = [0u8; image::LONGEST];
     let answer = emulator::run(
         code,
@@ -106,12 +105,8 @@ pub fn print_bytes(out: &impl Print, bytes: &[u8]) -> bool {
 }
 
 // Writes a line's characters to standard output, and answers whether all were written.
-pub fn print(out: &impl Print, line: Line) -> bool
-    requires { IsPrefixLen line.count line.bytes }
-{
-    let n = line.count;
-    let bytes = line.bytes;
-    print_bytes(out, &bytes[..n])
+pub fn print(out: &impl Print, line: Line) -> bool {
+    print_bytes(out, line.as_str().as_bytes())
 }
 
 // Reads two files, and prints the report of their bytes: a program, and the steps that it is run for. Of a longer file the bytes that are read say the

@@ -1,5 +1,4 @@
-//! Random lists of calls on one machine (01, "Machine image", and the list of calls
-//! that demand 3 speaks of).
+//! Random sessions: lists of run calls on one machine (Manual 9 and 10).
 
 use crate::damage::{self, Damage, DAMAGES};
 use crate::image::{self, Image, Layout, EARLIER_LONGEST, LONGEST, PC, PRODUCT, SLOT};
@@ -7,9 +6,9 @@ use crate::program::{self, Region, Themes};
 use crate::random::Random;
 use crate::state;
 
-/// "Program at most 65,536 bytes, data at most 65,536 cells"
+/// Most bytes of a program, and most cells of data memory.
 pub const MEMORY_LIMIT: usize = 65_536;
-/// "Step limit at most 1,000,000"
+/// The largest step limit.
 pub const STEP_LIMIT: u32 = 1_000_000;
 
 /// The layout that question 2 reads.
@@ -123,7 +122,7 @@ impl Generator {
         self.own_parts(random, call, expected)
     }
 
-    /// Requests, step limit and image buffer, "each call's own"; seldom such that
+    /// Requests, step limit and image buffer, which are each call's own; seldom such that
     /// questions 1, 6, 7 or 8 refuse them.
     fn own_parts(&mut self, random: &mut Random, call: &mut Call, image: Expected) -> Expected {
         let mut expected = image;
@@ -211,7 +210,7 @@ impl Generator {
         }
     }
 
-    /// "Requests: one number per step; steps past the list have none."
+    /// Requests, one number for each step; steps past the list have none.
     fn fill_requests(&mut self, random: &mut Random, call: &mut Call) {
         call.requests.clear();
         let steps = call.limit.min(300);

@@ -116,8 +116,8 @@ impl Bench {
         self.library_buffer.untouched("the buffer")
     }
 
-    /// What 01 says of every answer: a refusal changes nothing; otherwise the steps
-    /// reach the limit or there is a stop, and bytes behind the image stay.
+    /// What holds of every answer: a refusal changes nothing; otherwise the steps reach the
+    /// limit or there is a stop, and bytes behind the image stay.
     fn as_promised(&self, call: &Call, answer: Answer) -> Result<(), Difference> {
         let both = |what: &str| Err(Difference::Both(what.to_string()));
         if answer.refusal != 0 {

@@ -1,5 +1,5 @@
 //! Images that one of questions 2 to 5 refuses, each by one change to a valid image of a
-//! layout (01, "Machine image"; 02, wish 5).
+//! layout (Manual 8).
 
 use crate::image::*;
 use crate::random::Random;
@@ -47,7 +47,7 @@ pub enum Damage {
     StackedCondition,
     /// Of the timer with this number.
     Divider(usize),
-    // Question 4: user mode has both set bits 0.
+    // Question 4: user mode has RSRD and RSWR 0.
     UserSets,
     StackedUserSets,
     // Question 5: the stack agrees with INT_SERV and RETI_.

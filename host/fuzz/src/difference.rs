@@ -15,7 +15,7 @@ pub enum Difference<A, L> {
     Left(L),
     /// The library wrote to memory that was lent to be read, or not lent at all.
     Stray(String),
-    /// Both sides answer alike, and not as the papers say.
+    /// Both sides answer alike, and not as docs/MANUAL.md says.
     Both(String),
 }
 

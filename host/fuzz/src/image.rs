@@ -1,14 +1,14 @@
-//! The machine image as plain numbers (01, "Machine image"; 02, wish 5), for the generator
-//! and for reports. Nothing here is shared with the reference.
+//! The machine image as plain numbers (Manual 8), for the generator and for reports. Nothing
+//! here is shared with the reference.
 
-/// Bits of PSR (002, section 2.4).
+/// Bits of PSR (Manual 1.4).
 pub const IE: u32 = 16;
 pub const IL: u32 = 8;
 pub const RSWR: u32 = 4;
 pub const RSRD: u32 = 2;
 pub const UM: u32 = 1;
 
-/// Registers of set 2 (01: "PSR as 29, SPSR as 30"), and the link register.
+/// Registers of set 2: PSR, SPSR and the link register.
 pub const PSR: usize = 29;
 pub const SPSR: usize = 30;
 pub const LINK: usize = 31;
@@ -21,7 +21,7 @@ pub const PRODUCT: usize = 3;
 pub const HIGH: usize = 4;
 pub const LOW: usize = 5;
 
-/// Offsets in the control block (002, section 2.9).
+/// Offsets in the control block (Manual 5.1).
 pub const CCB_BASE: usize = 0x00;
 pub const INT_VEC: usize = 0x04;
 pub const INT_MODE_IL: usize = 0x10;
@@ -75,9 +75,9 @@ pub const EARLIER_LONGEST: usize = 708;
 /// The sections of an image.
 #[derive(Clone, Copy, Debug, PartialEq, Eq)]
 pub enum Layout {
-    /// Those of 01.
+    /// Without dividers.
     Earlier,
-    /// Those, and "a last section of 2 dividers".
+    /// With a last section of two dividers.
     Present,
 }
 
@@ -100,13 +100,13 @@ pub struct Timer {
     pub divider: u32,
 }
 
-/// Bits of a timer's half of TMR_CONF (002, table 3.2).
+/// Bits of a timer's half of TMR_CONF (Manual 7.1).
 pub const EN: u32 = 0x8000;
 pub const CONT: u32 = 0x4000;
 pub const GINT: u32 = 0x2000;
 pub const WDOG: u32 = 0x1000;
 
-/// The bits that the control block register at `offset` can hold (002, section 2.6).
+/// The bits that the control block register at `offset` can hold (Manual 5.1).
 pub fn control_mask(offset: usize) -> u32 {
     match offset {
         CCB_BASE => 0xFFFF_FF00,
@@ -122,7 +122,7 @@ pub fn control_mask(offset: usize) -> u32 {
     }
 }
 
-/// One entry of the hardware stack.
+/// One entry of the interrupt stack.
 #[derive(Clone, Copy, Debug, Default, PartialEq, Eq)]
 pub struct Entry {
     pub source: u32,
@@ -139,7 +139,7 @@ pub struct Image {
     pub conditions: [u32; 8],
     pub control: [u32; CONTROL_REGISTERS],
     pub position: [u32; 6],
-    /// The hardware stack, top last; only the first `depth` entries count.
+    /// The interrupt stack, top last; only the first `depth` entries count.
     pub stack: [Entry; SOURCES],
     pub depth: usize,
     pub dividers: [u32; TIMERS],

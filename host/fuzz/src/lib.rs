@@ -2,12 +2,10 @@
 //! of words, of its carrying over of earlier images and of its map of reachable words on seeded
 //! random calls.
 //!
-//! 01 says what a run call is ("Machine image") and what it does ("One step"); 02 says what
-//! a listing is (wish 2), what the timers do and what is carried over (wish 5), what stores to
-//! the RETI_ registers do (wish 6), how a word is written (wish 7), which nops are looked at
-//! (wish 8), and which words can be reached (wish 13). One side is the reference emulator of
-//! host/reference; the other is the proved library, or, to show that the comparison can fail, a
-//! faulty copy of the reference.
+//! docs/MANUAL.md says what they do: a step (section 4), the timers (7), images (8), run calls
+//! and carry-overs (9), listings (11), written words (12) and reachable words (13). One side
+//! is the reference emulator of host/reference; the other is the proved library, or, to show
+//! that the comparison can fail, a faulty copy of the reference.
 
 pub mod call;
 pub mod carried;

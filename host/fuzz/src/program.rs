@@ -467,7 +467,7 @@ impl Filler<'_> {
         if !wide && only_wide(operation) && self.random.percent(90) {
             operation = 19;
         }
-        // A conditional transfer in a slot: stop 13 "condition true or not".
+        // A conditional transfer in a slot: stop 13, its condition true or not.
         if slot && wide && self.random.one_in(50) {
             let transfer = self.random.pick(&[JMPR, JALR, SCALL]);
             return self.plain(transfer, wide) | 1 << 25;
@@ -613,7 +613,7 @@ impl Filler<'_> {
     fn jump(&mut self, operation: u32, at: u32, wide: bool) -> u32 {
         let width = words::bytes(wide);
         let target = match self.random.below(32) {
-            // "04h for a target by immediate outside 32 bits"
+            // A target by immediate outside 32 bits: 04h.
             0 => -2 * i64::from(self.random.range(1, 40)),
             // Misaligned in 32-bit code (03h).
             1 => i64::from(at) + 2 * i64::from(self.random.below(20)) - 20,

@@ -1,5 +1,5 @@
-//! What the looks at the nops after scall, retu, reti and swm met (02, wish 8), from the machine
-//! before them.
+//! What the looks at the nops after scall, retu, reti and swm met (Manual 4.6), from the
+//! machine before them.
 
 use crate::call::MEMORY_LIMIT;
 use crate::image::*;
@@ -375,7 +375,7 @@ impl RequiredNops {
     pub fn need(&self, unmet: &mut Unmet) {
         unmet.need(
             u64::from(self.unlike == 0),
-            format!("looks at nops as 02 has them ({} are not)", self.unlike),
+            format!("looks at nops as the manual has them ({} are not)", self.unlike),
         );
         for (width, name) in WIDTH_NAMES.into_iter().enumerate() {
             for (index, &operation) in BEFORE_NOPS.iter().enumerate() {

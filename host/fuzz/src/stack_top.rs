@@ -1,5 +1,5 @@
-//! What loads and stores of the RETI_ registers met, and the interrupt returns after them (02,
-//! wish 6), from the images before and after them.
+//! What loads and stores of the RETI_ registers met (Manual 5.3), and the interrupt returns
+//! after them, from the images before and after them.
 
 use crate::image::*;
 use crate::met::{add, line, Unmet};

@@ -1,4 +1,4 @@
-//! Random images that questions 2 to 5 accept (01, "Machine image"; 02, wish 5).
+//! Random images that questions 2 to 5 accept (Manual 8).
 
 use crate::image::*;
 use crate::program::{
@@ -263,7 +263,7 @@ impl Builder<'_> {
         }
     }
 
-    /// "LO above HI protects nothing."
+    /// A low bound above the high one, which protects nothing.
     fn no_bounds(&mut self) -> (u32, u32) {
         match self.random.below(4) {
             0 => (u32::MAX, 0),
@@ -442,7 +442,7 @@ impl Builder<'_> {
             1 => (0, point),
             2 => (point, u32::MAX),
             3 => (point, point.saturating_add(self.random.below(20))),
-            // "LO above HI protects nothing."
+            // A low bound above the high one.
             4 => (point.max(1), point.max(1) - 1),
             _ => return,
         };
@@ -568,8 +568,8 @@ impl Builder<'_> {
         }
     }
 
-    /// A number for RETI_PSR with the given word length: either mode with any set bits, often
-    /// with bits above, which are not kept.
+    /// A number for RETI_PSR with the given word length: either mode with any RSRD and RSWR,
+    /// often with bits above, which are not kept.
     fn stored_status(&mut self, wide: bool) -> u32 {
         let sets = self.random.pick(&[0, RSRD, RSWR, RSRD | RSWR]);
         let above = match self.random.below(4) {

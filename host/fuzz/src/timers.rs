@@ -1,5 +1,4 @@
-//! What the clocks of the timers met (002, section 3; 02, wish 5), from the images before and
-//! after them.
+//! What the clocks of the timers met (Manual 7), from the images before and after them.
 
 use crate::image::*;
 use crate::met::{add, line, Unmet};

@@ -1,4 +1,4 @@
-//! Instruction words in both widths (01, "Instruction words"; 02, wish 1).
+//! Instruction words in both widths (Manual 2).
 
 /// The names of the operations.
 pub const NAMES: [&str; 64] = [
@@ -55,7 +55,7 @@ pub fn is_transfer(operation: u32) -> bool {
     (JMP..=RETI).contains(&operation) || operation == SWM
 }
 
-/// The operations after which nops have to follow (02, wish 8).
+/// The operations after which nops have to follow (Manual 4.6).
 pub const BEFORE_NOPS: [u32; 4] = [SCALL, RETU, RETI, SWM];
 
 /// How many nops have to follow the operation.
@@ -78,7 +78,7 @@ pub fn has_immediate(operation: u32) -> bool {
     matches!(operation, 18..=26 | CMPI | EXB | EXH)
 }
 
-/// "Never conditional, bit 25 ignored."
+/// Whether an operation is never conditional, so that bit 25 is ignored.
 pub fn never_conditional(operation: u32) -> bool {
     matches!(operation, NOP | CMP..=JAL | BRANCH..=LAST_BRANCH | RETU..=RCON | EXBFI)
 }
@@ -138,12 +138,12 @@ pub fn wide_registers(operation: u32, target: u32, first: u32, second: u32) -> u
     operation << 26 | target << 10 | first << 5 | second
 }
 
-/// A 32-bit word with a 9-bit immediate, "bits 18..15 above bits 4..0".
+/// A 32-bit word with a 9-bit immediate, bits 18..15 above bits 4..0.
 pub fn wide_immediate(operation: u32, target: u32, first: u32, immediate: u32) -> u32 {
     operation << 26 | (immediate >> 5 & 15) << 15 | target << 10 | first << 5 | immediate & 31
 }
 
-/// A 32-bit exbfi, "length in bits 24..19, position in 4..0".
+/// A 32-bit exbfi, its length in bits 24..19 and its position in bits 4..0.
 pub fn wide_field(target: u32, first: u32, length: u32, position: u32) -> u32 {
     EXBFI << 26 | length << 19 | target << 10 | first << 5 | position
 }
@@ -172,8 +172,8 @@ pub fn jump_mask(operation: u32, wide: bool) -> u32 {
     }
 }
 
-/// The target of a jmp, jal or branch at an address: "the slot's address plus twice the signed
-/// immediate".
+/// The target of a jmp, jal or branch at an address: the slot's address plus twice the signed
+/// immediate.
 pub fn jump_target(word: u32, wide: bool, at: u32) -> i64 {
     let mask = jump_mask(operation(word, wide), wide);
     let sign = i64::from(mask / 2 + 1);
@@ -219,7 +219,7 @@ pub fn low_immediate(word: u32, wide: bool) -> u32 {
     }
 }
 
-/// Whether a condition is true of a condition register (01: "Conditions 0 to 7").
+/// Whether a condition holds of a condition register (Manual 2.6).
 pub fn condition(number: u32, register: u32) -> bool {
     let (z, n, c) = (register & 4 != 0, register & 2 != 0, register & 1 != 0);
     match number {
@@ -238,7 +238,7 @@ pub fn condition(number: u32, register: u32) -> bool {
 mod tests {
     use super::*;
 
-    /// The words that 01 gives.
+    /// Words worked by hand.
     #[test]
     fn worked_by_hand() {
         assert_eq!(short_registers(3, 26, 25), 0x0C11);
@@ -283,7 +283,7 @@ mod tests {
         assert_eq!(word_at(&program, 4, true), None);
     }
 
-    /// The numbers that 02's wish 1 gives.
+    /// The numbers of the byte and field operations, and exbfi's fields.
     #[test]
     fn byte_and_field_operations() {
         let names = ["conb", "conh", "exb", "exh", "exbf", "exbfi"];

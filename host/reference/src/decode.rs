@@ -1,4 +1,4 @@
-//! Instruction words: their fields in both widths (01, "Instruction words"; 02, wish 1).
+//! Instruction words: their fields in both widths (Manual 2).
 
 use self::Operation::*;
 use std::ops::RangeInclusive;
@@ -28,7 +28,7 @@ impl WordLength {
     }
 }
 
-/// "Conditions 0 to 7: c, egt, elt, eq, gt, lt, ne, nc."
+/// The conditions, by number from 0 to 7: c, egt, elt, eq, gt, lt, ne, nc (Manual 2.6).
 #[derive(Clone, Copy, Debug, PartialEq, Eq)]
 pub enum Condition {
     Carry,
@@ -56,8 +56,8 @@ impl Condition {
         }
     }
 
-    /// Whether the condition is true of a condition register, Z×4 + N×2 + C.
-    /// "lt is N; eq is Z; elt is N or Z; gt is neither; egt is not N."
+    /// Whether the condition holds of a condition register, Z×4 + N×2 + C: lt is N, eq is Z,
+    /// elt is N or Z, gt is neither of them, egt is not N.
     pub fn is_true(self, register: u32) -> bool {
         let z = register & 4 != 0;
         let n = register & 2 != 0;
@@ -138,8 +138,7 @@ pub enum Operation {
 }
 
 impl Operation {
-    /// The operation with the number that the low six bits of `number` give: 01's list,
-    /// and 58 to 63 by wish 1 of 02.
+    /// The operation with the number that the low six bits of `number` give (Manual 3.1).
     pub fn from_number(number: u32) -> Operation {
         match number & 63 {
             0 => Nop,
@@ -202,8 +201,8 @@ impl Operation {
         }
     }
 
-    /// Whether the operation has a form in a width: lli, lui and exbfi "can be used only in
-    /// 32 bit mode".
+    /// Whether the operation has a form in a width: lli, lui and exbfi have none in 16-bit
+    /// words.
     pub fn has_form(self, length: WordLength) -> bool {
         match self {
             Lli | Lui | Exbfi => length == WordLength::Bits32,
@@ -211,9 +210,9 @@ impl Operation {
         }
     }
 
-    /// Whether the operation may be conditional in a width. 16-bit words: "Nothing is
-    /// conditional". 32-bit words: "Never conditional, bit 25 ignored: nop, cmp, cmpi, lli,
-    /// lui, jumps with an immediate, branches, 49 to 57", and exbfi, which is "unconditional".
+    /// Whether the operation may be conditional in a width (Manual 3.1). 16-bit words never
+    /// are. Of 32-bit words nop, cmp, cmpi, lli, lui, jumps with an immediate, branches, 49 to
+    /// 57 and exbfi are not, and ignore bit 25.
     pub fn may_be_conditional(self, length: WordLength) -> bool {
         let never = matches!(
             self,
@@ -238,8 +237,8 @@ impl Operation {
         length == WordLength::Bits32 && !never
     }
 
-    /// Whether the operation may not stand in a branch slot: "operations 36 to 50
-    /// and swm".
+    /// Whether the operation is a control transfer, which may not stand in a branch slot: 36
+    /// to 50 and swm (Manual 4.4).
     pub fn is_control_transfer(self) -> bool {
         matches!(
             self,
@@ -247,10 +246,7 @@ impl Operation {
         )
     }
 
-    /// How many nops have to follow the operation. 002, section 6.2: swm "has to be followed
-    /// by two nop -instructions", scall "has a branch slot which in this case has to be
-    /// filled with a nop instruction", "The instruction following retu always has to be a
-    /// nop", reti "has to be followed by three nops". 02, wish 8: "two, one, one, three".
+    /// How many nops have to follow the operation (Manual 4.6).
     pub fn required_nops(self) -> u32 {
         match self {
             Swm => 2,
@@ -260,8 +256,8 @@ impl Operation {
         }
     }
 
-    /// The operations 18 to 26, 33, 60 and 61, which in a 16-bit word take dr as source
-    /// and target: "with an immediate, but for ld and st, dr is source and target".
+    /// The operations with an immediate and one source register (18 to 26, 33, 60 and 61),
+    /// which in a 16-bit word is dr, source and target (Manual 2.2).
     fn has_register_and_immediate(self) -> bool {
         matches!(
             self,
@@ -302,21 +298,21 @@ enum Meaning {
     Unsigned,
     /// Two's complement.
     Signed,
-    /// "Registers n mean n+24."
+    /// Of a register of a 16-bit word, 24 to 31: 24 less.
     ShortRegister,
 }
 
 impl Field {
     /// The place of what an operation does not have.
     pub const NONE: Field = unsigned(&[]);
-    /// "bit 25 conditional"
+    /// Bit 25: the word is conditional.
     pub const CONDITIONAL: Field = unsigned(&[(25, 25)]);
-    /// "24..22 condition register"
+    /// Bits 24..22: the condition register.
     pub const CONDITION_REGISTER: Field = unsigned(&[(24, 22)]);
-    /// "21..19 condition"
+    /// Bits 21..19: the condition.
     pub const CONDITION: Field = unsigned(&[(21, 19)]);
 
-    /// The operation's place: "bits 31..26 operation" and "bits 15..10 operation".
+    /// The operation's place: bits 31..26 of a 32-bit word, 15..10 of a 16-bit one.
     pub fn operation(length: WordLength) -> Field {
         match length {
             WordLength::Bits32 => unsigned(&[(31, 26)]),
@@ -408,8 +404,8 @@ const fn short_register(parts: &'static [(u32, u32)]) -> Field {
     }
 }
 
-/// "32-bit: 24..22 condition register; 14..10 dreg; 9..5 sreg1; 4..0 sreg2. lli and lui: dreg
-/// 20..16." exbfi: "length in bits 24..19, position in 4..0".
+/// The operands of a 32-bit word (Manual 2.3): condition register in bits 24..22, dreg in
+/// 14..10 (of lli and lui in 20..16), sreg1 in 9..5, sreg2 in 4..0, exbfi's length in 24..19.
 fn operand_32(operand: Operand, operation: Operation) -> Field {
     match (operand, operation) {
         (Operand::ConditionRegister, _) => Field::CONDITION_REGISTER,
@@ -423,8 +419,8 @@ fn operand_32(operand: Operand, operation: Operation) -> Field {
     }
 }
 
-/// The immediate of a 32-bit word, by the bits that are used. "A 9-bit immediate is bits
-/// 18..15 above bits 4..0." "swm bit 0 is IL; chrs bit 0 is RSRD and bit 1 RSWR."
+/// The immediate of a 32-bit word, by the bits that are used (Manual 2.3 and 2.4). One of nine
+/// bits is bits 18..15 above bits 4..0.
 fn immediate_32(operation: Operation) -> Field {
     match operation {
         Addi | Muli | Cmpi | Ld | St => signed(&[(18, 15), (4, 0)]),
@@ -443,7 +439,8 @@ fn immediate_32(operation: Operation) -> Field {
     }
 }
 
-/// "16-bit: 5..3 sr, 2..0 dr. The first source is sr, the second is dr. Only C0 is used."
+/// The operands of a 16-bit word (Manual 2.2 and 2.3): sr in bits 5..3 is the first source, dr
+/// in bits 2..0 the second and the target. C0 is its only condition register.
 fn operand_16(operand: Operand, operation: Operation) -> Field {
     let sr = short_register(&[(5, 3)]);
     let dr = short_register(&[(2, 0)]);
@@ -458,8 +455,8 @@ fn operand_16(operand: Operand, operation: Operation) -> Field {
     }
 }
 
-/// The immediate of a 16-bit word, by the bits that are used: "immediate 9..3; ld and st have
-/// immediate 9..6; jumps and branches 9..0"; swm, chrs and trap as in 32-bit words.
+/// The immediate of a 16-bit word, by the bits that are used (Manual 2.3 and 2.4): bits 9..3,
+/// of ld and st 9..6, of jumps and branches 9..0; of swm, chrs and trap as in 32-bit words.
 fn immediate_16(operation: Operation) -> Field {
     match operation {
         Addi | Muli | Cmpi => signed(&[(9, 3)]),

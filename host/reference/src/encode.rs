@@ -1,4 +1,4 @@
-//! Writing words: from operation, width, condition and operands to the word (02, wish 7).
+//! Writing words: from operation, width, condition and operands to the word (Manual 12).
 
 use crate::decode::{decode, operation_number, Field, Operation, WordLength};
 use crate::operands::operands;
@@ -8,18 +8,17 @@ use std::ops::RangeInclusive;
 /// An answer that is a refusal is this and the refusal's number.
 const REFUSED: u64 = 1 << 32;
 
-/// "18 when the operation has no such form in that width, or no conditional form and a
-/// condition is given"
+/// Refusal: the operation has no form in this width, or a condition is given and it has no
+/// conditional form.
 const NO_FORM: u32 = 18;
-/// "19 when an operand or a part of the condition does not fit the bits used, or an operand
-/// has none and is not 0"
+/// Refusal: an operand or a part of the condition does not fit its bits, or an operand that
+/// the operation does not have is not 0.
 const NO_FIT: u32 = 19;
 
 /// The largest number of an operation.
 const LAST_OPERATION: u32 = 63;
 
-/// What a word is made from: "operation, width, condition and operands as wish 2 prints
-/// them".
+/// What a word is made from: what a listing shows of it.
 #[derive(Clone, Copy, Debug, Default, PartialEq, Eq)]
 pub struct Choice {
     /// The operation's number.
@@ -32,7 +31,7 @@ pub struct Choice {
     /// The condition's register and its number.
     pub creg: u32,
     pub condition: u32,
-    /// The operands in the order of a listing, "registers of 16-bit words as 24 to 31"; 0 for
+    /// The operands in the order of a listing, registers of 16-bit words as 24 to 31; 0 for
     /// each that the operation does not have.
     pub operands: [i32; 4],
 }
@@ -45,7 +44,7 @@ pub fn encode(choice: &Choice) -> u64 {
     }
 }
 
-/// The word of a choice, or the refusal: 18, "asked first", or 19.
+/// The word of a choice, or the refusal: 18, asked first, or 19.
 pub(crate) fn word(choice: &Choice) -> Result<u32, u32> {
     let length = WordLength::from_wide(choice.wide);
     let operation = with_form(choice.operation, length).ok_or(NO_FORM)?;
@@ -108,8 +107,8 @@ pub fn reading(word: u32, wide: u32) -> Option<Choice> {
     Some(choice)
 }
 
-/// A word with its ignored bits at 0: "A word that came in with other ignored bits is written
-/// with zeros". Nothing where a listing shows `?`.
+/// A word with its ignored bits at 0, which is what its reading is written as. Nothing where a
+/// listing shows `?`.
 pub fn cleared(word: u32, wide: u32) -> Option<u32> {
     let length = WordLength::from_wide(wide);
     let instruction = decode(word, length);

@@ -1,5 +1,5 @@
-//! The machine image (01, "Machine image"; 02, wish 5): 32-bit numbers, high byte first, in
-//! seven sections, each after its count. Images saved before wish 5 have no last section.
+//! The machine image (Manual 8): 32-bit numbers, high byte first, in seven sections, each
+//! after its count. The earlier layout lacks the last section.
 
 use crate::machine::{
     control_can_hold, offset, Machine, Position, StackEntry, CONTROL_REGISTERS, PSR, RSRD, RSWR,
@@ -13,9 +13,9 @@ pub const LONGEST_IMAGE: usize = 720;
 /// The sections that question 2 asks for.
 #[derive(Clone, Copy, Debug, PartialEq, Eq)]
 pub enum Layout {
-    /// Those of 01, as "images saved by cards already on lines" have them.
+    /// Of images saved by versions before 2.0.0: no dividers.
     Earlier,
-    /// "The image gains a last section of 2 dividers"; "question 2 reads the longer layout".
+    /// With a last section, the timers' dividers.
     Present,
 }
 
@@ -75,9 +75,8 @@ impl Sections {
         })
     }
 
-    /// Question 3: "Every number one its register can hold (CCB_BASE's low byte 0,
-    /// FPU_STATUS 0, CORE_VER_ID 1), PSR at most 31, flags 0 or 1, a 0 flag's
-    /// numbers 0?" 02: "question 3 a divider at most 255".
+    /// Question 3: whether each number is one that its register can hold, PSR at most 31, each
+    /// flag 0 or 1, the numbers of a 0 flag 0, and each divider at most 255.
     pub fn registers_can_hold(&self) -> bool {
         let [_, slot_flag, target, product_flag, high, low] = self.position;
         let slot = slot_flag == 1 || (slot_flag == 0 && target == 0);
@@ -97,14 +96,14 @@ impl Sections {
                 .all(|&divider| divider <= DIVIDER_LIMIT)
     }
 
-    /// Question 4: "Every current or stacked PSR with UM 1 has both set bits 0?"
+    /// Question 4: whether every PSR with UM 1, current or on the stack, has RSRD and RSWR 0.
     pub fn user_mode_has_set_1(&self) -> bool {
         let good = |psr: u32| psr & UM == 0 || psr & (RSRD | RSWR) == 0;
         good(self.set2[PSR]) && self.stack.iter().all(|&[_, _, psr, _]| good(psr))
     }
 
-    /// Question 5: "Stack sources below 12, all different, equal to INT_SERV, RETI_
-    /// equal to the top, or 1, 9, 0 when empty?"
+    /// Question 5: whether the stack's sources are below 12, all different and those of
+    /// INT_SERV, and the RETI_ registers show the top entry, or 1, 9, 0 when there is none.
     pub fn stack_agrees(&self) -> bool {
         let mut in_service = 0;
         for &[source, ..] in &self.stack {
@@ -203,7 +202,7 @@ impl Sections {
     }
 }
 
-/// Writes an image to the front of a buffer; "its further bytes keep their values".
+/// Writes an image to the front of a buffer, whose further bytes keep their values.
 pub fn write_image(sections: &Sections, buffer: &mut [u8]) {
     let bytes = sections.to_bytes();
     buffer[..bytes.len()].copy_from_slice(&bytes);

@@ -1,9 +1,8 @@
 //! A reference emulator of the COFFEE core, to compare other implementations with.
 //!
-//! It is written from three papers alone: 02 (the change requests, of which wishes 1 to 3,
-//! 5 to 8 and 13 are done), 01 (the board's rules) and 002 (the COFFEE Core user manual, July
-//! 2007). Where they differ, 02 decides, then 01. It is meant to be read beside them, and
-//! puts clarity before speed.
+//! Its rules are those of docs/MANUAL.md, cited here as "Manual 4.3", and of the COFFEE Core
+//! user manual (July 2007) where that cites it. It takes nothing from the proved library, is
+//! meant to be read beside the manual, and puts clarity before speed.
 
 mod decode;
 mod encode;
@@ -26,20 +25,19 @@ pub use encode::{cleared, encode, operand_ranges, reading, Choice};
 pub use listing::listing;
 pub use reach::reach;
 
-/// "Program at most 65,536 bytes"
+/// Most bytes of a program.
 const PROGRAM_LIMIT: usize = 65_536;
-/// "data at most 65,536 cells"
+/// Most cells of data memory.
 const DATA_LIMIT: usize = 65_536;
-/// "Every request at most FFFh"
+/// The largest request: a bit for each of the twelve sources.
 const REQUEST_LIMIT: u32 = 0xFFF;
-/// "Step limit at most 1,000,000"
+/// The largest step limit.
 const STEP_LIMIT: u32 = 1_000_000;
 
 /// What a run call answers.
 #[derive(Clone, Copy, Debug, PartialEq, Eq)]
 pub struct Answer {
-    /// 0, or the number of the first question of 01's "Machine image" whose answer
-    /// is no, 1 to 8.
+    /// 0, or the number of the first question that is answered no, 1 to 8 (Manual 9).
     pub refusal: u32,
     /// The steps done; 0 on a refusal.
     pub steps: u32,
@@ -58,8 +56,8 @@ impl fmt::Display for Answer {
     }
 }
 
-/// Runs the machine of `image` for at most `limit` steps, with the `requests` of each
-/// step in turn; "steps past the list have none".
+/// Runs the machine of `image` for at most `limit` steps (Manual 9), with the `requests` of
+/// each step in turn; steps past the list have none.
 ///
 /// A refused call changes nothing. Otherwise `cells` are as the steps leave them, and
 /// the new image is at the front of `buffer`, whose further bytes keep their values.
@@ -112,10 +110,10 @@ pub fn reset(buffer: &mut [u8]) -> u32 {
     0
 }
 
-/// Carries an image of the earlier layout over (02, wish 5): writes it with a last section of
-/// dividers 0, "all else the same", to the front of `buffer`, whose further bytes keep their
-/// values, and answers 0; or answers the number of the first question whose answer is no,
-/// 2 to 5 "by the old layout, then 8", and changes nothing.
+/// Carries an image of the earlier layout over (Manual 9): writes it with a last section of
+/// dividers 0, all else the same, to the front of `buffer`, whose further bytes keep their
+/// values, and answers 0; or answers the number of the first question that is answered no, 2
+/// to 5 by the earlier layout, then 8, and changes nothing.
 pub fn carry_over(image: &[u8], buffer: &mut [u8]) -> u32 {
     let sections = match questions_2_to_5(image, Layout::Earlier) {
         Ok(sections) => sections,
@@ -128,8 +126,8 @@ pub fn carry_over(image: &[u8], buffer: &mut [u8]) -> u32 {
     0
 }
 
-/// Asks the questions 1 to 8 of 01's "Machine image" in order: the machine to run, or
-/// the number of the first question whose answer is no.
+/// Asks the questions 1 to 8 of a run call in order (Manual 9): the machine to run, or the
+/// number of the first question that is answered no.
 fn admit(
     program: &[u8],
     cells: &[u32],

@@ -1,18 +1,18 @@
-//! The program on paper: a line of text for each word of a program (02, wish 2).
+//! Listings: a line of text for each word of a program (Manual 11).
 
 use crate::decode::{decode, Condition, Instruction, Operand, Operation, Operation::*, WordLength};
 use crate::operands::operands;
 use crate::PROGRAM_LIMIT;
 
-/// "each instruction a line of exactly 47 characters and a newline"
+/// The bytes of a line: 47 characters and a newline.
 const LINE: usize = 48;
 
 /// Writes the lines of `program` to the front of `text`, whose further bytes keep their
 /// values, and answers 0. `wide` is 0 for 16-bit words, any other number for 32-bit words.
 ///
-/// Or changes nothing and answers 1 when the program has more than 65,536 bytes, "16 when
-/// the bytes are no whole number of words, asked after 1; 17 when the buffer is below 48
-/// bytes per word".
+/// Or changes nothing and answers 1 when the program has more than 65,536 bytes, then 16 when
+/// its bytes are no whole number of words, then 17 when the text has fewer than 48 bytes for
+/// each word.
 pub fn listing(program: &[u8], wide: u32, text: &mut [u8]) -> u32 {
     let length = WordLength::from_wide(wide);
     let word_bytes = length.bytes() as usize;
@@ -28,7 +28,7 @@ pub fn listing(program: &[u8], wide: u32, text: &mut [u8]) -> u32 {
         return 17;
     }
     for (number, bytes) in program.chunks_exact(word_bytes).enumerate() {
-        // "bytes, high byte first"
+        // High byte first.
         let word = bytes
             .iter()
             .fold(0, |word, &byte| word << 8 | u32::from(byte));
@@ -40,9 +40,9 @@ pub fn listing(program: &[u8], wide: u32, text: &mut [u8]) -> u32 {
     0
 }
 
-/// The line of a word: "address (8 hex digits), blank, word (8, or 4 and 4 blanks), blank,
-/// condition (`egt C7`, padded to 6), blank, name (8), blank, operands (13, with R names,
-/// decimals, single blanks)"; "every part is padded with blanks on its right".
+/// The line of a word (Manual 11): its address, 8 hex digits; the word, 8 or 4 of them; its
+/// condition, as `egt C7`, in 6 characters; its name in 8; its operands in 13. A blank stands
+/// between two parts, and each is filled with blanks on its right.
 fn line(address: usize, word: u32, length: WordLength) -> String {
     let digits = match length {
         WordLength::Bits16 => format!("{word:04X}"),
@@ -56,7 +56,7 @@ fn line(address: usize, word: u32, length: WordLength) -> String {
         }
         None => String::new(),
     };
-    // "an operation with no form in that width prints `?` and no operands"
+    // An operation with no form in this width shows `?` and no operands.
     let (name, operands) = if instruction.operation.has_form(length) {
         (
             operation_name(instruction.operation),
@@ -73,7 +73,7 @@ fn line(address: usize, word: u32, length: WordLength) -> String {
     format!("{address:08X} {digits:<8} {condition:<6} {name:<8} {operands:<13}\n")
 }
 
-/// An operand as text: "R names, decimals".
+/// An operand as text: a register with its letter, or a decimal number.
 fn operand_text(instruction: &Instruction, operand: Operand) -> String {
     let number = instruction.operand(operand);
     match operand {
@@ -83,7 +83,7 @@ fn operand_text(instruction: &Instruction, operand: Operand) -> String {
     }
 }
 
-/// "Conditions 0 to 7: c, egt, elt, eq, gt, lt, ne, nc."
+/// The name of a condition (Manual 2.6).
 fn condition_name(condition: Condition) -> &'static str {
     match condition {
         Condition::Carry => "c",
@@ -97,7 +97,7 @@ fn condition_name(condition: Condition) -> &'static str {
     }
 }
 
-/// The names of 002's section 6.2.
+/// The name of an operation (Manual 3.1).
 fn operation_name(operation: Operation) -> &'static str {
     match operation {
         Nop => "nop",

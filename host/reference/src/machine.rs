@@ -1,10 +1,10 @@
 //! The state of the machine: two register sets, eight condition registers, the
-//! control block, the position in the program, the hardware stack and the dividers of
+//! control block, the position in the program, the interrupt stack and the dividers of
 //! the timers.
 
 use crate::timers::TIMERS;
 
-/// Bit 4 of PSR: interrupts enabled (002, section 2.4).
+/// Bit 4 of PSR (Manual 1.4): interrupts enabled.
 pub const IE: u32 = 1 << 4;
 /// Bit 3 of PSR: instruction words of 32 bits (1) or 16 bits (0).
 pub const IL: u32 = 1 << 3;
@@ -35,8 +35,7 @@ pub const CONTROL_REGISTERS: usize = 45;
 /// The number of data addresses that the control block covers.
 pub const CONTROL_BLOCK_SIZE: u32 = 256;
 
-/// Offsets of the control block registers, in the order of 002, section 2.9
-/// (01: "Offsets 00h to 2Ch follow section 2.9's order").
+/// Offsets of the control block registers (Manual 5.1).
 pub mod offset {
     pub const CCB_BASE: usize = 0x00;
     pub const PCB_BASE: usize = 0x01;
@@ -74,7 +73,7 @@ pub mod offset {
     pub const CORE_VER_ID: usize = 0x2C;
 }
 
-/// The width in bits of the control block register at `offset` (002, section 2.6).
+/// The width in bits of the control block register at `offset` (Manual 5.1).
 pub fn control_width(offset: usize) -> u32 {
     match offset {
         offset::INT_MODE_IL
@@ -101,8 +100,7 @@ fn control_mask(offset: usize) -> u32 {
     ((1_u64 << control_width(offset)) - 1) as u32
 }
 
-/// Whether the control block register at `offset` can hold `value`
-/// (01, "Machine image", question 3).
+/// Whether the control block register at `offset` can hold `value`: question 3 (Manual 8).
 pub fn control_can_hold(offset: usize, value: u32) -> bool {
     match offset {
         offset::FPU_STATUS => value == 0,
@@ -111,8 +109,7 @@ pub fn control_can_hold(offset: usize, value: u32) -> bool {
     }
 }
 
-/// Whether stores to `offset` are ignored whatever the machine (01, "Control block":
-/// "Read-only"); 02, wish 6, takes the RETI_ registers out.
+/// Whether stores to `offset` are ignored whatever the machine (Manual 5.2).
 fn control_read_only(offset: usize) -> bool {
     match offset {
         offset::INT_SERV | offset::INT_PEND => true,
@@ -122,9 +119,9 @@ fn control_read_only(offset: usize) -> bool {
     }
 }
 
-/// What a store to RETI_PSR puts on the hardware stack. 02, wish 6: "RETI_PSR keeps bits
-/// 4..0, and with UM 1 both set bits become 0". UM is the stored value's own. Question 3
-/// still goes by the register's width of 8.
+/// What a store to RETI_PSR puts on the interrupt stack: bits 4..0, with RSRD and RSWR at 0
+/// where the stored value's own UM is 1 (Manual 5.3). Question 3 still goes by the register's
+/// width of 8.
 fn stacked_psr(value: u32) -> u32 {
     let psr = value & (IE | IL | RSWR | RSRD | UM);
     if psr & UM != 0 {
@@ -134,7 +131,7 @@ fn stacked_psr(value: u32) -> u32 {
     }
 }
 
-/// An entry of the hardware stack: what an accepted interrupt leaves there, and stores to
+/// An entry of the interrupt stack: what an accepted interrupt leaves there, and stores to
 /// the RETI_ registers replace, but for the source.
 #[derive(Clone, Copy, Debug, PartialEq, Eq)]
 pub struct StackEntry {
@@ -166,14 +163,14 @@ pub struct Machine {
     /// The control block registers by offset.
     pub control: [u32; CONTROL_REGISTERS],
     pub position: Position,
-    /// The hardware stack, top last.
+    /// The interrupt stack, top last.
     pub stack: Vec<StackEntry>,
     /// The divider of each timer.
     pub dividers: [u32; TIMERS],
 }
 
 impl Machine {
-    /// The machine after reset (002, section 2.9; 01 gives FPU_STATUS and CORE_VER_ID).
+    /// The machine after reset (Manual 4.12 and 5.1).
     pub fn reset() -> Machine {
         let mut control = [0; CONTROL_REGISTERS];
         control[offset::CCB_BASE] = 0x0001_0000;
@@ -247,8 +244,8 @@ impl Machine {
         }
     }
 
-    /// Writes a register in the set that RSWR names. "Writing to a read only
-    /// register (PSR) is ignored" (002, section 2.4).
+    /// Writes a register in the set that RSWR names; a result for PSR is thrown away
+    /// (Manual 1.4).
     pub fn write_register(&mut self, index: usize, value: u32) {
         if self.psr() & RSWR == 0 {
             self.set1[index] = value;
@@ -262,9 +259,9 @@ impl Machine {
         self.control.get(offset).copied().unwrap_or(0)
     }
 
-    /// Stores to the control block at an offset of 0 to 255. "A short register
-    /// keeps its low bits; CCB_BASE's low byte is stored 0." 02, wish 6: "Stores to
-    /// RETI_ADDR, RETI_PSR and RETI_CR0 now replace the top entry's address, PSR or C0".
+    /// Stores to the control block at an offset of 0 to 255 (Manual 5.2). A short register
+    /// keeps its low bits, CCB_BASE none of its low byte; stores to RETI_ADDR, RETI_PSR and
+    /// RETI_CR0 replace the top entry's address, PSR or C0 (Manual 5.3).
     pub fn store_control(&mut self, offset: usize, value: u32) {
         if control_read_only(offset) {
             return;
@@ -278,14 +275,14 @@ impl Machine {
         }
     }
 
-    /// Puts an entry on the hardware stack and sets its source's flag in INT_SERV.
+    /// Puts an entry on the interrupt stack and sets its source's flag in INT_SERV.
     pub fn push(&mut self, entry: StackEntry) {
         self.control[offset::INT_SERV] |= 1 << entry.source;
         self.stack.push(entry);
         self.show_stack_top();
     }
 
-    /// Takes the top entry off the hardware stack and clears its source's flag in
+    /// Takes the top entry off the interrupt stack and clears its source's flag in
     /// INT_SERV; nothing when the stack is empty.
     pub fn pop(&mut self) -> Option<StackEntry> {
         let entry = self.stack.pop()?;
@@ -294,8 +291,8 @@ impl Machine {
         Some(entry)
     }
 
-    /// Changes the top entry of the hardware stack, and shows it. "with an empty stack they
-    /// [the stores] are ignored"
+    /// Changes the top entry of the interrupt stack, and shows it; nothing when the stack is
+    /// empty.
     fn change_stack_top(&mut self, change: impl FnOnce(&mut StackEntry)) {
         if let Some(top) = self.stack.last_mut() {
             change(top);
@@ -303,7 +300,7 @@ impl Machine {
         }
     }
 
-    /// "RETI_ shows the stack's top, or 1, 9, 0 when empty."
+    /// Lets the RETI_ registers show the stack's top, or 1, 9, 0 when it is empty.
     fn show_stack_top(&mut self) {
         let (address, psr, c0) = match self.stack.last() {
             Some(top) => (top.address, top.psr, top.c0),

@@ -1,20 +1,19 @@
-//! The operands that an operation has, in the order in which they are shown and given (02,
-//! wishes 2 and 7: "Operands stand in 002's order").
+//! The operands that an operation has, in the order in which they are shown and given
+//! (Manual 11 and 12).
 
 use crate::decode::{Operand, Operand::*, Operation, Operation::*, WordLength};
 
-/// The operands of an operation that has a form in this width, in the order of 002's section
-/// 6.2, whose syntax is quoted. Where it gives two, the second is that of 16-bit words, which
-/// have "no C0".
+/// The operands of an operation that has a form in this width (Manual, table 11.3). Each
+/// comment is a form of 32-bit words, then the one of 16-bit words where it differs.
 pub fn operands(operation: Operation, length: WordLength) -> &'static [Operand] {
     use WordLength::{Bits16, Bits32};
     match (operation, length) {
-        // "nop", "(cond, creg) scall", "retu", "reti", "di", "ei"
+        // nop, scall, retu, reti, di, ei
         (Nop | Scall | Retu | Reti | Di | Ei, _) => &[],
-        // "conh dreg, sreg2, sreg1/conh dr, sr"
+        // conh dreg, sreg2, sreg1 / conh dr, sr
         (Conh, Bits32) => &[Target, Source2, Source1],
         (Conh, Bits16) => &[Target, Source1],
-        // "add dreg, sreg1, sreg2/ add dr, sr"
+        // add dreg, sreg1, sreg2 / add dr, sr
         (
             Add | Addu | Sub | Subu | And | Or | Xor | Muls | Mulu | Mulus | Muls16 | Mulu16
             | Mulus16 | Sll | Srl | Sra | Sext | Conb | Exbf,
@@ -25,45 +24,44 @@ pub fn operands(operation: Operation, length: WordLength) -> &'static [Operand] 
             | Mulus16 | Sll | Srl | Sra | Sext | Conb | Exbf,
             Bits16,
         ) => &[Target, Source1],
-        // "addi dreg, sreg1, imm/ addi dr, imm"
+        // addi dreg, sreg1, imm / addi dr, imm
         (Addi | Addiu | Andi | Ori | Muli | Slli | Srli | Srai | Sexti | Exb | Exh, Bits32) => {
             &[Target, Source1, Immediate]
         }
-        // For exb and exh 002 gives "exb dreg, sreg, imm" alone; but in our words "dr is
-        // source and target", so a 16-bit word has one register.
+        // In a 16-bit word dr is source and target, of exb and exh too, and shown once.
         (Addi | Addiu | Andi | Ori | Muli | Slli | Srli | Srai | Sexti | Exb | Exh, Bits16) => {
             &[Target, Immediate]
         }
-        // "ld dreg, sreg1, imm"
+        // ld dreg, sreg1, imm
         (Ld, _) => &[Target, Source1, Immediate],
-        // "st sreg2, sreg1, imm", the data first: "st stores dreg"
+        // st dreg, sreg1, imm: the register that is stored comes first
         (St, _) => &[Target, Source1, Immediate],
-        // "mov dreg, sreg1", "not dreg, sreg1"
+        // mov dreg, sreg1; not dreg, sreg1
         (Mov | Not, _) => &[Target, Source1],
-        // "mulhi dreg"
+        // mulhi dreg
         (Mulhi, _) => &[Target],
-        // "cmp creg, sreg1, sreg2/cmp sr1, sr2"
+        // cmp creg, sreg1, sreg2 / cmp sr, dr
         (Cmp, Bits32) => &[ConditionRegister, Source1, Source2],
         (Cmp, Bits16) => &[Source1, Source2],
-        // "cmpi creg, sreg1, imm/cmpi sr, imm"
+        // cmpi creg, sreg1, imm / cmpi dr, imm
         (Cmpi, Bits32) => &[ConditionRegister, Source1, Immediate],
         (Cmpi, Bits16) => &[Source1, Immediate],
-        // "lli dreg, imm", "lui dreg, imm"
+        // lli dreg, imm; lui dreg, imm
         (Lli | Lui, _) => &[Target, Immediate],
-        // "jmp imm", "jal imm"
+        // jmp imm; jal imm
         (Jmp | Jal, _) => &[Immediate],
-        // "jmpr sreg1", "jalr sreg1"
+        // jmpr sreg1; jalr sreg1
         (Jmpr | Jalr, _) => &[Source1],
-        // "bc creg, imm/bc imm"
+        // bc creg, imm / bc imm
         (Branch(_), Bits32) => &[ConditionRegister, Immediate],
         (Branch(_), Bits16) => &[Immediate],
-        // "chrs imm", "swm imm", "trap imm"
+        // chrs imm; swm imm; trap imm
         (Chrs | Swm | Trap, _) => &[Immediate],
-        // "scon dreg"
+        // scon dreg
         (Scon, _) => &[Target],
-        // "rcon sreg1"
+        // rcon sreg1
         (Rcon, _) => &[Source1],
-        // "exbfi dreg, sreg1, imm1, imm2": the length, then the position
+        // exbfi dreg, sreg1, length, position
         (Exbfi, _) => &[Target, Source1, Length, Immediate],
     }
 }

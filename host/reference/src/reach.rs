@@ -1,16 +1,16 @@
-//! Which code can be reached: the words of a program reachable from a start address (02, wish
-//! 13).
+//! Which code can be reached: the words of a program that a start address leads to
+//! (Manual 13).
 
 use crate::decode::{decode, Instruction, Operation, Operation::*, WordLength};
 use crate::PROGRAM_LIMIT;
 
 /// Writes to `map`, over the program's length, 1 at the first byte of each word that is
-/// reached from `start`, itself included, and 0 elsewhere, and answers 0; "later bytes keep
-/// their values". `wide` is true for 32-bit words, false for 16-bit words.
+/// reached from `start`, itself included, and 0 elsewhere, and answers 0; later bytes keep
+/// their values. `wide` is true for 32-bit words, false for 16-bit words.
 ///
-/// Or changes nothing and answers 1 when the program has more than 65,536 bytes, "28 when the
-/// map is shorter than the program, asked first after 1", then "27 when the start is
-/// misaligned or its word absent".
+/// Or changes nothing and answers 1 when the program has more than 65,536 bytes, then 28 when
+/// the map is shorter than the program, then 27 when the start is misaligned or its word
+/// absent.
 pub fn reach(program: &[u8], wide: bool, start: u32, map: &mut [u8]) -> u32 {
     let length = WordLength::from_wide(u32::from(wide));
     if program.len() > PROGRAM_LIMIT {
@@ -24,8 +24,6 @@ pub fn reach(program: &[u8], wide: bool, start: u32, map: &mut [u8]) -> u32 {
         return 27;
     };
     let reached = code.reached(start);
-    // "A byte map gets 1 at the first byte of exactly the reached words, 0 elsewhere over the
-    // program's length"
     map[..program.len()].fill(0);
     for index in 0..code.instructions.len() {
         if reached.in_full[index] || reached.as_slot[index] {
@@ -61,7 +59,7 @@ impl Code {
     fn new(program: &[u8], length: WordLength) -> Code {
         let words = program.chunks_exact(length.bytes() as usize);
         let instructions = words.map(|bytes| {
-            // "bytes, high byte first"
+            // High byte first.
             let word = bytes
                 .iter()
                 .fold(0, |word, &byte| word << 8 | u32::from(byte));
@@ -73,8 +71,7 @@ impl Code {
         }
     }
 
-    /// The index of the word at an address: "Only aligned words wholly in program memory are
-    /// reached."
+    /// The index of the word at an address; only aligned words wholly in the program have one.
     fn index(&self, address: i64) -> Option<usize> {
         let word_bytes = i64::from(self.length.bytes());
         let index = usize::try_from(address / word_bytes).ok()?;
@@ -113,7 +110,7 @@ impl Code {
         loop {
             let before = reached.clone();
             for index in (0..count).chain((0..count).rev()) {
-                // "a word reached only as a slot leads nowhere"
+                // A word that is reached only as a slot leads nowhere.
                 if reached.in_full[index] {
                     for &successor in &successors[index].in_full {
                         reached.in_full[successor] = true;
@@ -130,8 +127,8 @@ impl Code {
     }
 }
 
-/// "A reached word leads to the next one, except jmp and jal, jmpr, jalr and scall without a
-/// condition, retu, reti, swm, trap"
+/// Whether a reached word leads to the next one. jmp, jal, retu, reti, swm and trap do not;
+/// jmpr, jalr and scall do with a condition.
 fn falls_through(instruction: &Instruction) -> bool {
     match instruction.operation {
         Jmp | Jal => false,
@@ -141,8 +138,8 @@ fn falls_through(instruction: &Instruction) -> bool {
     }
 }
 
-/// "jmp, jal and branches to their target"; "Operands in registers are not followed." 01: "a
-/// target by immediate is the slot's address plus twice the signed immediate".
+/// The target of jmp, jal and branches: the slot's address plus twice the signed immediate.
+/// What a register holds is not followed.
 fn target(instruction: &Instruction, slot: i64) -> Option<i64> {
     match instruction.operation {
         Jmp | Jal | Branch(_) => Some(slot + 2 * instruction.immediate),
@@ -153,11 +150,11 @@ fn target(instruction: &Instruction, slot: i64) -> Option<i64> {
 /// How many words later the program goes on after a call, or after a swm.
 fn resumption(instruction: &Instruction, length: WordLength) -> Option<u32> {
     match instruction.operation {
-        // "jal and jalr to the word after the slot"
+        // The word after the slot.
         Jal | Jalr => Some(2),
-        // "scall to the word after its nop"
+        // The word after its nop.
         Scall => Some(2),
-        // "a swm that keeps the width to the word three later"; 01: "swm bit 0 is IL"
+        // The word three later, where bit 0 of the immediate, the new IL, keeps the width.
         Swm => {
             let new_length = WordLength::from_wide(instruction.immediate as u32);
             (new_length == length).then_some(3)
@@ -169,10 +166,9 @@ fn resumption(instruction: &Instruction, length: WordLength) -> Option<u32> {
 /// How many of the next words are reached as slots.
 fn slots(operation: Operation) -> u32 {
     match operation {
-        // "Jumps 36 to 39 lead to their slot as a slot"
+        // The branch slot.
         Jmp | Jal | Jmpr | Jalr => 1,
-        // "scall and retu to the next word, swm to the next two, reti to the next three, as
-        // slots"
+        // The nops that have to follow.
         Scall | Retu => 1,
         Swm => 2,
         Reti => 3,

@@ -1,6 +1,5 @@
-//! One step of the machine (01, "One step"): an interrupt is accepted, or one
-//! instruction runs, or an exception is entered, and the timers have their clock; or the
-//! machine stops.
+//! One step of the machine (Manual 4): an interrupt is accepted, or one instruction runs, or
+//! an exception is entered, and the timers have their clock; or the machine stops.
 
 use crate::decode::{decode, operation_number, Instruction, Operation, WordLength};
 use crate::machine::{
@@ -8,7 +7,7 @@ use crate::machine::{
     SUPER_USER_PSR, UM,
 };
 
-/// Exception codes (002, table 5.5). 02: "Code 01h no longer occurs."
+/// Exception codes (Manual 4.9).
 mod exception {
     pub const INSTRUCTION_ADDRESS_VIOLATION: u32 = 0x00;
     pub const ILLEGAL_INSTRUCTION: u32 = 0x02;
@@ -19,11 +18,11 @@ mod exception {
     pub const DATA_ADDRESS_VIOLATION: u32 = 0x07;
     pub const DATA_ADDRESS_OVERFLOW: u32 = 0x08;
     pub const ILLEGAL_JUMP: u32 = 0x09;
-    /// "trap n has code 224 + n."
+    /// Of trap 0; that of trap n is n more.
     pub const TRAP: u32 = 224;
 }
 
-/// Stop numbers (01, "One step"; 02, wish 8).
+/// Stop numbers (Manual 4.10).
 mod stop {
     /// A byte of the instruction word, or of a nop that has to follow it, is absent.
     pub const NO_PROGRAM_BYTE: u32 = 11;
@@ -33,7 +32,7 @@ mod stop {
     pub const TRANSFER_IN_SLOT: u32 = 13;
     /// mulhi without a product from the step just before.
     pub const NO_PRODUCT: u32 = 14;
-    /// reti with an empty hardware stack.
+    /// reti with an empty interrupt stack.
     pub const EMPTY_STACK: u32 = 15;
     /// Another operation stands where a nop has to follow.
     pub const NOT_A_NOP: u32 = 20;
@@ -57,8 +56,8 @@ enum Place {
 }
 
 impl Machine {
-    /// Does one step with this step's requests. On a stop the answer is its number,
-    /// and "everything, requests included, is as before it".
+    /// Does one step with this step's requests. On a stop the answer is its number, and
+    /// everything, requests included, is as before it.
     pub fn step(&mut self, program: &[u8], cells: &mut [u32], requests: u32) -> Result<(), u32> {
         let mut next = self.clone();
         next.control[offset::INT_PEND] |= requests;
@@ -72,7 +71,7 @@ impl Machine {
                 Err(Fault::Stop(number)) => return Err(number),
             }
         }
-        // "one clock for each completed step, after the step's stores; a stop is no clock"
+        // Each completed step has one clock, after its stores; a stop has none (Manual 4.11).
         next.clock();
         *self = next;
         Ok(())
@@ -80,10 +79,10 @@ impl Machine {
 
     // Interrupts
 
-    /// The source whose interrupt this step accepts, if any.
+    /// The source whose interrupt this step accepts, if any (Manual 4.2).
     ///
-    /// "Accepted when IE is 1, no branch slot waits, and not (a product is held and
-    /// the next word, with no 05h, 00h or stop 11 for it, is mulhi)."
+    /// None is accepted where IE is 0, while a branch slot waits, or while a product is held
+    /// and the next word, with no 05h, 00h or stop 11 for it, is mulhi.
     fn interrupt_to_accept(&self, program: &[u8]) -> Option<usize> {
         if self.psr() & IE == 0 || self.position.slot.is_some() {
             return None;
@@ -91,15 +90,15 @@ impl Machine {
         if self.position.product.is_some() && self.next_word_is_mulhi(program) {
             return None;
         }
-        // "smallest number first, ties to the lower source": min_by_key gives the
-        // first of several least ones.
+        // The smallest priority number comes first, of equal ones the lower source: min_by_key
+        // gives the first of several least ones.
         (0..SOURCES)
             .filter(|&source| self.request_gets_through(source))
             .min_by_key(|&source| self.priority(source))
     }
 
-    /// "The source is pending, has INT_MASK 1, and a priority number below all in
-    /// service."
+    /// Whether the source is pending, has INT_MASK 1, and has a priority number below those of
+    /// all sources in service.
     fn request_gets_through(&self, source: usize) -> bool {
         let flag = 1 << source;
         let in_service = |other: &usize| self.control[offset::INT_SERV] & (1 << other) != 0;
@@ -110,8 +109,8 @@ impl Machine {
                 .all(|other| self.priority(source) < self.priority(other))
     }
 
-    /// The priority number of a source, 0 to 15 (002, section 2.6: COP_INT_PRI and
-    /// EXT_INT_PRI hold four bits for each source, the first source lowest).
+    /// The priority number of a source, 0 to 15 (Manual 4.2): COP_INT_PRI and EXT_INT_PRI hold
+    /// four bits for each source, the first source lowest.
     fn priority(&self, source: usize) -> u32 {
         let field = if source < 4 {
             self.control[offset::COP_INT_PRI] >> (4 * source)
@@ -132,9 +131,10 @@ impl Machine {
         }
     }
 
-    /// "Then: flag moves from pending to in service; PC, PSR, C0 go on the hardware
-    /// stack; PC takes the vector; IE 0; IL and UM by the two mode registers; both
-    /// set bits are 1 for super user, else 0." A held product is dropped.
+    /// Accepts an interrupt (Manual 4.2): the source's flag moves from pending to in service;
+    /// PC, PSR and C0 go on the interrupt stack; PC takes the vector; IE becomes 0, IL and UM
+    /// the source's bits of the two mode registers, RSRD and RSWR 1 for super user mode, else
+    /// 0. A held product is dropped.
     fn accept_interrupt(&mut self, source: usize) {
         let flag = 1 << source;
         self.control[offset::INT_PEND] &= !flag;
@@ -161,9 +161,9 @@ impl Machine {
 
     // Exceptions
 
-    /// "EXCEPTION_CS, _PC, _PSR take the code, the instruction's address and the PSR
-    /// before, PSR is 0Eh, PC is EXCEP_ADDR, slot dropped." A held product is
-    /// dropped too.
+    /// Enters an exception (Manual 4.9): EXCEPTION_CS, _PC and _PSR take the code, the
+    /// instruction's address and the PSR before; PSR becomes 0Eh, PC EXCEP_ADDR. Slot and held
+    /// product are dropped.
     fn enter_exception(&mut self, code: u32) {
         self.control[offset::EXCEPTION_CS] = code;
         self.control[offset::EXCEPTION_PC] = self.position.pc;
@@ -197,8 +197,8 @@ impl Machine {
         self.user_mode() && (address..=last).any(|byte| self.program_byte_protected(byte))
     }
 
-    /// The word at PC. "misaligned (05h); any byte of the word protected in user
-    /// mode (00h); byte absent (stop 11)".
+    /// The word at PC, by the fetch tests (Manual 4.3): misaligned (05h); a byte of it
+    /// protected in user mode (00h); a byte absent (stop 11).
     fn fetch(&self, program: &[u8]) -> Result<u32, Fault> {
         let address = self.position.pc;
         if self.misaligned(address) {
@@ -222,8 +222,8 @@ impl Machine {
             .fold(0, |word, &byte| word << 8 | u32::from(byte)))
     }
 
-    /// Runs the instruction at PC, in the order of 01's "Instruction order". After
-    /// a fault the machine is of no further use: the caller goes on with a copy.
+    /// Runs the instruction at PC, with its tests in the order of the manual (Manual 4.3 to
+    /// 4.8). After a fault the machine is of no further use: the caller goes on with a copy.
     fn run_instruction(&mut self, program: &[u8], cells: &mut [u32]) -> Result<(), Fault> {
         let word = self.fetch(program)?;
         let instruction = decode(word, self.word_length());
@@ -245,7 +245,7 @@ impl Machine {
             None => address + self.word_length().bytes(),
         };
 
-        // "condition false: nothing but PC moves"
+        // On a false condition nothing but PC moves (Manual 4.5).
         if let Some(condition) = instruction.condition {
             if !condition.is_true(self.conditions[instruction.condition_register]) {
                 return Ok(());
@@ -256,12 +256,10 @@ impl Machine {
         self.execute(instruction, address, product, cells)
     }
 
-    /// Tests the words after the instruction at `address` that have to be nops. 02, wish 8:
-    /// "These words are now looked at one after another in the old width, once any condition
-    /// is true and before stop 15. In user mode a protected byte among them raises 00h at the
-    /// instruction's own address; an absent byte is stop 11." "20, a stop, when one of them
-    /// has another operation than 0, given in that look": a word has all its tests before
-    /// the next has any. PSR is still the old one, and so are width and mode.
+    /// Tests the words after the instruction at `address` that have to be nops (Manual 4.6),
+    /// one after another: a byte protected in user mode is 00h, at the instruction's own
+    /// address; an absent byte is stop 11; another operation than 0 is stop 20. A word has all
+    /// its tests before the next has any. PSR is still the old one, and so are width and mode.
     fn check_required_nops(
         &self,
         operation: Operation,
@@ -271,7 +269,7 @@ impl Machine {
         let length = self.word_length();
         for n in 1..=operation.required_nops() {
             let word = self.word_at(address + n * length.bytes(), program)?;
-            // "Bits that an operation does not use are ignored": a nop has its operation only.
+            // Only the operation counts: a nop ignores its other bits.
             if operation_number(word, length) != 0 {
                 return Err(Fault::Stop(stop::NOT_A_NOP));
             }
@@ -279,8 +277,8 @@ impl Machine {
         Ok(())
     }
 
-    /// "Code 02h: lli, lui in 16-bit; those two [retu, chrs] in user mode." 02: exbfi is
-    /// "code 02h in 16-bit".
+    /// Whether the operation is not available, 02h (Manual 4.4): lli, lui and exbfi in 16-bit
+    /// words, retu and chrs in user mode.
     fn illegal(&self, operation: Operation) -> bool {
         match operation {
             Operation::Lli | Operation::Lui | Operation::Exbfi => {
@@ -309,7 +307,7 @@ impl Machine {
         // The immediate as a 32-bit word, sign or zeros extended.
         let extended = immediate as u32;
         let word_bytes = self.word_length().bytes();
-        // The first address after a branch slot: "links are the address after the slot".
+        // The first address after a branch slot, which is what jal and jalr link.
         let after_slot = address + 2 * word_bytes;
 
         match instruction.operation {
@@ -330,7 +328,7 @@ impl Machine {
             Not => self.write_register(target, !first),
             Mov => self.write_register(target, first),
 
-            // mulus: the first is unsigned, the second signed (002, section 6.2).
+            // mulus: the first is unsigned, the second signed.
             Muls => self.multiply(target, (signed(first) * signed(second)) as u64),
             Mulu => self.multiply(target, u64::from(first) * u64::from(second)),
             Mulus => self.multiply(target, (i64::from(first) * signed(second)) as u64),
@@ -370,7 +368,7 @@ impl Machine {
                 };
                 self.write_register(target, value);
             }
-            // "st stores dreg", read from the set that RSRD names.
+            // The register that is stored is read from the set that RSRD names.
             St => {
                 let value = self.read_register(target);
                 match self.data_place(first, immediate, cells.len())? {
@@ -383,14 +381,14 @@ impl Machine {
             Cmpi => self.compare(instruction.condition_register, first, extended),
 
             Lli => self.write_register(target, extended),
-            // "The lower half of the destination register is preserved."
+            // The low half of the target register stays.
             Lui => {
                 let low_half = self.read_target(target) & 0xFFFF;
                 self.write_register(target, extended << 16 | low_half);
             }
 
-            // "a target by immediate is the slot's address plus twice the signed
-            // immediate"; a link is written only by a jump that passes its tests.
+            // A target by immediate is the slot's address plus twice the signed immediate
+            // (Manual 4.8); a link is written only by a jump that passes its tests.
             Jmp => self.jump(i64::from(address + word_bytes) + 2 * immediate)?,
             Jal => {
                 self.jump(i64::from(address + word_bytes) + 2 * immediate)?;
@@ -407,26 +405,27 @@ impl Machine {
                 }
             }
 
-            // "scall: link PR31 is two words on, SPSR takes PSR, PSR becomes 0Eh."
+            // The link in PR31 is two words on, SPSR takes PSR, PSR becomes 0Eh.
             Scall => {
                 self.set2[LINK] = after_slot;
                 self.set2[SPSR] = self.psr();
                 self.set_psr(SUPER_USER_PSR);
                 self.position.pc = self.control[offset::SYSTEM_ADDR];
             }
-            // "retu: PC from PR31; IE, IL from SPSR; user mode, set 1."
+            // PC comes from PR31, IE and IL from SPSR; the mode is user mode, by set 1.
             Retu => {
                 self.position.pc = self.set2[LINK];
                 self.set_psr(self.set2[SPSR] & (IE | IL) | UM);
             }
-            // "reti pops (stop 15 when empty) and clears that source's flag."
+            // The top entry gives PC, PSR and C0 (stop 15 when there is none), and its source
+            // is no longer in service.
             Reti => {
                 let entry = self.pop().ok_or(Fault::Stop(stop::EMPTY_STACK))?;
                 self.position.pc = entry.address;
                 self.set_psr(entry.psr);
                 self.conditions[0] = entry.c0;
             }
-            // "chrs bit 0 is RSRD and bit 1 RSWR"
+            // Bit 0 is RSRD, bit 1 RSWR.
             Chrs => {
                 let mut psr = self.psr() & !(RSRD | RSWR);
                 if extended & 1 != 0 {
@@ -439,7 +438,7 @@ impl Machine {
             }
             Di => self.set_psr(self.psr() & !IE),
             Ei => self.set_psr(self.psr() | IE),
-            // "swm bit 0 is IL"; "swm goes on three old-width words later".
+            // Bit 0 is IL, and PC goes on three words of the old width later.
             Swm => {
                 let mut psr = self.psr() & !IL;
                 if extended & 1 != 0 {
@@ -450,7 +449,7 @@ impl Machine {
             }
             Trap => return Err(Fault::Exception(exception::TRAP + extended)),
 
-            // "scon and rcon place Cn at bits 3n+2..3n."
+            // Cn stands at bits 3n+2..3n.
             Scon => {
                 let mut word = 0;
                 for (n, register) in self.conditions.iter().enumerate() {
@@ -466,8 +465,7 @@ impl Machine {
 
             Conb => self.write_register(target, concatenate(first, second, 8)),
             Conh => self.write_register(target, concatenate(first, second, 16)),
-            // "byte number immediate bits 1..0 of the source, 0 lowest"; "halfword by
-            // bit 0"
+            // The byte with this number, 0 the lowest; the halfword likewise.
             Exb => self.write_register(target, first >> (8 * extended) & 0xFF),
             Exh => self.write_register(target, first >> (16 * extended) & 0xFFFF),
             Exbf => self.write_register(target, extract_field(first, second)),
@@ -480,7 +478,7 @@ impl Machine {
         Ok(())
     }
 
-    /// "Flags: Z and N of the 32-bit result, C the carry out", written to C0.
+    /// Writes C0: Z and N of the 32-bit result, C the carry out (Manual 3.2).
     fn write_flags(&mut self, result: u32, carry: bool) {
         self.conditions[0] = flags(result == 0, signed(result) < 0, carry);
     }
@@ -500,7 +498,7 @@ impl Machine {
         Ok(())
     }
 
-    /// Subtraction that wraps: subu. The carry is "first ≥ second, unsigned".
+    /// Subtraction that wraps: subu. The carry is first ≥ second, unsigned.
     fn subtract(&mut self, target: usize, first: u32, second: u32) {
         let result = (i64::from(first) - i64::from(second)) as u32;
         self.write_flags(result, first >= second);
@@ -514,7 +512,7 @@ impl Machine {
         Ok(())
     }
 
-    /// "cmp and cmpi: Z equal, N signed less, C as subtraction."
+    /// cmp and cmpi: Z if equal, N if less as signed numbers, C as of a subtraction.
     fn compare(&mut self, condition_register: usize, first: u32, second: u32) {
         self.conditions[condition_register] = flags(
             first == second,
@@ -529,10 +527,10 @@ impl Machine {
         self.position.product = Some(product);
     }
 
-    /// Takes a jump: tests its target and leaves one branch slot.
+    /// Takes a jump: tests its target and leaves one branch slot (Manual 4.8).
     ///
-    /// "04h for a target by immediate outside 32 bits, 03h, then in user mode 09h if
-    /// a byte of the target word is protected."
+    /// The tests are 04h for a target outside 32 bits, then 03h, then in user mode 09h if a
+    /// byte of the target word is protected.
     fn jump(&mut self, target: i64) -> Result<(), Fault> {
         let target = u32::try_from(target)
             .map_err(|_| Fault::Exception(exception::JUMP_ADDRESS_OVERFLOW))?;
@@ -546,9 +544,9 @@ impl Machine {
         Ok(())
     }
 
-    /// Where a load or store goes. 01: "Data tests: address outside 32 bits (08h); user
-    /// and protected (07h); neither block nor cell (stop 12)." 02, wish 3, puts the second
-    /// first: "In user mode, if the address taken modulo 2^32 is protected, it is now 07h."
+    /// Where a load or store goes (Manual 4.7): in user mode 07h if the address modulo 2^32 is
+    /// protected; then 08h if the address is outside 32 bits; then stop 12 if it is neither
+    /// the control block's nor a cell's.
     fn data_place(&self, base: u32, immediate: i64, cells: usize) -> Result<Place, Fault> {
         let sum = i64::from(base) + immediate;
         // The address modulo 2^32.
@@ -559,7 +557,7 @@ impl Machine {
         if sum != i64::from(address) {
             return Err(Fault::Exception(exception::DATA_ADDRESS_OVERFLOW));
         }
-        // "the control block's 256 addresses from CCB_BASE first, then cells"
+        // The control block's 256 addresses from CCB_BASE come first, then cells.
         let first = self.control[offset::CCB_BASE];
         let last = first + (CONTROL_BLOCK_SIZE - 1);
         if first <= address && address <= last {
@@ -596,12 +594,12 @@ fn signed_range(result: i64) -> Result<(), Fault> {
     }
 }
 
-/// "A condition register is Z×4 + N×2 + C."
+/// A condition register: Z×4 + N×2 + C.
 fn flags(zero: bool, negative: bool, carry: bool) -> u32 {
     u32::from(zero) * 4 + u32::from(negative) * 2 + u32::from(carry)
 }
 
-// "Shifts, sext and sexti use the five lowest bits."
+// Shifts, sext and sexti use the five lowest bits of their second operand.
 
 fn shift_left(value: u32, amount: u32) -> u32 {
     (u64::from(value) << (amount & 31)) as u32
@@ -615,7 +613,7 @@ fn shift_right_arithmetic(value: u32, amount: u32) -> u32 {
     (signed(value) >> (amount & 31)) as u32
 }
 
-/// Repeats the bit at `position` in all bits above it (002, section 6.2, sexti).
+/// Repeats the bit at `position` in all bits above it: sext and sexti.
 fn extend_sign_from(value: u32, position: u32) -> u32 {
     let position = position & 31;
     let above = !((1_u64 << (position + 1)) - 1) as u32;
@@ -626,16 +624,14 @@ fn extend_sign_from(value: u32, position: u32) -> u32 {
     }
 }
 
-/// conb and conh: the low `width` bits of the first above those of the second. 02, wish 1:
-/// "low byte of first × 256 + low byte of second", "the same with halfwords and 65,536".
+/// conb and conh: the low `width` bits of the first above those of the second.
 fn concatenate(first: u32, second: u32, width: u32) -> u32 {
     let low_bits = (1 << width) - 1;
     (first & low_bits) << width | second & low_bits
 }
 
-/// exbf and exbfi: the field of `value` that `field` names, "length from second source
-/// bits 10..5, position 4..0". "A field's bits beyond 31 are zero; a length over 32 counts
-/// as 32."
+/// exbf and exbfi: the field of `value` with the length in bits 10..5 of `field` and the
+/// position in bits 4..0. Its bits past bit 31 are zero; a length over 32 counts as 32.
 fn extract_field(value: u32, field: u32) -> u32 {
     let length = (field >> 5 & 63).min(32);
     let position = field & 31;

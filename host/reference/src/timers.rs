@@ -1,12 +1,12 @@
-//! The two timers (002, section 3; 02, wish 5): "one clock for each completed step, after
-//! the step's stores; a stop is no clock."
+//! The two timers (Manual 7): one clock for each completed step, after the step's stores; a
+//! stop has none.
 //!
-//! What wish 5 leaves open is read so:
+//! In particular:
 //! - A step that accepts an interrupt or enters an exception is a completed one.
-//! - A store to a timer register counts in the clock of its own step, although 01 says that
-//!   stores act from the next step.
-//! - INTN n is EXT_INTn, source 4 + n. Its flag in INT_PEND is set at the clock, whatever
-//!   IE, INT_MASK and INT_SERV are, so that the next step is the first to accept it.
+//! - A store to a timer register counts in the clock of its own step, although for all else
+//!   stores count from the next step on.
+//! - INTN n is EXT_INTn, source 4 + n. Its flag in INT_PEND is set at the clock, whatever IE,
+//!   INT_MASK and INT_SERV are, so that the next step is the first to accept it.
 //! - WDOG 1 resets whatever GINT is, and never requests.
 //! - A CONT 0 count at the maximum leaves its divider going round; only the tick does nothing.
 //! - A reset leaves the machine that the reset call gives. The requests of its own step are
@@ -18,10 +18,10 @@ use crate::machine::{offset, Machine};
 /// The number of timers.
 pub const TIMERS: usize = 2;
 
-/// "Question 3 a divider at most 255."
+/// The largest divider that an image may have.
 pub const DIVIDER_LIMIT: u32 = 255;
 
-// Bits of a timer's half of TMR_CONF (002, table 3.2).
+// Bits of a timer's half of TMR_CONF (Manual 7.1).
 const EN: u32 = 1 << 15;
 const CONT: u32 = 1 << 14;
 const GINT: u32 = 1 << 13;
@@ -51,13 +51,12 @@ pub enum Asked {
 impl Timer {
     /// One clock.
     pub fn clock(&mut self) -> Asked {
-        // "EN 0 zeroes the divider without a tick."
+        // EN 0 zeroes the divider without a tick.
         if !self.has(EN) {
             self.divider = 0;
             return Asked::Nothing;
         }
-        // "A divider counts 0 to DIV, and at DIV or above goes back to 0; on going back to
-        // 0 the timer ticks."
+        // The divider counts 0 to DIV; at DIV or above it goes back to 0, and the timer ticks.
         if self.divider < self.divider_end() {
             self.divider += 1;
             return Asked::Nothing;
@@ -67,18 +66,17 @@ impl Timer {
     }
 
     fn tick(&mut self) -> Asked {
-        // "At the maximum, CONT 1 sets zero and CONT 0 stays; elsewhere the count wraps from
-        // FFFFFFFFh to 0."
+        // At the maximum, CONT 1 sets the count to 0; any other count grows by one and wraps.
         if self.count != self.maximum {
             self.count = self.count.wrapping_add(1);
         } else if self.has(CONT) {
             self.count = 0;
         } else {
-            // "A CONT 0 count already at the maximum does nothing."
+            // With CONT 0 a count that is at the maximum stays and asks for nothing.
             return Asked::Nothing;
         }
-        // "A tick that leaves the count equal to the maximum requests INTN if GINT is 1, or
-        // with WDOG 1 resets the core instead."
+        // A tick that leaves the count at the maximum resets the core if WDOG is 1, else
+        // requests INTN if GINT is 1.
         if self.count != self.maximum {
             Asked::Nothing
         } else if self.has(WDOG) {
@@ -107,7 +105,7 @@ impl Timer {
 }
 
 impl Machine {
-    /// One clock of both timers. "Timer 0 goes first, and a reset ends that clock."
+    /// One clock of both timers, timer 0 first; a reset ends it (Manual 4.11 and 4.12).
     pub fn clock(&mut self) {
         for number in 0..TIMERS {
             let mut timer = self.timer(number);
@@ -117,9 +115,7 @@ impl Machine {
                 Asked::Nothing => {}
                 Asked::Interrupt(source) => self.control[offset::INT_PEND] |= 1 << source,
                 Asked::Reset => {
-                    // "registers and conditions at 002's reset values or else 0, section
-                    // 2.9's values, PC 0, slot and product gone, stack and pending empty,
-                    // dividers 0, data kept"
+                    // All but the memories is as after reset.
                     *self = Machine::reset();
                     return;
                 }

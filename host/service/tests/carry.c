@@ -28,7 +28,7 @@ static size_t earlier_length(size_t entries)
     return COFFEE_EARLIER_IMAGE_MIN + COFFEE_IMAGE_ENTRY * entries;
 }
 
-/* Writes a file of the earlier layout with two dividers 0 behind its stack (02, wish 5). */
+/* Writes a file of the earlier layout with two dividers 0 behind its stack. */
 static void with_dividers(const char *from, const char *to)
 {
     static const uint8_t dividers[12] = {0, 0, 0, 2};

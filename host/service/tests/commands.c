@@ -1,5 +1,4 @@
-/* The commands where all is well. What is expected is worked out from the papers: 01 is the
-   scope, 002 the COFFEE core manual. */
+/* The commands where all is well. What is expected is worked out from docs/MANUAL.md. */
 #include "harness.h"
 #include "places.h"
 
@@ -9,7 +8,7 @@
 #include <sys/stat.h>
 #include <unistd.h>
 
-/* 01's example: lli PR1, 5; addi; trap 3. */
+/* The run program's example (Manual 16): lli PR1, 5; addi; trap 3. */
 #define EXAMPLE "88010005 4807883F DC000003"
 
 /* A loop that stores in its slot and holds a product between muli and mulhi:
@@ -67,7 +66,7 @@ static void shown(const char *name, const char *expected, char *const *words)
 #define SHOWN(name, expected, ...) \
     shown(name, expected, (char *[]){"service", "show", __VA_ARGS__, NULL})
 
-/* What show says of a PSR (002, section 2.4). */
+/* What show says of a PSR (Manual 1.4). */
 static void mode(uint32_t psr, const char *words)
 {
     machine("m", 0);
@@ -107,12 +106,12 @@ static void test_show(void)
     SHOWN("show of a plain image", "reset.show", "--plain", "plain");
     write_words("program", EXAMPLE);
     RUN("run", "program", "m", "3");
-    SHOWN("show of 01's example", "example.show", "m");
+    SHOWN("show of the example", "example.show", "m");
     stacked("m");
     SHOWN("show of two stack entries, a slot, a product and dividers", "stack.show", "m",
           "--plain");
 
-    /* Sources 0 to 3 are COP, 4 to 11 EXT (01); all twelve on one stack, source 11 on top. */
+    /* Sources 0 to 3 are COP, 4 to 11 EXT; all twelve on one stack, source 11 on top. */
     plain_image("full");
     set_word("full", STACK_COUNT, 12);
     set_word("full", INT_SERV, 0xFFF);
@@ -172,7 +171,7 @@ static void test_cells(void)
             "cells", "m", "1", "-1");
     plain_image("plain");
     ACCEPTED("a plain image", "no cells\n", "cells", "--plain", "plain");
-    /* The control block comes first at its 256 addresses (01 "Memories"). */
+    /* The control block comes first at its 256 addresses (Manual 1.2). */
     machine("m", 520);
     set_word("m", CCB_BASE, 0x100);
     ACCEPTED("cells behind the control block",
@@ -187,7 +186,7 @@ static void test_cells(void)
 }
 
 /* Writes the longest program of words of so many bytes, prints it to a file, and compares that with
-   its lines (02, wish 2). In 32 bits the words are lli R0 0, lli R1 4 and so on, each with its own
+   its lines (Manual 11). In 32 bits the words are lli R0 0, lli R1 4 and so on, each with its own
    address as immediate; in 16 bits every cmpi, over and over. */
 static void list_longest(const char *width, unsigned bytes)
 {
@@ -277,13 +276,13 @@ static void test_run(void)
     fresh();
     write_words("program", EXAMPLE);
     machine("m", 4096);
-    ACCEPTED("01's example", "3 0 00000000\n", "run", "program", "m", "3");
-    /* 01: PR2 is 4, C0 is 1, EXCEPTION_CS E3h; trap at 8 with PSR 0Eh. */
+    ACCEPTED("the example", "3 0 00000000\n", "run", "program", "m", "3");
+    /* PR2 is 4, C0 is 1, EXCEPTION_CS E3h; trap at 8 with PSR 0Eh. */
     machine("expected", 4096);
     set_words("expected", SET_2 + 1, "5 4");
     set_word("expected", C0, 1);
     set_words("expected", EXCEPTION_CS, "E3 8 E");
-    same_bytes("01's example: the machine left", "expected", "m");
+    same_bytes("the example: the machine left", "expected", "m");
     same_text("run leaves no other file", "expected m program", names_in("."));
     ACCEPTED("limit 0", "0 0 00000000\n", "run", "program", "m", "0");
     same_bytes("limit 0: the same machine", "expected", "m");
@@ -340,7 +339,7 @@ static void test_run(void)
 }
 
 /* Programs where a word that must be a nop is another, addi PR2, PR1, -1 (4807883Fh), absent or
-   protected (02, wish 8). */
+   protected (Manual 4.6). */
 static void test_nops(void)
 {
     section("required nops");
@@ -596,8 +595,8 @@ static void test_long(void)
              "1000000000000");
 }
 
-/* A task of super user mode, one of user mode, and a service routine that returns to the second (02,
-   wish 6):
+/* A task of super user mode, one of user mode, and a service routine that returns to the second
+   (Manual 6.3):
     0 addiu PR3, PR3, 1           4 jmp to 0            8 nop, the slot      12 nop
    16 (c, C0) addiu R2, R2, 1    20 jmp to 16          24 nop, the slot      28 nop
    32 st PR1 to RETI_ADDR        36 PR2 to RETI_PSR    40 PR2 to RETI_CR0
@@ -643,7 +642,7 @@ static void timed(const char *path, uint32_t conf, uint32_t maximum)
     set_word(path, TMR0_MAX_CNT, maximum);
 }
 
-/* TMR_CONF's bits for timer 0 (002, section 3.1). */
+/* TMR_CONF's bits for timer 0 (Manual 7.1). */
 enum { EN = 0x8000, CONT = 0x4000, GINT = 0x2000, WDOG = 0x1000 };
 
 static void test_timers(void)

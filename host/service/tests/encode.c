@@ -1,5 +1,5 @@
-/* The command encode: words worked out from the papers (01 "Instruction words", 02's wish 7), what
-   it refuses, and the words of a listing typed back. */
+/* The command encode: words worked out from docs/MANUAL.md (sections 2 and 12), what it refuses,
+   and the words of a listing typed back. */
 #include "../instruction.h"
 #include "faults.h"
 #include "harness.h"
@@ -78,7 +78,7 @@ static void test_words_32(void)
     has_word("32", "EC001022", "conh R4 R2 R1");
     has_word("32", "F0000443", "exb R1 R2 3");
     has_word("32", "F4000441", "exh R1 R2 1");
-    /* Conditions 0 to 7 (01), with C1 to C7 and C0. */
+    /* Conditions 0 to 7, with C1 to C7 and C0. */
     has_word("32", "06400000", "c C1 add R0 R0 R0");
     has_word("32", "06880000", "egt C2 add R0 R0 R0");
     has_word("32", "06D00000", "elt C3 add R0 R0 R0");

@@ -1,5 +1,4 @@
-/* Places in an image, counted in words from its front (01 "Machine image"; 02, wish 5; 002 section
-   2.9). */
+/* Places in an image, counted in words from its front (Manual 5.1 and 8). */
 #ifndef PLACES_H
 #define PLACES_H
 

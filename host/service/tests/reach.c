@@ -1,5 +1,5 @@
-/* The command reach: words worked out from the papers (02's wish 13), what it refuses, and outputs
-   that fail. */
+/* The command reach: words worked out from docs/MANUAL.md (sections 2 and 13), what it refuses, and
+   outputs that fail. */
 #include "faults.h"
 #include "harness.h"
 

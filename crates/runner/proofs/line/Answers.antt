@@ -5,8 +5,8 @@ use Rattle.runner.proofs.line.Goals as goal
 
 pub returns-in-Refusal : goal.returns-in-Refusal
 unfolding answer_text reply_of
-returns-in-Refusal c = rw (c.in-Refusal.is, c.refusal_line.ensures)
+returns-in-Refusal c = rw c.in-Refusal.is c.refusal_line.ensures
 
 pub returns-in-Ran : goal.returns-in-Ran
 unfolding answer_text reply_of
-returns-in-Ran c = rw (c.in-Ran.is, c.ran_line.ensures, c.pc.ensures)
+returns-in-Ran c = rw c.in-Ran.is (rw (← c.pc.ensures) c.ran_line.ensures)

@@ -1,4 +1,4 @@
-//! Images of the earlier layout carried over (02, wish 5) on both sides, and everything that a
+//! Images of the earlier layout carried over (Manual 9) on both sides, and everything that a
 //! carry-over may touch; and a session of them.
 
 mod coverage;
@@ -12,7 +12,7 @@ use crate::session::Options;
 pub use coverage::Coverage;
 pub use generate::{carry, Expected};
 
-/// "a last section of 2 dividers", which are 0, after its count.
+/// The last section: two dividers, which are 0, after their count.
 const LAST_SECTION: [u8; 12] = [0, 0, 0, 2, 0, 0, 0, 0, 0, 0, 0, 0];
 
 /// A carry-over: image, buffer.
@@ -66,7 +66,7 @@ impl Bench {
         Ok(answer)
     }
 
-    /// What 02 says of every answer: it is the one that the generator meant; a refusal changes
+    /// What holds of every answer: it is the one that the generator meant; a refusal changes
     /// nothing; otherwise the buffer begins with the image and the dividers 0, and its further
     /// bytes stay.
     fn as_promised(&self, input: &Input, answer: u32) -> Result<(), String> {

@@ -100,8 +100,8 @@ pub fn fits(number: i64, (least, greatest): Range) -> bool {
     least <= number && number <= greatest
 }
 
-/// "the operation has no such form in that width, or no conditional form and a condition is
-/// given"
+/// Whether the operation has no form in that width, or a condition is given and it has no
+/// conditional form.
 fn has_no_form(choice: &Choice) -> bool {
     let wide = choice.wide != 0;
     choice.operation > EXBFI
@@ -289,7 +289,7 @@ mod tests {
         }
     }
 
-    /// Ranges by sentences of 01 and 02.
+    /// Ranges of operands (Manual 2.3 and 2.4).
     #[test]
     fn ranges() {
         let forms = Forms::new();

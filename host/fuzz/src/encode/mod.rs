@@ -1,4 +1,4 @@
-//! Written words (02, wish 7) on both sides, and what they are read as; and a session of them.
+//! Written words (Manual 12) on both sides, and what they are read as; and a session of them.
 
 mod coverage;
 mod generate;

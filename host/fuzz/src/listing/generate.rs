@@ -234,7 +234,7 @@ pub fn used_immediate(operation: u32, word: u32) -> u32 {
 mod tests {
     use super::*;
 
-    /// Places of immediates, by words of 01 and 02.
+    /// Places of immediates (Manual 2.3).
     #[test]
     fn immediates() {
         assert_eq!(used_immediate(18, 0x4807_883F), 0x1FF);

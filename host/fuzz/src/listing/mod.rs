@@ -1,5 +1,5 @@
-//! Listings (02, wish 2: the program on paper) on both sides, and everything that they may
-//! touch; and a session of them.
+//! Listings (Manual 11) on both sides, and everything that they may touch; and a session of
+//! them.
 
 mod coverage;
 mod generate;
@@ -16,7 +16,7 @@ pub use generate::{
 };
 use std::fmt;
 
-/// "each instruction a line of exactly 47 characters and a newline"
+/// The bytes of a line: 47 characters and a newline.
 pub const LINE: usize = 48;
 
 /// A listing: program, width (0 for 16-bit words, any other number for 32-bit words), text.

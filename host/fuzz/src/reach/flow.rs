@@ -1,4 +1,4 @@
-//! Where words lead (02, wish 13), and a search of what a start leads to: for what the maps of a
+//! Where words lead (Manual 13), and a search of what a start leads to: for what the maps of a
 //! session met, and for what both sides map alike.
 
 use crate::words::{self, *};
@@ -31,7 +31,7 @@ impl Leads {
             target: has_target(operation).then(|| jump_target(word, wide, at)),
             later: match operation {
                 JAL | JALR | SCALL => Some(on(2)),
-                // "swm bit 0 is IL"
+                // Bit 0 is the new IL.
                 SWM if (word & 1 == 1) == wide => Some(on(3)),
                 _ => None,
             },
@@ -53,8 +53,8 @@ pub fn has_target(operation: u32) -> bool {
     matches!(operation, JMP | JAL | BRANCH..=LAST_BRANCH)
 }
 
-/// The number of the word at an address of a program of so many bytes, from 0: "Only aligned
-/// words wholly in program memory are reached."
+/// The number of the word at an address of a program of so many bytes, from 0; only aligned
+/// words wholly in the program have one.
 pub fn word_number(address: i64, length: usize, wide: bool) -> Option<usize> {
     let width = i64::from(words::bytes(wide));
     let there = address >= 0 && address % width == 0 && address + width <= length as i64;
@@ -138,9 +138,9 @@ mod tests {
         [numbers(|ways| ways.in_full), numbers(|ways| ways.as_slot)]
     }
 
-    /// Each sentence of the wish, in words of 32 bits and then of 16.
+    /// Each rule of Manual 13, in words of 32 bits and then of 16.
     #[test]
-    fn sentences() {
+    fn rules() {
         let conditional = 1 << 25;
         let ones = 0x03FF_FFFF;
         for (words, in_full, as_slot) in [

@@ -1,4 +1,4 @@
-//! Maps of the words that can be reached (02, wish 13) on both sides, and everything that they
+//! Maps of the words that can be reached (Manual 13) on both sides, and everything that they
 //! may touch; and a session of them.
 
 mod coverage;
@@ -116,7 +116,7 @@ impl Bench {
         Ok(answer)
     }
 
-    /// What 02 says of every answer: a refusal is the one that is asked first, and changes
+    /// What holds of every answer: a refusal is the one that is asked first, and changes
     /// nothing; otherwise the map has, over the program's length, 1 at the first byte of each
     /// word that a search reaches and 0 elsewhere, and its further bytes stay.
     fn as_promised(&mut self, input: &Input, answer: u32) -> Result<(), String> {

@@ -174,7 +174,7 @@ impl Bench {
         self.machine.control[offset::EXCEPTION_CS]
     }
 
-    /// Puts an entry on the hardware stack as an accepted interrupt would.
+    /// Puts an entry on the interrupt stack as an accepted interrupt would.
     pub fn in_service(mut self, source: u32, address: u32, psr: u32, c0: u32) -> Bench {
         self.machine.stack.push(StackEntry {
             source,
@@ -238,7 +238,7 @@ pub fn plain(operation: u32, immediate: u32) -> u32 {
     operation << 26 | immediate
 }
 
-/// exbfi (63), "length in bits 24..19, position in 4..0".
+/// exbfi (63), its length in bits 24..19 and its position in bits 4..0.
 pub fn exbfi(dreg: u32, sreg1: u32, length: u32, position: u32) -> u32 {
     63 << 26 | length << 19 | dreg << 10 | sreg1 << 5 | position
 }

@@ -1,5 +1,5 @@
-//! Images of the earlier layout carried over (02, wish 5): "asked 2 to 5 by the old layout, then
-//! 8, are carried over with dividers 0, all else the same".
+//! Images of the earlier layout carried over (Manual 9): questions 2 to 5 by that layout, then
+//! 8; dividers 0, all else the same.
 
 use super::images::{bytes, reset_numbers, with_stack, CONDITIONS, CONTROL, SET_2, STACK};
 use crate::image::{Layout, Sections};
@@ -27,7 +27,7 @@ fn entries(depth: u32) -> Vec<[u32; 4]> {
         .collect()
 }
 
-/// "with dividers 0, all else the same", at every depth; further bytes keep their values.
+/// Dividers are 0 and all else is the same, at every depth; further bytes keep their values.
 #[test]
 fn carried_at_every_depth() {
     for depth in 0..=12 {
@@ -119,7 +119,7 @@ fn refusals_3_to_5() {
     }
 }
 
-/// "then 8": 720 bytes are wanted, also of an image that would need less.
+/// Question 8: 720 bytes are wanted, also of an image that would need less.
 #[test]
 fn refusal_8() {
     for depth in [0, 11, 12] {
@@ -132,7 +132,7 @@ fn refusal_8() {
     }
 }
 
-/// "asked 2 to 5 by the old layout, then 8": the first no gives the number.
+/// Questions 2 to 5 come in order, then 8: the first no gives the number.
 #[test]
 fn order_of_refusals() {
     // Each further fault belongs to an earlier question.

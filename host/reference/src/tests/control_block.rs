@@ -13,8 +13,8 @@ fn store(offset: u32, value: u32) -> Bench {
     bench
 }
 
-/// "A short register keeps its low bits (width: section 2.6); CCB_BASE's low byte is
-/// stored 0. Read-only, stores ignored: ..." The stack is empty, and so stores to the RETI_
+/// A short register keeps its low bits, CCB_BASE none of its low byte, and stores to read-only
+/// registers are ignored (Manual 5.2). The stack is empty, and so stores to the RETI_
 /// registers are ignored as well.
 #[test]
 fn stores_of_all_ones() {
@@ -56,7 +56,7 @@ fn stores_of_a_pattern() {
     assert_eq!(store(0x27, 0xF234_5678).machine.control[0x27], 0xF234_5678);
 }
 
-/// Loads: the registers after reset (002, section 2.9), and 0 beyond 2Ch.
+/// Loads: the registers after reset (Manual 5.1), and 0 beyond 2Ch.
 #[test]
 fn loads_after_reset() {
     let mut expected = vec![0; 256];
@@ -86,7 +86,7 @@ fn loads_after_reset() {
     }
 }
 
-/// RETI_ registers show the stack's top, and stores to them replace it (02, wish 6; more in
+/// RETI_ registers show the stack's top, and stores to them replace it (Manual 5.3; more in
 /// `stack_top`).
 #[test]
 fn the_stack_top_shows() {
@@ -160,8 +160,8 @@ fn stores_act_from_the_next_step() {
     assert_eq!(bench.machine.stack[0].address, 4);
 }
 
-/// "Peripheral (PCB), bus, coprocessor and MEM_CONF registers hold what is stored and do
-/// nothing", and so do timers that are not enabled.
+/// PCB, bus, coprocessor and MEM_CONF registers hold what is stored and do nothing, and so do
+/// timers that are not enabled.
 #[test]
 fn registers_without_effect() {
     let mut bench = Bench::new(&[NOP; 64])

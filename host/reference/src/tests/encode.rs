@@ -1,4 +1,4 @@
-//! Writing words (02, wish 7): the words of both widths, the refusals, and what is read again.
+//! Writing words (Manual 12): the words of both widths, the refusals, and what is read again.
 
 use super::bench::*;
 use super::listing::{bytes_16, bytes_32, list, parts, used_16, used_32};
@@ -58,36 +58,36 @@ fn may_be_conditional(operation: u32) -> bool {
     matches!(operation, 1..=31 | 38 | 39 | 48 | 58..=62)
 }
 
-/// The least and the greatest of each operand in 32-bit words: "the bits used".
+/// The least and the greatest of each operand in 32-bit words, by the bits used.
 fn ranges_32(operation: u32) -> Vec<(i32, i32)> {
     let register = (0, 31);
     let creg = (0, 7);
     match operation {
         1..=17 | 58 | 59 | 62 => vec![register, register, register],
-        // "addi, muli, cmpi, ld, st extend the sign", of nine bits
+        // Nine bits, signed.
         18 | 22 | 27 | 28 => vec![register, register, (-256, 255)],
         33 => vec![creg, register, (-256, 255)],
-        // "addiu, andi, ori fill with zeros"
+        // Nine bits, unsigned.
         19..=21 => vec![register, register, (0, 511)],
-        // "Shifts, sext and sexti use the five lowest bits."
+        // The five lowest bits.
         23..=26 => vec![register, register, (0, 31)],
         29 | 30 => vec![register, register],
         31 | 38 | 39 | 56 | 57 => vec![register],
         32 => vec![creg, register, register],
-        // "lli and lui: immediate 15..0"
+        // lli and lui: bits 15..0.
         34 | 35 => vec![register, (0, 65_535)],
-        // "jmp, jal: signed 24..0"
+        // jmp and jal: bits 24..0, signed.
         36 | 37 => vec![(-16_777_216, 16_777_215)],
-        // "Branches: register 24..22, signed 21..0."
+        // Branches: the register in bits 24..22, the immediate in bits 21..0, signed.
         40..=47 => vec![creg, (-2_097_152, 2_097_151)],
-        // "chrs bit 0 is RSRD and bit 1 RSWR"; "swm bit 0 is IL"; trap takes "bits 4..0".
+        // chrs has bits 1..0, swm bit 0, trap bits 4..0.
         51 => vec![(0, 3)],
         54 => vec![(0, 1)],
         55 => vec![(0, 31)],
-        // "byte number immediate bits 1..0", "halfword by bit 0"
+        // exb has bits 1..0, exh bit 0.
         60 => vec![register, register, (0, 3)],
         61 => vec![register, register, (0, 1)],
-        // "length in bits 24..19, position in 4..0"
+        // The length in bits 24..19, the position in bits 4..0.
         63 => vec![register, register, (0, 63), (0, 31)],
         _ => vec![],
     }
@@ -95,19 +95,19 @@ fn ranges_32(operation: u32) -> Vec<(i32, i32)> {
 
 /// The same in 16-bit words; nothing where the operation has no form.
 fn ranges_16(operation: u32) -> Option<Vec<(i32, i32)>> {
-    // "Registers of 16-bit words are given as 24 to 31."
+    // Registers of 16-bit words are given as 24 to 31.
     let register = (24, 31);
     let ranges = match operation {
         34 | 35 | 63 => return None,
         1..=17 | 29 | 30 | 32 | 58 | 59 | 62 => vec![register, register],
-        // "immediate 9..3"
+        // Bits 9..3.
         18 | 22 | 33 => vec![register, (-64, 63)],
         19..=21 => vec![register, (0, 127)],
         23..=26 => vec![register, (0, 31)],
-        // "ld and st have immediate 9..6"
+        // ld and st: bits 9..6.
         27 | 28 => vec![register, register, (-8, 7)],
         31 | 38 | 39 | 56 | 57 => vec![register],
-        // "jumps and branches 9..0"
+        // Jumps and branches: bits 9..0.
         36 | 37 | 40..=47 => vec![(-512, 511)],
         51 => vec![(0, 3)],
         54 => vec![(0, 1)],
@@ -128,27 +128,27 @@ fn forms() -> impl Iterator<Item = (Choice, Vec<(i32, i32)>)> {
     })
 }
 
-/// The words that the papers give.
+/// Words worked by hand.
 #[test]
-fn words_of_the_papers() {
+fn words_worked_by_hand() {
     writes(wide(34, [1, 5, 0, 0]), 0x8801_0005);
     writes(wide(18, [2, 1, -1, 0]), 0x4807_883F);
     writes(wide(55, [3, 0, 0, 0]), 0xDC00_0003);
     writes(wide(54, [0, 0, 0, 0]), 0xD800_0000);
-    // "0C11h: R25 becomes R26 − R25"
+    // sub R25 R26: R25 becomes R26 − R25.
     h_writes(short(3, [25, 26, 0, 0]), 0x0C11);
     // `egt C7`
     writes(on(1, 7, wide(1, [31, 31, 31, 0])), 0x07C8_7FFF);
 }
 
-/// Every operation with its operands in the order of 002, in both widths.
+/// Every operation with its operands in the order of a listing, in both widths.
 #[test]
 fn operations() {
     for operation in 0..64 {
         let three = rrr(operation, 3, 1, 2);
         let (operands, expected) = match operation {
             1..=17 | 58 | 62 => ([3, 1, 2, 0], three),
-            // "conh dreg, sreg2, sreg1"
+            // conh has its second source before the first.
             59 => ([3, 2, 1, 0], three),
             18..=28 => ([3, 1, 2, 0], rri(operation, 3, 1, 2)),
             29 | 30 => ([3, 1, 0, 0], rrr(operation, 3, 1, 0)),
@@ -178,7 +178,7 @@ fn operations() {
         let number = operation as u16;
         let (operands, expected) = match operation {
             1..=17 | 29 | 30 | 58 | 59 | 62 => ([25, 26, 0, 0], h_rr(number, 2, 1)),
-            // "cmp sr1, sr2": the first source is sr.
+            // cmp: the first source is sr.
             32 => ([26, 25, 0, 0], h_rr(number, 2, 1)),
             18 | 22 | 33 => ([25, -5, 0, 0], h_ri(number, 1, -5)),
             19..=21 | 23..=26 => ([25, 5, 0, 0], h_ri(number, 1, 5)),
@@ -301,7 +301,7 @@ fn words_at_the_ends() {
     h_writes(short(47, [511, 0, 0, 0]), h_jump(47, 511));
 }
 
-/// What 002's table permits, or another notation has, and our bits do not hold.
+/// What the core's manual permits, or another notation has, and the bits do not hold.
 #[test]
 fn numbers_of_other_notations() {
     // A shift by 32; swm 16 and 32; a negative lli; addi beyond nine bits.
@@ -319,7 +319,7 @@ fn numbers_of_other_notations() {
     writes(wide(63, [0, 0, 33, 0]), exbfi(0, 0, 33, 0));
 }
 
-/// "an operand has none and is not 0": each operand that an operation does not have.
+/// An operand that the operation does not have has to be 0: each of them.
 #[test]
 fn operands_without_bits() {
     for (choice, ranges) in forms() {
@@ -377,7 +377,7 @@ fn parts_of_no_condition() {
     }
 }
 
-/// "no conditional form and a condition is given": the never conditional ones in 32-bit words,
+/// A condition where there is no conditional form: the never conditional ones in 32-bit words,
 /// and all 16-bit words.
 #[test]
 fn no_conditional_form() {
@@ -398,8 +398,7 @@ fn no_conditional_form() {
     }
 }
 
-/// "the operation has no such form in that width": three in 16-bit words, and every number
-/// that no operation has.
+/// No form in that width: three in 16-bit words, and every number that no operation has.
 #[test]
 fn no_form() {
     for operation in [34, 35, 63] {
@@ -417,7 +416,7 @@ fn no_form() {
     refused(short(64 + 1, [25, 26, 0, 0]), 18);
 }
 
-/// 18 "asked first": both reasons together.
+/// 18 is asked first: both reasons together.
 #[test]
 fn order_of_refusals() {
     // No form, and operands or a condition that do not fit.
@@ -461,9 +460,9 @@ fn numbers_that_say_yes() {
     }
 }
 
-/// What is said of a word that came in: nothing where it has no form; otherwise it is written
-/// with its ignored bits at 0, reading that word finds the same, and "a second writing alters
-/// nothing".
+/// What holds of a word that came in: nothing where it has no form; otherwise it is written
+/// with its ignored bits at 0, reading that word finds the same, and a second writing alters
+/// nothing.
 fn comes_back(came_in: u32, wide: u32, used: u32) -> Option<Choice> {
     let Some(choice) = reading(came_in, wide) else {
         assert_eq!(cleared(came_in, wide), None);
@@ -478,7 +477,7 @@ fn comes_back(came_in: u32, wide: u32, used: u32) -> Option<Choice> {
     Some(choice)
 }
 
-/// All 16-bit words. "each such choice has one written word", and each word one choice.
+/// All 16-bit words. Each choice has one written word, and each word one choice.
 #[test]
 fn all_16_bit_words_come_back() {
     let mut words = HashMap::new();

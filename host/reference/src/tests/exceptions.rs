@@ -3,7 +3,7 @@
 use super::bench::*;
 use crate::machine::offset;
 
-/// 00h: "any byte of the word protected in user mode".
+/// 00h: any byte of the word protected in user mode.
 #[test]
 fn code_00() {
     for byte in 4..8 {
@@ -38,7 +38,7 @@ fn code_00() {
     bench.raises(0x00);
 }
 
-/// 02: "Code 01h no longer occurs", whatever the operation, the width and the mode.
+/// Code 01h never occurs, whatever the operation, the width and the mode.
 #[test]
 fn no_code_01() {
     for operation in 0..64 {
@@ -59,7 +59,7 @@ fn no_code_01() {
     }
 }
 
-/// 02h: "lli, lui in 16-bit; those two in user mode" (retu, chrs), and exbfi in 16-bit.
+/// 02h: lli, lui and exbfi in 16-bit words; retu and chrs in user mode.
 #[test]
 fn code_02() {
     for operation in [34, 35, 63] {
@@ -238,7 +238,7 @@ fn code_07() {
     bench.raises(0x07);
 }
 
-/// 08h: an address outside 32 bits; after 07h (02, wish 3).
+/// 08h: an address outside 32 bits; after 07h (Manual 4.7).
 #[test]
 fn code_08() {
     for operation in [27, 28] {
@@ -268,8 +268,7 @@ fn bounded(words: &[u32], base: u32) -> Bench {
     bench
 }
 
-/// 02, wish 3: "In user mode, if the address taken modulo 2^32 is protected, it is now
-/// 07h."
+/// In user mode an address outside 32 bits is 07h if it is protected modulo 2^32.
 #[test]
 fn wrapped_address() {
     for (word, base, code) in [
@@ -294,9 +293,8 @@ fn wrapped_address() {
     }
 }
 
-/// The order of the data tests at all addresses that can be outside 32 bits, and those
-/// beside them: user and protected modulo 2^32 (07h); outside 32 bits (08h); the rest as
-/// 01 says.
+/// The order of the data tests at all addresses that can be outside 32 bits, and those beside
+/// them: user and protected modulo 2^32 (07h); outside 32 bits (08h); absent (stop 12).
 #[test]
 fn data_tests_at_the_ends_of_the_range() {
     let bounds = [
@@ -368,7 +366,7 @@ fn wrapped_address_of_any_kind() {
                 bench.raises(0x08);
             }
         }
-        // "LO above HI protects nothing."
+        // A low bound above the high one protects nothing.
         for immediate in 16..=21 {
             let mut bench = bounded(&[rri(operation, 3, 1, immediate)], 0xFFFF_FFFF);
             bench.protect_data(0x13, 0x10);
@@ -435,7 +433,7 @@ fn wrapped_address_in_16_bit_words() {
     }
 }
 
-/// 09h: "in user mode 09h if a byte of the target word is protected".
+/// 09h: a byte of the target word protected in user mode.
 #[test]
 fn code_09() {
     for byte in 0x20..0x24 {
@@ -482,7 +480,7 @@ fn code_09() {
     bench.raises(0x00);
 }
 
-/// "trap n has code 224 + n."
+/// trap n has code 224 + n.
 #[test]
 fn traps() {
     for n in 0..32 {

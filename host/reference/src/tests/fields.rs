@@ -1,4 +1,4 @@
-//! Byte and field operations (02, wish 1).
+//! Byte and field operations (Manual 3.2).
 
 use super::bench::*;
 use super::operations::{compute, compute_immediate};
@@ -6,8 +6,8 @@ use super::operations::{compute, compute_immediate};
 /// A word whose bytes are all different.
 const SOURCE: u32 = 0x89AB_CDEF;
 
-/// The field of a value, bit by bit: "A field's bits beyond 31 are zero; a length over 32
-/// counts as 32."
+/// The field of a value, bit by bit: its bits past bit 31 are zero; a length over 32 counts as
+/// 32.
 fn field(value: u32, length: u32, position: u32) -> u32 {
     let mut result = 0;
     for bit in 0..length.min(32) {
@@ -36,7 +36,7 @@ const SECOND: u32 = 0xFFFF_F000 | 12 << 5 | 4;
 /// The results of `all_six` on SOURCE and SECOND.
 const RESULTS: [u32; 6] = [0xEF84, 0xCDEF_F184, 0xAB, 0x89AB, 0xCDE, 0xCDE];
 
-/// "58 conb: low byte of first × 256 + low byte of second."
+/// conb (58): the low byte of the first above that of the second.
 #[test]
 fn concatenated_bytes() {
     assert_eq!(compute(58, 0x12, 0x34), (0x1234, 0));
@@ -49,7 +49,8 @@ fn concatenated_bytes() {
     assert_eq!(compute(58, 0xFFFF_FF00, 0xFFFF_FF00), (0, 0));
 }
 
-/// "59 conh: the same with halfwords and 65,536": the first above, unlike in 002.
+/// conh (59): the low halfword of the first above that of the second, unlike in the core's
+/// manual.
 #[test]
 fn concatenated_halfwords() {
     assert_eq!(compute(59, 0x1234, 0x5678), (0x1234_5678, 0));
@@ -61,7 +62,8 @@ fn concatenated_halfwords() {
     assert_eq!(compute(59, 0xFFFF_0000, 0xFFFF_0000), (0, 0));
 }
 
-/// "60 exb: byte number immediate bits 1..0 of the source, 0 lowest."
+/// exb (60): the byte of the source with the number in bits 1..0 of the immediate, 0 the
+/// lowest.
 #[test]
 fn extracted_bytes() {
     let bytes = [0xEF, 0xCD, 0xAB, 0x89];
@@ -94,7 +96,8 @@ fn extracted_bytes() {
     assert_eq!(compute_immediate(60, 0x00FF_FFFF, 3), (0, 0));
 }
 
-/// "61 exh: halfword by bit 0", the other bits of the immediate being ignored.
+/// exh (61): the halfword with the number in bit 0, the other bits of the immediate being
+/// ignored.
 #[test]
 fn extracted_halfwords() {
     let halfwords = [0xCDEF, 0x89AB];
@@ -117,8 +120,8 @@ fn extracted_halfwords() {
     assert_eq!(compute_immediate(61, 0x0000_FFFF, 1), (0, 0));
 }
 
-/// "62 exbf: length from second source bits 10..5, position 4..0", the other bits of the
-/// second source being ignored.
+/// exbf (62): length in bits 10..5 of the second source, position in bits 4..0, its other bits
+/// being ignored.
 #[test]
 fn fields_by_a_register() {
     for value in [SOURCE, 0xFFFF_FFFF, 0x8000_0001] {
@@ -133,7 +136,7 @@ fn fields_by_a_register() {
     }
 }
 
-/// "63 exbfi: length in bits 24..19, position in 4..0".
+/// exbfi (63): length in bits 24..19, position in bits 4..0.
 #[test]
 fn fields_by_immediates() {
     for value in [SOURCE, 0xFFFF_FFFF, 0x8000_0001] {
@@ -153,7 +156,7 @@ fn fields_by_immediates() {
     }
 }
 
-/// "A field's bits beyond 31 are zero; a length over 32 counts as 32."
+/// A field's bits past bit 31 are zero; a length over 32 counts as 32.
 #[test]
 fn fields_at_the_ends() {
     // (length, position, field of SOURCE)
@@ -183,8 +186,7 @@ fn fields_at_the_ends() {
     }
 }
 
-/// 16-bit words of two registers: "The first source is sr, the second is dr", which is the
-/// target too.
+/// 16-bit words of two registers: sr is the first source, dr the second and the target.
 #[test]
 fn short_words() {
     // (operation, sr, dr, result)
@@ -211,8 +213,8 @@ fn short_words() {
     assert_eq!(bench.machine.set2[25], 6);
 }
 
-/// "Bits that an operation does not use are ignored": 24..15 of conb, conh and exbf and
-/// 24..19 of exb and exh with bit 25 at 0, 18..15 and 25 of exbfi.
+/// Bits that an operation does not use are ignored: 24..15 of conb, conh and exbf and 24..19
+/// of exb and exh with bit 25 at 0, 18..15 and 25 of exbfi.
 #[test]
 fn unused_bits_of_the_six() {
     for (word, expected) in all_six().into_iter().zip(RESULTS) {
@@ -255,7 +257,7 @@ fn conditional_ones() {
     }
 }
 
-/// exbfi is "unconditional": with bit 25 at 1 it happens whatever the conditions.
+/// exbfi is never conditional: with bit 25 at 1 it happens whatever the conditions.
 #[test]
 fn exbfi_is_unconditional() {
     for length in 0..64 {
@@ -270,7 +272,7 @@ fn exbfi_is_unconditional() {
     }
 }
 
-/// exbfi is "code 02h in 16-bit", in both modes and whatever its other bits.
+/// exbfi is 02h in 16-bit words, in both modes and whatever its other bits.
 #[test]
 fn exbfi_in_16_bit() {
     for bits in 0..0x400 {
@@ -401,8 +403,8 @@ fn psr_as_a_target() {
     assert_eq!(bench.machine.set2[3], 7);
 }
 
-/// "Every step but an executed muls, mulu, mulus or muli drops it": a held product is gone
-/// after each of the six, the condition true or not.
+/// Only an executed muls, mulu, mulus or muli leaves a product: a held one is gone after each
+/// of the six, the condition true or not.
 #[test]
 fn a_held_product_is_dropped() {
     for word in all_six() {

@@ -1,11 +1,11 @@
-//! Images: reset, round trip, and the refusals 1 to 8; the longer layout of 02, wish 5.
+//! Images (Manual 8 and 9): reset, round trip, and the refusals 1 to 8.
 
 use super::bench::*;
 use crate::image::{Layout, Sections};
 use crate::machine::{Machine, StackEntry};
 use crate::{reset, run, Answer};
 
-/// The reset image, number by number (01's sections, 002's section 2.9).
+/// The reset image, number by number (Manual 5.1 and 8).
 pub fn reset_numbers() -> Vec<u32> {
     let mut numbers = vec![32];
     numbers.extend([0; 32]);
@@ -53,7 +53,7 @@ fn changed(changes: &[(usize, u32)]) -> Vec<u8> {
     bytes(&numbers)
 }
 
-/// A reset image with a hardware stack of these entries and what must agree with it.
+/// A reset image with a interrupt stack of these entries and what must agree with it.
 pub fn with_stack(entries: &[[u32; 4]]) -> Vec<u32> {
     let mut numbers = reset_numbers();
     numbers[STACK - 1] = entries.len() as u32;
@@ -307,7 +307,7 @@ fn refusal_3() {
         numbers[CONTROL + 0x13] &= 0xFFF;
         assert_eq!(refusal(&bytes(&numbers)), expected);
     }
-    // "a divider at most 255", whatever EN and DIV are.
+    // A divider is at most 255, whatever EN and DIV are.
     for timer in 0..2 {
         for configuration in [0, 0x8000_8000, 0x80FF_80FF] {
             for (divider, expected) in [(0, 0), (1, 0), (255, 0), (256, 3), (0xFFFF_FFFF, 3)] {
@@ -396,7 +396,7 @@ fn refusals_6_7_8() {
     assert_eq!(answer(&[], 1, 721).refusal, 0);
 }
 
-/// "Asked in order": with several answers no, the first gives the number.
+/// Questions are asked in order: with several answers no, the first gives the number.
 #[test]
 fn order_of_refusals() {
     // Each further fault belongs to an earlier question.

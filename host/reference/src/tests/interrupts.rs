@@ -48,8 +48,8 @@ fn acceptance() {
     }
 }
 
-/// "IL and UM by the two mode registers (UM bit 1 is user); both set bits are 1 for
-/// super user, else 0."
+/// IL and UM are the source's bits of the two mode registers (UM 1 is user mode); RSRD and
+/// RSWR are 1 for super user mode, else 0.
 #[test]
 fn modes_of_service_routines() {
     for (il, um, psr) in [(0, 0, 0x06), (1, 0, 0x0E), (0, 1, 0x01), (1, 1, 0x09)] {
@@ -94,8 +94,8 @@ fn masks() {
     assert_eq!(bench.machine.control[offset::INT_PEND], 0x7FF);
 }
 
-/// A step's requests count in that step's own acceptance, and come from the list in
-/// order; "steps past the list have none".
+/// A step's requests count in that step's own acceptance, and come from the list in order;
+/// steps past the list have none.
 #[test]
 fn request_list() {
     let mut bench = ready(&[NOP; 8]).control(offset::INT_MASK, 0x008);
@@ -108,7 +108,7 @@ fn request_list() {
     assert_eq!(bench.machine.stack[0].address, 16);
 }
 
-/// "smallest number first, ties to the lower source"
+/// The smallest priority number comes first, of equal ones the lower source.
 #[test]
 fn priority_and_ties() {
     // All priorities 0: the lowest source.
@@ -139,7 +139,7 @@ fn priority_and_ties() {
     assert_eq!(accepted(&mut bench, 0xFFF), Some(0));
 }
 
-/// "a priority number below all in service"
+/// A priority number has to be below those of all in service.
 #[test]
 fn nesting() {
     // Priorities: EXT 0 (source 4) has 5, EXT 1 has 4, EXT 2 has 5, COP0 has 6.
@@ -223,7 +223,7 @@ fn the_deepest_stack() {
     assert_eq!(accepted(&mut bench, 0xFFF), None);
 }
 
-/// "no branch slot waits"
+/// None is accepted while a branch slot waits.
 #[test]
 fn a_waiting_slot() {
     let mut bench = ready(&[jump(36, 8), lli(1, 1)]);
@@ -240,8 +240,8 @@ fn a_waiting_slot() {
     assert_eq!(bench.machine.stack[0].address, 4);
 }
 
-/// "not (a product is held and the next word, with no 05h, 00h or stop 11 for it, is
-/// mulhi)"
+/// None is accepted while a product is held and the next word, with no 05h, 00h or stop 11 for
+/// it, is mulhi.
 #[test]
 fn the_mulhi_rule() {
     // A product and mulhi go together.

@@ -1,4 +1,4 @@
-//! The program on paper (02, wish 2): the lines of both widths, and the refusals.
+//! Listings (Manual 11): the lines of both widths, and the refusals.
 
 use super::bench::*;
 use crate::listing;
@@ -24,8 +24,8 @@ pub fn list(program: &[u8], wide: u32) -> String {
     String::from_utf8(text).expect("only characters")
 }
 
-/// Condition, name and operands of a line, their padding cut off, after asking that the
-/// line is made as wish 2 says.
+/// Condition, name and operands of a line, their padding cut off, after asking that the line
+/// is made as Manual 11 says.
 pub fn parts(line: &str) -> [&str; 3] {
     assert_eq!(line.len(), 48);
     assert!(line.is_ascii());
@@ -55,7 +55,7 @@ fn h_shows(word: u16, name: &str, operands: &str) {
     assert_eq!(parts(&line), ["", name, operands], "{word:04X}");
 }
 
-/// The program that 01 runs, every column of it.
+/// The run program's example (Manual 16), every column of it.
 #[test]
 fn a_program_of_32_bit_words() {
     let program = bytes_32(&[0x8801_0005, 0x4807_883F, 0xDC00_0003]);
@@ -67,7 +67,7 @@ fn a_program_of_32_bit_words() {
     assert_eq!(list(&program, 1), expected);
 }
 
-/// The same bytes as 16-bit words. 8801h is lli, which has no form: "`?` and no operands".
+/// The same bytes as 16-bit words. 8801h is lli, which has no form: `?` and no operands.
 /// 0005h, 0003h: nop. 4807h: addi R31 0. 883Fh: lli. DC00h: trap 0.
 #[test]
 fn a_program_of_16_bit_words() {
@@ -160,7 +160,7 @@ fn operations() {
         (29, "mov", "R3 R1", two),
         (30, "not", "R3 R1", two),
         (31, "mulhi", "R3", "R25"),
-        // "cmp sr1, sr2", and "the first source is sr, the second is dr"
+        // The first source is sr, the second dr.
         (32, "cmp", "C0 R1 R2", "R26 R25"),
         (33, "cmpi", "C0 R1 2", h_immediate),
         // dreg is 20..16; 0C22h is 3106.
@@ -189,7 +189,7 @@ fn operations() {
         (56, "scon", "R3", "R25"),
         (57, "rcon", "R1", "R26"),
         (58, "conb", three, two),
-        // "conh dreg, sreg2, sreg1"
+        // conh has its second source before the first.
         (59, "conh", "R3 R2 R1", two),
         (60, "exb", immediate, h_immediate),
         (61, "exh", "R3 R1 0", "R25 0"),
@@ -260,7 +260,7 @@ fn conditional_operations() {
     }
 }
 
-/// "Never conditional, bit 25 ignored", and what their bits 24..19 are.
+/// Operations that are never conditional ignore bit 25; what their bits 24..19 are.
 #[test]
 fn never_conditional() {
     let bit = 1 << 25;
@@ -278,10 +278,10 @@ fn never_conditional() {
     }
 }
 
-/// "immediates by the bits used, negative ones with a minus where 01 takes their sign".
+/// Immediates by the bits used, negative ones of signed fields with a minus.
 #[test]
 fn immediates_of_32_bit_words() {
-    // "addi, muli, cmpi, ld, st extend the sign"
+    // Nine bits, signed.
     for (operation, name) in [(18, "addi"), (22, "muli"), (27, "ld"), (28, "st")] {
         for immediate in [-256, -255, -100, -32, -10, -1, 0, 9, 10, 31, 32, 99, 255] {
             let word = rri(operation, 31, 30, immediate);
@@ -290,41 +290,41 @@ fn immediates_of_32_bit_words() {
     }
     shows(cmpi(7, 31, -256), ["", "cmpi", "C7 R31 -256"]);
     shows(cmpi(7, 31, 255), ["", "cmpi", "C7 R31 255"]);
-    // "addiu, andi, ori fill with zeros"
+    // Nine bits, unsigned.
     for (operation, name) in [(19, "addiu"), (20, "andi"), (21, "ori")] {
         for immediate in [0, 1, 99, 100, 255, 256, 511] {
             let word = rri(operation, 31, 30, immediate);
             shows(word, ["", name, &format!("R31 R30 {immediate}")]);
         }
     }
-    // "Shifts, sext and sexti use the five lowest bits."
+    // The five lowest bits.
     for (operation, name) in [(23, "slli"), (24, "srli"), (25, "srai"), (26, "sexti")] {
         shows(rri(operation, 4, 5, 0x1FF), ["", name, "R4 R5 31"]);
         shows(rri(operation, 4, 5, 0x1E0), ["", name, "R4 R5 0"]);
         shows(rri(operation, 4, 5, 32), ["", name, "R4 R5 0"]);
     }
-    // "exb: byte number immediate bits 1..0", "exh: halfword by bit 0"
+    // exb has bits 1..0, exh bit 0.
     shows(rri(60, 4, 5, 0x1FF), ["", "exb", "R4 R5 3"]);
     shows(rri(60, 4, 5, 0x1FC), ["", "exb", "R4 R5 0"]);
     shows(rri(61, 4, 5, 0x1FF), ["", "exh", "R4 R5 1"]);
     shows(rri(61, 4, 5, 0x1FE), ["", "exh", "R4 R5 0"]);
-    // lli and lui have "immediate 15..0", with no sign.
+    // lli and lui have bits 15..0, with no sign.
     for (word, name) in [(lli(31, 0xFFFF), "lli"), (lui(31, 0xFFFF), "lui")] {
         shows(word, ["", name, "R31 65535"]);
         shows(word & !0x7FFF, ["", name, "R31 32768"]);
     }
-    // "jmp, jal: signed 24..0", twice or not: the bits themselves
+    // jmp and jal have bits 24..0, signed, shown as they stand and not doubled.
     for immediate in [-16_777_216, -16_777_215, -1, 0, 1, 16_777_215] {
         let shown = immediate.to_string();
         shows(jump(36, immediate), ["", "jmp", &shown]);
         shows(jump(37, immediate), ["", "jal", &shown]);
     }
-    // "Branches: register 24..22, signed 21..0."
+    // Branches have their register in bits 24..22, the immediate in bits 21..0, signed.
     for immediate in [-2_097_152, -1_000_000, -999_999, -1, 0, 1, 2_097_151] {
         let shown = format!("C6 {immediate}");
         shows(branch(2, 6, immediate), ["", "belt", &shown]);
     }
-    // "swm bit 0 is IL; chrs bit 0 is RSRD and bit 1 RSWR"; trap takes bits 4..0.
+    // swm has bit 0, chrs bits 1..0, trap bits 4..0.
     for immediate in 0..32 {
         shows(
             plain(54, immediate),
@@ -347,7 +347,7 @@ fn immediates_of_32_bit_words() {
 
 #[test]
 fn immediates_of_16_bit_words() {
-    // "immediate 9..3"
+    // Bits 9..3.
     for (operation, name) in [(18, "addi"), (22, "muli"), (33, "cmpi")] {
         for immediate in -64..=63 {
             let word = h_ri(operation, 7, immediate);
@@ -370,13 +370,13 @@ fn immediates_of_16_bit_words() {
         let shown = format!("R27 {}", immediate & 1);
         h_shows(h_ri(61, 3, immediate), "exh", &shown);
     }
-    // "ld and st have immediate 9..6"
+    // ld and st: bits 9..6.
     for immediate in -8..=7 {
         let shown = format!("R30 R31 {immediate}");
         h_shows(h_memory(27, 7, 6, immediate), "ld", &shown);
         h_shows(h_memory(28, 7, 6, immediate), "st", &shown);
     }
-    // "jumps and branches 9..0", signed, and no C0
+    // Jumps and branches: bits 9..0, signed, and no C0.
     for immediate in [-512, -511, -100, -1, 0, 1, 99, 511] {
         let shown = immediate.to_string();
         h_shows(h_jump(36, immediate), "jmp", &shown);
@@ -441,8 +441,8 @@ pub fn used_16(operation: u32) -> u32 {
     }
 }
 
-/// All bits that an operation uses show, and no others do: "Bits that an operation does not
-/// use are ignored". Every single bit, with the other bits 0, 1 or mixed.
+/// All bits that an operation uses show, and no others do (Manual 2.5). Every single bit, with
+/// the other bits 0, 1 or mixed.
 #[test]
 fn bits_used() {
     let patterns = [
@@ -532,17 +532,17 @@ fn refused(length: usize, wide: u32, text_length: usize, refusal: u32) {
 /// The refusals alone.
 #[test]
 fn refusals() {
-    // 1: "Program at most 65,536 bytes"
+    // 1: more than 65,536 bytes.
     refused(65_538, 0, 2_000_000, 1);
     refused(65_540, 1, 2_000_000, 1);
-    // 16: "no whole number of words"
+    // 16: no whole number of words.
     for length in [1, 3, 65_535] {
         refused(length, 0, 2_000_000, 16);
     }
     for length in [1, 2, 3, 5, 6, 7, 65_533, 65_534, 65_535] {
         refused(length, 1, 2_000_000, 16);
     }
-    // 17: "below 48 bytes per word"
+    // 17: fewer than 48 bytes for each word.
     for (length, wide) in [(2, 0), (4, 0), (4, 1), (8, 1), (65_536, 0), (65_536, 1)] {
         let words = if wide == 0 { length / 2 } else { length / 4 };
         refused(length, wide, 48 * words - 1, 17);
@@ -564,8 +564,7 @@ fn order_of_refusals() {
     }
 }
 
-/// A buffer of just the length, and longer ones: "every byte of the buffer past the lines
-/// keeps its value".
+/// A buffer of just the length, and longer ones: every byte past the lines keeps its value.
 #[test]
 fn buffers() {
     let wide = bytes_32(&[rrr(1, 3, 1, 2), NOP]);

@@ -1,5 +1,5 @@
-//! Tests. Every expectation is derived from the papers: 01's "Worked by hand" and
-//! the sentences quoted at each test, 02's wishes, and 002's sections.
+//! Tests. Every expectation is worked out from docs/MANUAL.md and the COFFEE Core user manual
+//! (July 2007), not from the code.
 
 mod bench;
 mod carried;

@@ -34,7 +34,7 @@ pub fn compute_immediate(operation: u32, first: u32, immediate: i32) -> (u32, u3
     (wide.machine.set2[25], wide.machine.conditions[0])
 }
 
-/// "Z and N of the 32-bit result, C the carry out".
+/// Z and N of the 32-bit result, C the carry out.
 #[test]
 fn additions() {
     for operation in [1, 2] {
@@ -73,7 +73,7 @@ fn additions_of_immediates() {
     assert_eq!(bench.machine.set2[25], 0x80);
 }
 
-/// "subtraction: first ≥ second, unsigned"
+/// C of a subtraction: first ≥ second, unsigned.
 #[test]
 fn subtractions() {
     for operation in [3, 4] {
@@ -88,7 +88,7 @@ fn subtractions() {
     assert_eq!(compute(4, 0, 0x8000_0000), (0x8000_0000, 2));
 }
 
-/// "add, addi and sub give 06h outside signed 32 bits; nothing else does."
+/// add, addi and sub are 06h outside signed 32 bits; nothing else is.
 #[test]
 fn overflow() {
     for (operation, first, second) in [
@@ -214,7 +214,7 @@ fn multiplications_of_halfwords() {
     }
 }
 
-/// "Shifts, sext and sexti use the five lowest bits."
+/// Shifts, sext and sexti use the five lowest bits.
 #[test]
 fn shifts() {
     assert_eq!(compute(14, 0x8000_0001, 1), (2, 0));
@@ -235,8 +235,7 @@ fn shifts() {
     assert_eq!(compute_immediate(25, 0x8000_0001, 63), (0xFFFF_FFFF, 0));
 }
 
-/// 002, section 6.2, sexti: "The position of the sign bit is specified by the immediate
-/// (0 corresponds to LSB and 31 corresponds to MSB)".
+/// sexti: the immediate is the position of the sign bit, 0 the lowest and 31 the highest.
 #[test]
 fn sign_extensions() {
     assert_eq!(compute(17, 0x0000_0080, 7), (0xFFFF_FF80, 0));
@@ -250,7 +249,7 @@ fn sign_extensions() {
     assert_eq!(compute_immediate(26, 0x1234_8000, 47), (0xFFFF_8000, 0));
 }
 
-/// "cmp and cmpi: Z equal, N signed less, C as subtraction."
+/// cmp and cmpi: Z if equal, N if less as signed numbers, C as of a subtraction.
 #[test]
 fn comparisons() {
     for (first, second, expected) in [
@@ -309,7 +308,7 @@ fn loading_halves() {
     assert_eq!(bench.machine.set2[2], 0x8000_BBBB);
 }
 
-/// "scon and rcon place Cn at bits 3n+2..3n."
+/// scon and rcon have Cn at bits 3n+2..3n.
 #[test]
 fn saving_and_restoring_conditions() {
     // C0 to C7 are 1, 2, 3, 4, 5, 6, 7, 0.
@@ -393,8 +392,8 @@ fn register_sets() {
     assert_eq!(bench.machine.set2[31], 0);
 }
 
-/// "Writing to a read only register (PSR) is ignored", but the rest of the operation
-/// happens. PSR can be read as register 29 of set 2.
+/// A result for PSR is thrown away, but the rest of the operation happens (Manual 1.4). PSR
+/// can be read as register 29 of set 2.
 #[test]
 fn psr_as_a_register() {
     let mut bench = Bench::new(&[
@@ -435,7 +434,7 @@ fn psr_as_a_register() {
     assert_eq!(bench.machine.set2[28], 0x06);
 }
 
-/// "Every step but an executed muls, mulu, mulus or muli drops it."
+/// A held product is dropped by every step but an executed muls, mulu, mulus or muli.
 #[test]
 fn the_product_is_held_for_one_step() {
     let mut bench = Bench::new(&[rrr(9, 2, 1, 1), NOP, rrr(31, 3, 0, 0)]).pr(1, 0xFFFF_FFFF);
@@ -472,8 +471,7 @@ fn the_product_is_held_for_one_step() {
     assert_eq!(bench.machine.position.product, None);
 }
 
-/// "Data address order: the control block's 256 addresses from CCB_BASE first, then
-/// cells."
+/// The control block's 256 addresses from CCB_BASE come first, then cells.
 #[test]
 fn the_control_block_hides_cells() {
     let mut bench = Bench::new(&[

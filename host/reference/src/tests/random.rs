@@ -1,4 +1,4 @@
-//! Random programs: what 01 says of every run, whatever the words.
+//! Random programs: what holds of every run, whatever the words.
 
 use super::bench::*;
 use crate::machine::{offset, StackEntry, CONTROL_REGISTERS};

@@ -1,5 +1,5 @@
-//! Which code can be reached (02, wish 13): where each operation leads in both widths, what of
-//! a program is reached, the refusals, and random programs.
+//! Which code can be reached (Manual 13): where each operation leads in both widths, what of a
+//! program is reached, the refusals, and random programs.
 
 use super::bench::*;
 use super::listing::{bytes_16, bytes_32};
@@ -140,13 +140,13 @@ fn with_bit_25(operation: u32, in_full: &[i32], as_slot: &[i32]) {
     }
 }
 
-/// The operations that are named nowhere in the wish.
+/// The operations that lead to the next word alone.
 fn ordinary() -> impl Iterator<Item = u32> {
     (0..36).chain(51..54).chain(56..64)
 }
 
-/// "A reached word leads to the next one", on a condition or not. That an operation has no
-/// form in 16-bit words is no exception.
+/// To the next word, on a condition or not. That an operation has no form in 16-bit words is
+/// no exception.
 #[test]
 fn the_next_word() {
     for operation in ordinary() {
@@ -155,8 +155,8 @@ fn the_next_word() {
     }
 }
 
-/// "except jmp and jal"; "Jumps 36 to 39 lead to their slot as a slot; jmp, jal and branches to
-/// their target; jal and jalr to the word after the slot". Bit 25 is ignored.
+/// jmp and jal: to their slot as a slot and to their target, jal to the word after the slot
+/// too. Bit 25 is ignored.
 #[test]
 fn jumps_by_immediate() {
     for bit_25 in [0, 1 << 25] {
@@ -182,7 +182,8 @@ fn jumps_by_immediate() {
     }
 }
 
-/// "except jmpr, jalr without a condition"; "Operands in registers are not followed."
+/// jmpr and jalr: as these, but for the target, which is in a register and not followed; with
+/// a condition to the next word too.
 #[test]
 fn jumps_by_register() {
     both_lead(38, &[], &[1]);
@@ -212,15 +213,15 @@ fn branches() {
     }
 }
 
-/// "except scall without a condition"; "scall to the word after its nop"; "scall and retu to
-/// the next word as slots".
+/// scall: to its nop as a slot and to the word after it; with a condition to the next word
+/// too.
 #[test]
 fn system_calls() {
     both_lead(48, &[2], &[1]);
     with_bit_25(48, &[1, 2], &[]);
 }
 
-/// "except retu, reti"; "retu to the next word, reti to the next three, as slots".
+/// retu and reti: to the next word, to the next three, as slots.
 #[test]
 fn returns() {
     both_lead(49, &[], &[1]);
@@ -229,9 +230,9 @@ fn returns() {
     with_bit_25(50, &[], &[1, 2, 3]);
 }
 
-/// "except swm"; "a swm that keeps the width to the word three later; swm to the next two as
-/// slots". "swm bit 0 is IL" decides, not 002's numbers 16 and 32, and "bits that an operation
-/// does not use are ignored".
+/// swm: to the next two words as slots, and to the word three later if it keeps the width. Bit
+/// 0 of the immediate decides, not the numbers 16 and 32 of the core's manual, and its other
+/// bits are ignored.
 #[test]
 fn changes_of_width() {
     for bits in 0..0x400_u16 {
@@ -247,7 +248,7 @@ fn changes_of_width() {
     }
 }
 
-/// "except trap".
+/// trap: nowhere.
 #[test]
 fn traps() {
     both_lead(55, &[], &[]);
@@ -260,22 +261,22 @@ fn traps() {
 #[test]
 fn a_program_of_32_bit_words() {
     let program = bytes_32(&[
-        0x8801_0005, // 00: lli R1 5
-        0x9000_0006, // 04: jmp 6, to 08h + 0Ch = 14h
-        0x0000_0000, // 08: its slot
-        0xDC00_0001, // 0C: trap 1, by the branch
-        0x0000_0000, // 10: not reached
-        0x9400_0006, // 14: jal 6, to 18h + 0Ch = 24h
-        0x0000_0000, // 18: its slot
-        0xAC3F_FFF6, // 1C: beq C0 -10, to 20h - 14h = 0Ch
-        0xC800_0000, // 20: reti
-        0xD800_0001, // 24: swm 1, to 30h; a slot of reti too
-        0x0000_0000, // 28: a slot of both
-        0x0000_0000, // 2C: a slot of both
-        0x9A00_0020, // 30: jmpr R1 on a condition
-        0xC400_0000, // 34: retu
-        0x0000_0000, // 38: its slot
-        0x0000_0000, // 3C: not reached
+        0x8801_0005, // 00h: lli R1 5
+        0x9000_0006, // 04h: jmp 6, to 08h + 0Ch = 14h
+        0x0000_0000, // 08h: its slot
+        0xDC00_0001, // 0Ch: trap 1, by the branch
+        0x0000_0000, // 10h: not reached
+        0x9400_0006, // 14h: jal 6, to 18h + 0Ch = 24h
+        0x0000_0000, // 18h: its slot
+        0xAC3F_FFF6, // 1Ch: beq C0 -10, to 20h - 14h = 0Ch
+        0xC800_0000, // 20h: reti
+        0xD800_0001, // 24h: swm 1, to 30h; a slot of reti too
+        0x0000_0000, // 28h: a slot of both
+        0x0000_0000, // 2Ch: a slot of both
+        0x9A00_0020, // 30h: jmpr R1 on a condition
+        0xC400_0000, // 34h: retu
+        0x0000_0000, // 38h: its slot
+        0x0000_0000, // 3Ch: not reached
     ]);
     let not_reached = [0x10, 0x3C];
     let expected: Vec<u32> = (0..0x40)
@@ -293,22 +294,22 @@ fn a_program_of_32_bit_words() {
 #[test]
 fn a_program_of_16_bit_words() {
     let program = bytes_16(&[
-        0x4808, // 00: addi R24 1
-        0x9003, // 02: jmp 3, to 04h + 06h = 0Ah
-        0x0000, // 04: its slot
-        0xDC01, // 06: trap 1, by the branch
-        0x0000, // 08: not reached
-        0x9403, // 0A: jal 3, to 0Ch + 06h = 12h
-        0x0000, // 0C: its slot
-        0xAFFB, // 0E: beq -5, to 10h - 0Ah = 06h
-        0xC800, // 10: reti
-        0xD800, // 12: swm 0, to 18h; a slot of reti too
-        0x0000, // 14: a slot of both
-        0x0000, // 16: a slot of both
-        0x9A08, // 18: jmpr R25; bit 9 is no condition
-        0x0000, // 1A: its slot
-        0xC400, // 1C: not reached
-        0x0000, // 1E: not reached
+        0x4808, // 00h: addi R24 1
+        0x9003, // 02h: jmp 3, to 04h + 06h = 0Ah
+        0x0000, // 04h: its slot
+        0xDC01, // 06h: trap 1, by the branch
+        0x0000, // 08h: not reached
+        0x9403, // 0Ah: jal 3, to 0Ch + 06h = 12h
+        0x0000, // 0Ch: its slot
+        0xAFFB, // 0Eh: beq -5, to 10h - 0Ah = 06h
+        0xC800, // 10h: reti
+        0xD800, // 12h: swm 0, to 18h; a slot of reti too
+        0x0000, // 14h: a slot of both
+        0x0000, // 16h: a slot of both
+        0x9A08, // 18h: jmpr R25; bit 9 is no condition
+        0x0000, // 1Ah: its slot
+        0xC400, // 1Ch: not reached
+        0x0000, // 1Eh: not reached
     ]);
     let not_reached = [0x08, 0x1C, 0x1E];
     let expected: Vec<u32> = (0..0x20)
@@ -321,8 +322,8 @@ fn a_program_of_16_bit_words() {
     assert_eq!(reached(&program, false, 0x1C), [0x1C, 0x1E]);
 }
 
-/// "in one width": the same bytes in the other one. 9000h is jmp 0, to its slot; 0004h and
-/// 0000h are nops. 90000004h is jmp 4, to 04h + 08h = 0Ch.
+/// The same bytes in the other width. 9000h is jmp 0, to its slot; 0004h and 0000h are nops.
+/// 90000004h is jmp 4, to 04h + 08h = 0Ch.
 #[test]
 fn one_width() {
     let program = bytes_32(&[0x9000_0004, 0, 0, 0xDC00_0000]);
@@ -339,7 +340,7 @@ fn a_straight_program() {
     }
 }
 
-/// "a word reached only as a slot leads nowhere": every operation in a slot.
+/// A word that is reached only as a slot leads nowhere: every operation in a slot.
 #[test]
 fn slots_lead_nowhere() {
     for operation in 0..64 {
@@ -487,8 +488,8 @@ fn and(addresses: &[u32], target: Option<u32>) -> Vec<u32> {
     all.into_iter().collect()
 }
 
-/// Targets of 32-bit words: the instruction is at 8 among six traps, its slot at 12. "Only
-/// aligned words wholly in program memory are reached."
+/// Targets of 32-bit words: the instruction is at 8 among six traps, its slot at 12. Only
+/// aligned words wholly in the program are reached.
 #[test]
 fn targets_of_32_bit_words() {
     let check = |word: u32, others: &[u32], target: Option<u32>| {
@@ -701,8 +702,8 @@ fn the_longest_program() {
 
 // Maps and refusals
 
-/// "0 elsewhere over the program's length; later bytes keep their values", whatever the map
-/// holds before.
+/// The map is 0 elsewhere over the program's length, whatever it holds before, and its later
+/// bytes keep their values.
 #[test]
 fn maps() {
     let mut program = bytes_32(&[jump(36, 4), NOP, NOP, NOP, TRAP.0]);
@@ -737,7 +738,7 @@ fn refused(length: usize, wide: bool, start: u32, map_length: usize, refusal: u3
     assert!(map.iter().all(|&byte| byte == KEPT));
 }
 
-/// 27: "when the start is misaligned or its word absent".
+/// 27: the start misaligned or its word absent.
 #[test]
 fn refused_starts() {
     let huge = [
@@ -794,7 +795,7 @@ fn empty_program() {
     }
 }
 
-/// 28: "when the map is shorter than the program", bytes that make no word included.
+/// 28: the map shorter than the program, bytes that make no word included.
 #[test]
 fn short_maps() {
     for wide in [false, true] {
@@ -808,11 +809,11 @@ fn short_maps() {
     }
 }
 
-/// 1 before 28 before 27: "asked first after 1".
+/// 1 before 28 before 27.
 #[test]
 fn order_of_refusals() {
     for wide in [false, true] {
-        // 1: "Program at most 65,536 bytes"
+        // 1: more than 65,536 bytes.
         for length in [65_537, 65_538, 65_540, 100_000] {
             for start in [0, 1, 65_536, 0xFFFF_FFFF] {
                 for map_length in [0, 65_536, length - 1, length, length + 1] {
@@ -873,7 +874,7 @@ fn random_program(random: &mut Random, wide: bool) -> Vec<u8> {
     program
 }
 
-/// What is reached, by recursion, and from the bits of the words as 01 places them.
+/// What is reached, by recursion, and from the bits of the words (Manual 2).
 struct Search<'a> {
     program: &'a [u8],
     wide: bool,

@@ -1,11 +1,11 @@
-//! The nops after swm, scall, retu and reti: the sentences of 02's wish 8.
+//! The nops after swm, scall, retu and reti (Manual 4.6).
 
 use super::bench::*;
 use super::interrupts::ready;
 use crate::decode::Operation;
 use crate::machine::offset;
 
-/// The four operations and how many nops "002 wants (two, one, one, three)".
+/// The four operations and how many nops have to follow them.
 const REQUIRED: [(u32, u32); 4] = [(54, 2), (48, 1), (49, 1), (50, 3)];
 
 /// The address of the instruction.
@@ -121,7 +121,7 @@ impl Case {
         bench
     }
 
-    /// Does one step, which must carry the instruction out as 01 says, and nothing else.
+    /// Does one step, which must carry the instruction out (Manual 3.2), and nothing else.
     fn completes(&self, mut bench: Bench) {
         let mut expected = bench.machine.clone();
         let cells = bench.cells.clone();
@@ -130,17 +130,17 @@ impl Case {
         expected.control[offset::INT_PEND] |= 0x801;
         expected.position.product = None;
         let (new_pc, new_psr) = match self.operation {
-            // "swm goes on three old-width words later."
+            // PC goes on three words of the old width later.
             54 => (address + 3 * self.bytes, psr & !8 | self.new_il << 3),
-            // "scall: link PR31 is two words on, SPSR takes PSR, PSR becomes 0Eh."
+            // The link in PR31 is two words on, SPSR takes PSR, PSR becomes 0Eh.
             48 => {
                 expected.set2[30] = psr;
                 expected.set2[31] = address + 2 * self.bytes;
                 (0x80, 0x0E)
             }
-            // "retu: PC from PR31; IE, IL from SPSR; user mode, set 1."
+            // PC comes from PR31, IE and IL from SPSR; user mode, set 1.
             49 => (0x60, 0x11 | self.new_il << 3),
-            // "reti pops and clears that source's flag."
+            // The top entry goes, and its source is no longer in service.
             _ => {
                 expected.stack.pop();
                 expected.control[offset::INT_SERV] = 1 << 7;
@@ -198,8 +198,8 @@ fn by_hand() {
     }
 }
 
-/// "A rebuilt carton program had real work where 002 wants nops": the steps before are done,
-/// the stop is no step, and another call stops there again.
+/// A program with real work where nops are wanted: the steps before are done, the stop is no
+/// step, and another call stops there again.
 #[test]
 fn steps_before_stop_20() {
     let addi = rri(18, 2, 2, 1);
@@ -217,8 +217,8 @@ fn steps_before_stop_20() {
     assert_eq!((bench.pc(), bench.machine.set2[31]), (0, 16));
 }
 
-/// "A program that keeps 002's rule, its nops present and unprotected, runs as before":
-/// whatever the words before and after, and though the program ends there.
+/// A program with its nops present and unprotected runs, whatever the words before and after,
+/// and though the program ends there.
 #[test]
 fn the_rule_kept() {
     for case in cases() {
@@ -239,7 +239,7 @@ fn the_rule_kept() {
     }
 }
 
-/// "20, a stop, when one of them has another operation than 0": each operation at each place.
+/// Stop 20, when one of them has another operation than 0: each operation at each place.
 #[test]
 fn another_operation() {
     for case in cases() {
@@ -258,7 +258,7 @@ fn another_operation() {
     }
 }
 
-/// "Bits that an operation does not use are ignored": a nop has its operation only.
+/// A nop has its operation only: its other bits are ignored.
 #[test]
 fn ignored_bits() {
     for case in cases() {
@@ -283,7 +283,7 @@ fn ignored_bits() {
     }
 }
 
-/// "an absent byte is stop 11": the program ends at any byte of the nops, in either mode, and
+/// An absent byte is stop 11: the program ends at any byte of the nops, in either mode, and
 /// whatever the bytes that are there.
 #[test]
 fn absent_bytes() {
@@ -302,9 +302,8 @@ fn absent_bytes() {
     }
 }
 
-/// "In user mode a protected byte among them raises 00h at the instruction's own address":
-/// each byte alone, in EXCEPTION_PC the instruction's address, and nothing of it done
-/// (`Bench::raises`).
+/// In user mode a protected byte among them is 00h at the instruction's own address: each byte
+/// alone, in EXCEPTION_PC the instruction's address, and nothing of it done (`Bench::raises`).
 #[test]
 fn protected_bytes() {
     for case in user_cases() {
@@ -314,7 +313,7 @@ fn protected_bytes() {
             bench.raises(0x00);
             assert_eq!(bench.machine.control[0x17..=0x19], [0x00, START, psr]);
             case.protected(&case.nops(), byte, 0xFFFF_FFFF).raises(0x00);
-            // "LO above HI protects nothing."
+            // A low bound above the high one protects nothing.
             case.completes(case.protected(&case.nops(), byte, byte - 1));
         }
     }
@@ -360,8 +359,8 @@ fn order_within_a_word() {
     }
 }
 
-/// "These words are now looked at one after another": whatever is wrong with the first of
-/// them comes before all that is wrong with the next.
+/// The words are looked at one after another: whatever is wrong with the first of them comes
+/// before all that is wrong with the next.
 #[test]
 fn order_between_words() {
     for case in user_cases() {
@@ -486,8 +485,8 @@ fn after_stop_13() {
     }
 }
 
-/// "once any condition is true": on a false condition scall has no look, and "nothing but PC
-/// moves".
+/// Only once any condition is true: on a false one scall has no look, and nothing but PC
+/// moves.
 #[test]
 fn conditional_system_calls() {
     for condition in 0..8 {
@@ -516,8 +515,8 @@ fn conditional_system_calls() {
     }
 }
 
-/// Where there is no condition, bits that would be one change nothing: "bit 25 ignored: 49 to
-/// 57", and in 16-bit words "nothing is conditional".
+/// Where there is no condition, bits that would be one change nothing: in 49 to 57, and in
+/// 16-bit words.
 #[test]
 fn bits_of_no_condition() {
     for case in cases() {
@@ -540,7 +539,7 @@ fn bits_of_no_condition() {
     }
 }
 
-/// "before stop 15": reti with an empty stack.
+/// Before stop 15: reti with an empty stack.
 #[test]
 fn before_stop_15() {
     for case in cases().into_iter().filter(|case| case.operation == 50) {
@@ -565,7 +564,7 @@ fn before_stop_15() {
     }
 }
 
-/// "in the old width": it is the instruction's own, though another follows.
+/// In the old width: it is the instruction's own, though another follows.
 #[test]
 fn the_old_width() {
     // The low half of a 32-bit nop may be anything, for 16-bit words too.
@@ -588,8 +587,8 @@ fn the_old_width() {
     let mut bench = Bench::new_16(&[h_plain(48, 0), 0, other]);
     bench.steps(1);
     assert_eq!((bench.pc(), bench.psr()), (0, 0x0E));
-    // 002, table 6.6, has a 16-bit word as the second nop: in the old width what stands in
-    // the other half is ignored, and "three old-width words later" is beyond it.
+    // Table 6.6 of the COFFEE Core user manual has a 16-bit word as the second nop: in the old
+    // width what stands in the other half is ignored, and the word three later is beyond it.
     let mixed = |halves: [u16; 4]| {
         let mut bench = Bench::new(&[plain(54, 0)]);
         let bytes = halves.iter().flat_map(|half| half.to_be_bytes());

@@ -1,4 +1,4 @@
-//! Stores to RETI_ADDR, RETI_PSR and RETI_CR0: the sentences of 02's wish 6.
+//! Stores to RETI_ADDR, RETI_PSR and RETI_CR0 (Manual 5.3).
 
 use super::bench::*;
 use super::interrupts::ready;
@@ -11,7 +11,7 @@ const BLOCK: u32 = 0x0001_0000;
 /// The offsets of RETI_ADDR, RETI_PSR and RETI_CR0.
 const REGISTERS: [u32; 3] = [0x28, 0x29, 0x2A];
 
-/// What RETI_PSR keeps of 0 to 31: "with UM 1 both set bits become 0".
+/// What RETI_PSR keeps of 0 to 31: with UM 1 RSRD and RSWR become 0.
 const KEPT_PSR: [u32; 32] = [
     0x00, 0x01, 0x02, 0x01, 0x04, 0x01, 0x06, 0x01, // IE 0, IL 0
     0x08, 0x09, 0x0A, 0x09, 0x0C, 0x09, 0x0E, 0x09, // IE 0, IL 1
@@ -136,8 +136,8 @@ fn three_stores_by_hand() {
     }
 }
 
-/// "Stores to RETI_ADDR, RETI_PSR and RETI_CR0 now replace the top entry's address, PSR or
-/// C0": at every depth, and nothing else of the stack, of INT_SERV or of the machine.
+/// Stores to RETI_ADDR, RETI_PSR and RETI_CR0 replace the top entry's address, PSR or C0, at
+/// every depth, and nothing else of the stack, of INT_SERV or of the machine.
 #[test]
 fn the_top_entry_is_replaced() {
     for depth in 1..=12 {
@@ -150,7 +150,7 @@ fn the_top_entry_is_replaced() {
     }
 }
 
-/// "with an empty stack they are ignored"
+/// With an empty stack they are ignored.
 #[test]
 fn an_empty_stack() {
     for register in REGISTERS {
@@ -180,10 +180,10 @@ fn an_empty_stack() {
     assert_eq!(bench.machine.control[0x28..=0x2A], [1, 9, 0]);
 }
 
-/// "RETI_PSR keeps bits 4..0, and with UM 1 both set bits become 0, so question 4 still
-/// passes on every image we save": every value of bits 8..0, with the bits above 0 and 1,
-/// stored by either mode; then reti takes the PSR. `Bench::run` asks questions 2 to 5 of
-/// every image that it gets, and the next call takes it.
+/// RETI_PSR keeps bits 4..0, and with UM 1 RSRD and RSWR become 0, so that question 4 still
+/// passes on every image: every value of bits 8..0, with the bits above 0 and 1, stored by
+/// either mode; then reti takes the PSR. `Bench::run` asks questions 2 to 5 of every image
+/// that it gets, and the next call takes it.
 #[test]
 fn every_psr() {
     for low in 0..512 {
@@ -209,7 +209,7 @@ fn every_psr() {
     }
 }
 
-/// 01: "A short register keeps its low bits (width: section 2.6)": three of RETI_CR0.
+/// A short register keeps its low bits: three of RETI_CR0.
 #[test]
 fn every_c0() {
     for low in 0..256 {
@@ -223,8 +223,8 @@ fn every_c0() {
     }
 }
 
-/// All 32 bits of an address are kept, aligned or not, present or not: "scall, retu and reti
-/// have no jump tests", and the next step finds what is wrong with it.
+/// All 32 bits of an address are kept, aligned or not, present or not: reti does not test it,
+/// and the next step finds what is wrong with it.
 #[test]
 fn every_address() {
     for address in values() {
@@ -248,8 +248,8 @@ fn every_address() {
     bench.raises(0x00);
 }
 
-/// "Stores act from the next step": a load just before a store finds the old top, a load just
-/// after it the new one.
+/// Stores count from the next step on: a load just before a store finds the old top, a load
+/// just after it the new one.
 #[test]
 fn loads_before_and_after() {
     for depth in [1, 2, 12] {
@@ -265,8 +265,8 @@ fn loads_before_and_after() {
     }
 }
 
-/// "reti pops and clears that source's flag": it goes where the stores say, and the entries
-/// below, which then show, are the old ones.
+/// reti takes the top entry and its source's flag: it goes where the stores say, and the
+/// entries below, which then show, are the old ones.
 #[test]
 fn returns_after_stores() {
     for depth in 1..=12 {
@@ -297,8 +297,8 @@ fn returns_after_stores() {
     }
 }
 
-/// "Our weighing program must return to another task": a routine that exchanges the top entry
-/// with cells 0 to 2 lets two tasks, of different modes and word lengths, run in turn.
+/// Change of task (Manual 6.3): a routine that exchanges the top entry with cells 0 to 2 lets
+/// two tasks, of different modes and word lengths, run in turn.
 #[test]
 fn two_tasks_in_turn() {
     let mut exchange = Vec::new();
@@ -407,7 +407,7 @@ fn a_stored_ie_waits_for_reti() {
     }
 }
 
-/// "condition false: nothing but PC moves"
+/// On a false condition nothing but PC moves.
 #[test]
 fn conditional_stores() {
     for register in REGISTERS {
@@ -567,7 +567,7 @@ fn several_stores() {
     }
 }
 
-/// A watchdog's reset comes "after the step's stores", and leaves the stack empty.
+/// A watchdog's reset comes after the step's stores, and leaves the stack empty.
 #[test]
 fn a_reset_in_the_same_step() {
     for register in REGISTERS {

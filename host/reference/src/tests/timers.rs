@@ -1,4 +1,4 @@
-//! Timers: the sentences of 02's wish 5 and the rows of 002's table 3.2, for each timer.
+//! Timers (Manual 7): each rule, for each timer.
 
 use super::bench::*;
 use super::interrupts::ready;
@@ -78,7 +78,7 @@ fn resets(timer: usize, numbers: Numbers) -> bool {
 
 // Clocks
 
-/// "one clock for each completed step": an instruction of any effect, one whose condition is
+/// One clock for each completed step: an instruction of any effect, one whose condition is
 /// false, a jump and its slot, an exception, an interrupt.
 #[test]
 fn every_completed_step_is_a_clock() {
@@ -115,7 +115,7 @@ fn every_completed_step_is_a_clock() {
     }
 }
 
-/// "a stop is no clock": count, divider and pending flags stay, though the next clock would
+/// A stop has no clock: count, divider and pending flags stay, though the next clock would
 /// tick, request or reset.
 #[test]
 fn a_stop_is_no_clock() {
@@ -147,7 +147,8 @@ fn clocks_before_a_stop() {
     assert_eq!(bench.count(0), 3);
 }
 
-/// "after the step's stores": a store to a timer register counts in its own step's clock.
+/// The clock is after the step's stores: a store to a timer register counts in its own step's
+/// clock.
 #[test]
 fn after_the_steps_stores() {
     let store = |register: usize, value: u32, timer: usize, numbers: Numbers| {
@@ -199,7 +200,7 @@ fn loads_before_the_clock() {
     assert_eq!(bench.count(0), 9);
 }
 
-/// "Timer 0 goes first, and a reset ends that clock": timer 1 leaves no trace.
+/// Timer 0 goes first, and its reset ends the clock: timer 1 leaves no trace.
 #[test]
 fn a_reset_ends_the_clock() {
     for watchdog in 0..2 {
@@ -242,8 +243,7 @@ fn both_timers() {
 
 // Dividers (table 3.2, DIV and EN)
 
-/// "A divider counts 0 to DIV, and at DIV or above goes back to 0; on going back to 0 the
-/// timer ticks."
+/// A divider counts 0 to DIV; at DIV or above it goes back to 0, and the timer ticks.
 #[test]
 fn dividers() {
     for timer in 0..2 {
@@ -261,8 +261,7 @@ fn dividers() {
     }
 }
 
-/// DIV: "A timer counter will be incremented every [DIV] + 1 cycles, that is a zero value in
-/// DIV field sets the timer frequency to be the same as clock frequency of the core."
+/// DIV: the count grows at every clock number DIV + 1, with DIV 0 at every clock.
 #[test]
 fn every_div_and_one_cycles() {
     for timer in 0..2 {
@@ -277,7 +276,7 @@ fn every_div_and_one_cycles() {
     }
 }
 
-/// "EN 0 zeroes the divider without a tick." Whatever the other bits are.
+/// EN 0 zeroes the divider without a tick, whatever the other bits are.
 #[test]
 fn not_enabled() {
     for timer in 0..2 {
@@ -292,8 +291,8 @@ fn not_enabled() {
     }
 }
 
-/// EN: "Clearing EN bit will zero timer divider => timer will be incremented [DIV] + 1 clock
-/// cycles after enabling it."
+/// EN: clearing it zeroes the divider, so that the timer ticks DIV + 1 clocks after it is set
+/// again.
 #[test]
 fn enabled_again() {
     for timer in 0..2 {
@@ -325,8 +324,8 @@ fn enabled_again() {
 
 // Counts (table 3.2, CONT; table 3.1, TMR0_MAX_CNT and TMR1_MAX_CNT)
 
-/// "At the maximum, CONT 1 sets zero and CONT 0 stays; elsewhere the count wraps from
-/// FFFFFFFFh to 0."
+/// At the maximum, CONT 1 sets zero and CONT 0 stays; any other count grows by one, and from
+/// FFFFFFFFh to 0.
 #[test]
 fn counts() {
     let last = 0xFFFF_FFFF;
@@ -352,7 +351,7 @@ fn counts() {
     }
 }
 
-/// CONT 1: "Timer counter will start from zero after reaching maximum count."
+/// CONT 1: after the maximum the count goes on from 0.
 #[test]
 fn continuous_mode() {
     for timer in 0..2 {
@@ -364,8 +363,8 @@ fn continuous_mode() {
     }
 }
 
-/// CONT 0: "Timer counter will stop at maximum count." "A CONT 0 count already at the maximum
-/// does nothing": no request, no reset. Its divider goes round.
+/// CONT 0: the count stays at the maximum, and once there does nothing: no request, no reset.
+/// Its divider goes round.
 #[test]
 fn single_mode() {
     for timer in 0..2 {
@@ -387,8 +386,8 @@ fn single_mode() {
     }
 }
 
-/// "you can set a value greater than maximum count in which case the timer counter will count
-/// to 0xffffffff and start over from zero", and only then reaches the maximum.
+/// A count above the maximum goes up to FFFFFFFFh and on from 0, and only then reaches the
+/// maximum.
 #[test]
 fn above_the_maximum() {
     for timer in 0..2 {
@@ -410,7 +409,7 @@ fn above_the_maximum() {
 
 // Requests (table 3.2, GINT and INTN)
 
-/// "A tick that leaves the count equal to the maximum requests INTN if GINT is 1."
+/// A tick that leaves the count at the maximum requests INTN if GINT is 1.
 #[test]
 fn requests_at_the_maximum() {
     for timer in 0..2 {
@@ -434,7 +433,7 @@ fn requests_at_the_maximum() {
     }
 }
 
-/// "(CONT 1, count and maximum 0: every tick)"
+/// With CONT 1, count and maximum 0 that is every tick.
 #[test]
 fn maximum_0_in_continuous_mode() {
     for timer in 0..2 {
@@ -506,7 +505,7 @@ fn a_timer_in_user_mode() {
     }
 }
 
-/// Bits 27 and 11: "Reserved, 0 or 1 can be written."
+/// Bits 27 and 11 hold what is stored and have no meaning.
 #[test]
 fn the_reserved_bit() {
     for timer in 0..2 {
@@ -519,7 +518,7 @@ fn the_reserved_bit() {
 
 // Watchdogs (table 3.2, WDOG)
 
-/// "or with WDOG 1 resets the core instead": with GINT and without, at a tick that leaves the
+/// With WDOG 1 the core is reset instead: with GINT and without, at a tick that leaves the
 /// count equal to the maximum and at no other clock.
 #[test]
 fn watchdogs() {
@@ -540,8 +539,8 @@ fn watchdogs() {
     }
 }
 
-/// "registers and conditions at 002's reset values or else 0, section 2.9's values, PC 0, slot
-/// and product gone, stack and pending empty, dividers 0, data kept"
+/// What a reset leaves (Manual 4.12): registers, conditions and control block at their reset
+/// values, PC 0, no slot, product, stack entry or pending source, dividers 0, and the data.
 #[test]
 fn a_watchdog_reset() {
     let mut random = Random(0x1234_5678_9ABC_DEF1);
@@ -617,7 +616,7 @@ fn a_run_goes_on_after_a_reset() {
     }
 }
 
-/// TMR_CONF: "Bits 31..16: TMR1_CONF; Bits 15..0: TMR0_CONF". A half alone runs its own timer.
+/// TMR_CONF: timer 1 has bits 31..16, timer 0 bits 15..0. A half alone runs its own timer.
 #[test]
 fn halves_of_the_configuration() {
     for (configuration, counts) in [

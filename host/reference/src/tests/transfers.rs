@@ -3,7 +3,7 @@
 use super::bench::*;
 use crate::machine::offset;
 
-/// "a target by immediate is the slot's address plus twice the signed immediate"
+/// A target by immediate is the slot's address plus twice the signed immediate.
 #[test]
 fn targets_by_immediate() {
     for (word, target) in [
@@ -37,7 +37,7 @@ fn targets_by_immediate() {
     }
 }
 
-/// "links are the address after the slot"
+/// A link is the address after the slot.
 #[test]
 fn links() {
     let mut bench = Bench::new(&[jump(37, 8)]);
@@ -67,7 +67,7 @@ fn links() {
     assert_eq!(bench.machine.set2[4], 8);
 }
 
-/// "Taken jumps leave one slot ... Not taken: no slot."
+/// A taken jump leaves one slot, one that is not taken none.
 #[test]
 fn slots() {
     let mut bench = Bench::new(&[branch(0, 2, 8), lli(1, 1), lli(2, 2)]);
@@ -113,8 +113,8 @@ fn slots() {
     assert_eq!(bench.pc(), 16);
 }
 
-/// "control transfer in a slot (stop 13; operations 36 to 50 and swm, condition true or
-/// not)"
+/// A control transfer in a slot is stop 13: operations 36 to 50 and swm, the condition true or
+/// not.
 #[test]
 fn transfers_in_a_slot() {
     for operation in (36..=50).chain([54]) {
@@ -133,7 +133,7 @@ fn transfers_in_a_slot() {
     }
 }
 
-/// "scall: link PR31 is two words on, SPSR takes PSR, PSR becomes 0Eh."
+/// scall: the link in PR31 is two words on, SPSR takes PSR, PSR becomes 0Eh.
 #[test]
 fn system_calls() {
     let mut bench = Bench::new(&[NOP, plain(48, 0), NOP])
@@ -168,7 +168,7 @@ fn system_calls() {
     assert_eq!(bench.pc(), 8);
 }
 
-/// "retu: PC from PR31; IE, IL from SPSR; user mode, set 1."
+/// retu: PC comes from PR31, IE and IL from SPSR; user mode, set 1.
 #[test]
 fn returns_to_user_mode() {
     for (spsr, psr) in [
@@ -187,7 +187,8 @@ fn returns_to_user_mode() {
     }
 }
 
-/// "reti pops (stop 15 when empty) and clears that source's flag."
+/// reti: the top entry goes, and its source is no longer in service; stop 15 when the stack is
+/// empty.
 #[test]
 fn returns_from_interrupts() {
     let reti = [plain(50, 0), NOP, NOP, NOP];
@@ -211,7 +212,7 @@ fn returns_from_interrupts() {
     assert_eq!((bench.pc(), bench.psr()), (64, 0x0E));
 }
 
-/// "swm bit 0 is IL"; "swm goes on three old-width words later".
+/// swm: bit 0 is IL, and PC goes on three words of the old width later.
 #[test]
 fn switching_the_word_length() {
     for (psr, immediate, new_psr) in [

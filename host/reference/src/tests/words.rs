@@ -11,7 +11,7 @@ fn decode_16(word: u16) -> crate::decode::Instruction {
     decode(u32::from(word), WordLength::Bits16)
 }
 
-/// The numbers that 01's list of operations names, and those of 02's wish 1.
+/// The operations' numbers (Manual 3.1).
 #[test]
 fn operation_numbers() {
     use Operation::*;
@@ -84,7 +84,7 @@ fn immediates_of_32_bit_words() {
         assert_eq!(decode_32(rri(operation, 4, 5, 0x1FF)).immediate, 31);
         assert_eq!(decode_32(rri(operation, 4, 5, 0x1E0)).immediate, 0);
     }
-    // "jmp, jal: signed 24..0", whatever bit 25.
+    // jmp and jal: bits 24..0, signed, whatever bit 25.
     for operation in [36, 37] {
         for immediate in [-0x100_0000, -1, 0, 1, 0xFF_FFFF] {
             let word = jump(operation, immediate);
@@ -92,20 +92,20 @@ fn immediates_of_32_bit_words() {
             assert_eq!(decode_32(word | 1 << 25).immediate, i64::from(immediate));
         }
     }
-    // "Branches: register 24..22, signed 21..0."
+    // Branches: the register in bits 24..22, the immediate in bits 21..0, signed.
     for immediate in [-0x20_0000, -1, 0, 1, 0x1F_FFFF] {
         let instruction = decode_32(branch(3, 6, immediate));
         assert_eq!(instruction.immediate, i64::from(immediate));
         assert_eq!(instruction.condition_register, 6);
     }
-    // "lli and lui: dreg 20..16, immediate 15..0."
+    // lli and lui: dreg in bits 20..16, the immediate in bits 15..0.
     let instruction = decode_32(lli(21, 0xBEEF));
     assert_eq!((instruction.target, instruction.immediate), (21, 0xBEEF));
     // Of 4..0, swm uses bit 0, chrs bits 1 and 0, trap all.
     for (operation, used) in [(54, 0), (51, 2), (55, 0x16)] {
         assert_eq!(decode_32(operation << 26 | 0x3FF_FFF6).immediate, used);
     }
-    // exb: "immediate bits 1..0"; exh: "by bit 0".
+    // exb has bits 1..0, exh bit 0.
     for immediate in 0..0x200 {
         assert_eq!(
             decode_32(rri(60, 4, 5, immediate)).immediate,
@@ -170,7 +170,7 @@ fn fields_of_16_bit_words() {
             i64::from(immediate & 1)
         );
     }
-    // "Nothing is conditional, only C0 is used."
+    // No 16-bit word is conditional, and only C0 is used.
     for operation in 0..64 {
         let instruction = decode_16(operation << 10 | 0x3FF);
         assert_eq!(instruction.condition, None);
@@ -178,7 +178,7 @@ fn fields_of_16_bit_words() {
     }
 }
 
-/// "Bits that an operation does not use are ignored, as 24..19 of add with bit 25 at 0."
+/// Bits that an operation does not use are ignored, as 24..19 of add with bit 25 at 0.
 #[test]
 fn unused_bits() {
     let mut bench = Bench::new(&[rrr(1, 3, 1, 2) | 0x01FF_8000])
@@ -200,8 +200,7 @@ fn unused_bits() {
     assert_eq!(bench.psr(), 0x0E);
 }
 
-/// "A condition register is Z×4 + N×2 + C. lt is N; eq is Z; elt is N or Z; gt is
-/// neither; egt is not N."
+/// A condition register is Z×4 + N×2 + C; which conditions hold of it (Manual 2.6).
 #[test]
 fn conditions() {
     // For each condition the values 0 to 7 of which it is true.
@@ -250,8 +249,8 @@ fn false_conditions() {
     }
 }
 
-/// "Never conditional, bit 25 ignored": with bit 25 at 1 and a condition that would be
-/// false, the operation happens all the same.
+/// Operations that are never conditional ignore bit 25: with it at 1 and a condition that
+/// would be false, they happen all the same.
 #[test]
 fn never_conditional() {
     // Condition c (0) of a condition register that is 0 is false.

@@ -1,4 +1,5 @@
-//! 01's "Worked by hand", the run program's example and 002's own examples.
+//! The worked examples of docs/MANUAL.md, section 16, and examples of the COFFEE Core user
+//! manual.
 
 use super::bench::*;
 use crate::machine::offset;
@@ -69,7 +70,7 @@ fn jmp_at_0() {
     assert_eq!((bench.pc(), bench.machine.position.slot), (8, None));
 }
 
-/// 02, wish 8: "the worked swm case now has its two nops".
+/// swm with its two nops.
 #[test]
 fn swm_at_0() {
     let mut bench = Bench::new(&[0xD800_0000, NOP, NOP]);
@@ -170,8 +171,8 @@ fn the_run_program_example() {
     assert!(cells.iter().all(|&cell| cell == 0));
 }
 
-/// 002, section 6.2, addu: "Add the lower 32 bits with addu and add one to the upper
-/// 32 bits if carry was set in condition register creg0".
+/// COFFEE Core user manual, section 6.2, addu: a sum of 64 bits, the lower halves by addu, and
+/// one added to the upper ones where C0 has a carry.
 #[test]
 fn addition_wider_than_32_bits() {
     let mut bench = Bench::new(&[
@@ -188,8 +189,8 @@ fn addition_wider_than_32_bits() {
     assert_eq!(bench.machine.set2[6], 0x31);
 }
 
-/// 002, section 6.2, exbf: the field of length 5 at position 6, by a constant and by length
-/// and position in registers.
+/// COFFEE Core user manual, section 6.2, exbf: the field of length 5 at position 6, by a
+/// constant and by length and position in registers.
 #[test]
 fn a_field_of_a_message_frame() {
     let mut bench = Bench::new(&[lli(2, 0x0A6), rrr(62, 3, 0, 2)]).pr(0, 0xFFFF_FD7F);
@@ -209,8 +210,8 @@ fn a_field_of_a_message_frame() {
     assert_eq!(bench.machine.set2[3], 0b10101);
 }
 
-/// 002, section 4.5, first example: remapping the control block, then a store to its
-/// second register at the new place.
+/// COFFEE Core user manual, section 4.5, first example: remapping the control block, then a
+/// store to its second register at the new place.
 #[test]
 fn remapping_the_control_block() {
     let mut bench = Bench::new(&[
@@ -226,7 +227,7 @@ fn remapping_the_control_block() {
     assert_eq!(bench.machine.control[offset::PCB_BASE], 0x1234_5678);
 }
 
-/// 002, section 4.5, second example: an interrupt vector, then ei.
+/// COFFEE Core user manual, section 4.5, second example: an interrupt vector, then ei.
 #[test]
 fn setting_a_vector_and_enabling_interrupts() {
     let mut bench = Bench::new(&[rri(28, 1, 0, 0), NOP, NOP, plain(53, 0)])
@@ -240,8 +241,8 @@ fn setting_a_vector_and_enabling_interrupts() {
     assert_eq!(bench.machine.stack[0].address, 16);
 }
 
-/// 002, section 2.7 and 4.4: boot code that enters user mode by retu, and a system
-/// call back.
+/// COFFEE Core user manual, sections 2.7 and 4.4: boot code that enters user mode by retu, and
+/// a system call back.
 #[test]
 fn boot_user_and_system_call() {
     let mut bench = Bench::new(&[

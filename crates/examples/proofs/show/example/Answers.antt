@@ -1,6 +1,0 @@
--- `example` meets its contract: a line's count is one of the front of its bytes. Assumes nothing.
-use Rattle.console.proofs.Lines.{line_counts}
-use Rattle.examples.proofs.show.example.Goals as goal
-
-pub print-requires : goal.print-requires
-print-requires g c = rw c.line.ensures (line_counts _)
