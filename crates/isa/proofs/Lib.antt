@@ -1,6 +1,7 @@
 -- Laws of the instruction set.
 pub mod Fields
 pub mod Table
+pub mod Roles
 pub mod Rules
 pub mod Groups
 pub mod Rows

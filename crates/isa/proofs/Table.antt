@@ -79,6 +79,6 @@ pub wide_row : {width : Width} {optional : Bool} {o : Operands} (form : Form) (f
     → (word : ℕ) → width ≡ Wide → first ≤ opcode_of width word → opcode_of width word < first + count → o ≡ operands_of Wide form word
     → (optional ≡ (properties (operation_of (opcode_of Wide word))).conditional) × (o ≡ operands_of Wide (properties (operation_of (opcode_of Wide word))).form word)
 wide_row {width} {optional} form first count c e word known l h operands = (
-      sym (rw (← known) (agree (λ n. (properties (operation_of n)).conditional) (λ n. optional) first count c (opcode_of width word) l h)),
-      rw (operands, ← known, agree (λ n. (properties (operation_of n)).form) (λ n. form) first count e (opcode_of width word) l h),
-    )
+  sym (rw (← known) (agree (λ n. (properties (operation_of n)).conditional) (λ n. optional) first count c (opcode_of width word) l h)),
+  rw (operands, ← known, agree (λ n. (properties (operation_of n)).form) (λ n. form) first count e (opcode_of width word) l h),
+)

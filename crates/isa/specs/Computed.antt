@@ -7,7 +7,8 @@ use Rattle.isa.specs.Format.{formats}
 use Rattle.isa.specs.Decode.{decoding}
 use Rattle.isa.specs.Shown.{showing}
 use Rattle.isa.specs.Used.{bits_used}
+use Rattle.isa.specs.Places.{placing}
 
 unfoldable pub instructions : Unit {0}
-unfolding words spelling table conditioning formats decoding showing bits_used
+unfolding words spelling table conditioning formats decoding showing bits_used placing
 instructions = tt

@@ -6,5 +6,6 @@ pub mod Format
 pub mod Decode
 pub mod Shown
 pub mod Used
+pub mod Places
 pub mod Theorems
 pub mod Computed

@@ -1,8 +1,7 @@
 -- The bits of a word that its operation uses: where the operands that a listing shows stand, and how their bits are read. All other bits are
 -- ignored (01 "Bits that an operation does not use are ignored"; 02 wish 7). Assumes nothing.
-use Rattle.std.specs.Prelude.{Bool, List, [], ◌++◌, ℕ, ◌-◌, ◌^◌, ℤ, pos, neg_ℤ}
-use Rattle.std.proofs.Math.Option.{Option, none, some}
-use Rattle.std.proofs.Math.ListN.{get_elem?}
+use Rattle.std.specs.Prelude.{Bool, Option, Some, None, List, [], ◌++◌, ℕ, ◌-◌, ◌^◌, ℤ, pos, neg_ℤ}
+use Rattle.std.specs.List.{slice_get}
 use Rattle.word.specs.Choice.{choose◌then◌else◌}
 use Rattle.word.specs.Word.{Field}
 use Rattle.isa.specs.declared.form.Reading.{Reading}
@@ -22,12 +21,12 @@ use Rattle.isa.specs.Shown.{shown_roles}
 
 -- operand k, where there is one
 abbrev pub shown_role : Width → Operation → (k : ℕ) → Option Role
-shown_role width o k = get_elem? (shown_roles width o) k
+shown_role width o k = slice_get (shown_roles width o) k
 
 -- the fields of an operand; one that is absent has none
 unfoldable pub fields_for : Width → Form → Option Role → List Field
-fields_for width form none = []
-fields_for width form (some r) = operand_fields width form r
+fields_for width form None = []
+fields_for width form (Some r) = operand_fields width form r
 
 abbrev pub shown_fields : Width → Operation → (k : ℕ) → List Field
 shown_fields width o k = fields_for width (properties o).form (shown_role width o k)
@@ -46,14 +45,14 @@ unfoldable pub immediate_reading : Immediate → Reading
 immediate_reading i = choose i.signed then Signed else Natural
 
 unfoldable pub reading_for : Width → Form → Option Role → Reading
-reading_for width form none = Natural
-reading_for width form (some Dreg) = register_reading width
-reading_for width form (some Sreg1) = register_reading width
-reading_for width form (some Sreg2) = register_reading width
-reading_for width form (some Creg) = Natural
-reading_for width form (some Imm) = immediate_reading (layout_of width form).immediate
-reading_for width form (some Length) = Natural
-reading_for width form (some Position) = Natural
+reading_for width form None = Natural
+reading_for width form (Some Dreg) = register_reading width
+reading_for width form (Some Sreg1) = register_reading width
+reading_for width form (Some Sreg2) = register_reading width
+reading_for width form (Some Creg) = Natural
+reading_for width form (Some Imm) = immediate_reading (layout_of width form).immediate
+reading_for width form (Some Length) = Natural
+reading_for width form (Some Position) = Natural
 
 abbrev pub shown_reading : Width → Operation → (k : ℕ) → Reading
 shown_reading width o k = reading_for width (properties o).form (shown_role width o k)

@@ -5,6 +5,7 @@ pub mod condition;
 pub mod flow;
 pub mod form;
 pub mod instruction;
+pub mod operands;
 pub mod operation;
 pub mod width;
 
@@ -12,5 +13,6 @@ pub use condition::Condition;
 pub use flow::Flow;
 pub use form::{Form, Reading, Role};
 pub use instruction::{Instruction, Operands};
+pub use operands::{BitRange, Operand, OperandField};
 pub use operation::{Operation, UnknownOperation};
 pub use width::Width;

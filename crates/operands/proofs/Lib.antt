@@ -1,4 +1,0 @@
--- Laws of the code's tables of operands.
-pub mod Table
-pub mod Roles
-pub mod Places

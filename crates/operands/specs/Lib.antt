@@ -1,4 +1,0 @@
--- The operands that a listing shows, as the code has them.
-pub mod Letters
-pub mod Places
-pub mod Table
