@@ -130,7 +130,7 @@ uint32_t coffee_carry_over(const uint8_t *image, size_t image_bytes, uint8_t *bu
  *   8             the word, hexadecimal: 8 digits or 4
  *   6             its condition and condition register, as `egt C7`; blank without a condition
  *   8             the operation's name, or `?` where it has no form in this width; then there are no operands
- *   13            its operands (docs/MANUAL.md, table 11.3), single blanks between them: R0 to R31, C0 to C7, decimal numbers, with a minus
+ *   13            its operands (docs/MANUAL.md, section 11.2), single blanks between them: R0 to R31, C0 to C7, decimal numbers, with a minus
  *                 where they are negative
  * 16-bit words have registers R24 to R31, no condition and no C0.
  *

@@ -3,7 +3,7 @@
 
 use crate::decode::{Operand, Operand::*, Operation, Operation::*, WordLength};
 
-/// The operands of an operation that has a form in this width (Manual, table 11.3). Each
+/// The operands of an operation that has a form in this width (Manual 3.1). Each
 /// comment is a form of 32-bit words, then the one of 16-bit words where it differs.
 pub fn operands(operation: Operation, length: WordLength) -> &'static [Operand] {
     use WordLength::{Bits16, Bits32};
