@@ -1,12 +1,10 @@
 -- The listing call: its questions, and the lines one after the other. Assumes nothing.
 use mathlib.Core.Path.{◌≡◌, sym, ap, ◌∙◌}
 use mathlib.Core.Logic.{◌≢◌}
-use mathlib.Core.List.{List, [], ◌++◌}
+use mathlib.Core.List.{List, ◌++◌}
 use Prim.Native.Nat.{ℕ, suc, ◌+◌, ◌-◌, ◌*◌, ◌/◌, ◌%◌, ◌≤◌, ◌<◌}
-use native.Mathlib.Nat.{mul-zero}
 use native.Mathlib.Omega.{arith}
 use lib.ListN.{length}
-use borrow.Rule.Slice.PartMut.{put_mid}
 use borrow.Author.Tests.{le-leb, lt-leb, eq-eqb, ne_eqb}
 use Rattle.codec.specs.Number.{put_at, over}
 use Rattle.codec.proofs.Laws.{put_at_nothing, put_at_append}
@@ -71,12 +69,6 @@ module _ (width : Width) (program : List ℕ) where
   -- the line of word n
   abbrev pub line_at : (n : ℕ) → List ℕ
   line_at n = word_line width (word_bytes width * n) (word_at width program (word_bytes width * n))
-
-  pub lines_first : lines_at 0 ≡ lines_from width program 0 (words_in width program)
-  lines_first =
-      let words = words_in width program in
-      let e : words - 0 ≡ words = omega arith in
-      ap (λ (a : ℕ). lines_from width program a (words - 0)) (mul-zero (word_bytes width)) ∙ ap (lines_from width program 0) e
 
   pub lines_next : (n : ℕ) → n < words_in width program → lines_at n ≡ line_at n ++ lines_at (n + 1)
   unfolding lines_from

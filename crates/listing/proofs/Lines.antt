@@ -1,28 +1,22 @@
 -- A line, from its parts. Assumes nothing.
-use mathlib.Core.Path.{◌≡◌, refl, sym, ap, ◌∙◌}
-use mathlib.Core.List.{List, [], ◌∷◌, ◌++◌, append-nil}
-use Prim.Native.Nat.{ℕ, ◌+◌, ◌-◌, ◌*◌, ◌≤◌, ◌<◌}
+use mathlib.Core.Path.{◌≡◌, sym, ap, ◌∙◌}
+use mathlib.Core.List.{List, [], ◌∷◌}
+use Prim.Native.Nat.{ℕ, ◌-◌, ◌*◌, ◌≤◌, ◌<◌}
 use native.Mathlib.Omega.{arith}
-use lib.ListN.{length, length-append, drop_of_length-le}
-use Rattle.word.specs.Choice.{choose◌then◌else◌}
-use Rattle.word.proofs.Tests.{either}
+use lib.ListN.{length}
 use Rattle.codec.specs.Number.{put_at}
-use Rattle.isa.specs.Text.{bytes}
 use Rattle.isa.specs.declared.width.Width.{Width}
 use Rattle.isa.specs.declared.width.Width.TheVariants.{Narrow, Wide}
 use Rattle.isa.specs.Operation.{operation_of}
-use Rattle.isa.specs.declared.form.Role.TheVariants.{Creg}
 use Rattle.isa.specs.Decode.{word_bytes, decode}
-use Rattle.isa.specs.Shown.{has_form}
-use Rattle.isa.specs.declared.instruction.Instruction.{Instruction}
 use Rattle.isa.proofs.Decoded.{in_range}
-use Rattle.console.specs.Digits.{blank, digits_of, hex8}
+use Rattle.console.specs.Digits.{digits_of, hex8}
 use Rattle.console.proofs.Digits.{length_digits_of}
-use Rattle.listing.specs.Line.{operand_text, joined, shown_texts, operands_text, name_text, condition_text, WORD_COLUMN, CONDITION_COLUMN, NAME_COLUMN, OPERANDS_COLUMN, padded, columns, word_line}
+use Rattle.listing.specs.Line.{joined, shown_texts, operands_text, name_text, condition_text, WORD_COLUMN, CONDITION_COLUMN, NAME_COLUMN, OPERANDS_COLUMN, columns, word_line}
 use Rattle.listing.specs.Parts.{spaced}
 use Rattle.listing.proofs.Texts.{condition_fits, name_fits}
 use Rattle.listing.proofs.Rooms.{operands_fit}
-use Rattle.listing.proofs.Columns.{Fit, length_columns, spaced_joined, fifth, first, from_right, put_address, put_word, put_condition, put_name, put_operands}
+use Rattle.listing.proofs.Columns.{Fit, length_columns, spaced_joined, first, from_right, put_address, put_word, put_condition, put_name, put_operands}
 
 -- ---- the parts fit their columns
 

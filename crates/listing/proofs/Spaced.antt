@@ -5,7 +5,7 @@ use Prim.Native.Nat.{ℕ, zero, suc, ◌+◌, ◌≤◌}
 use native.Mathlib.Omega.{arith}
 use lib.Seq.{take_all}
 use lib.ListN.{length, take, length-append}
-use Rattle.std.specs.Prelude.{Option, Some, None}
+use Rattle.std.specs.Prelude.{Some, None}
 use Rattle.std.specs.List.{slice_get}
 use Rattle.isa.specs.declared.form.Role.{Role}
 use Rattle.console.specs.Digits.{blank}
@@ -39,10 +39,6 @@ module _ (f : Role → List ℕ) where
   no_operand [] (suc k) e = refl
   no_operand (s ∷ rs) zero e = absurd (none_some (sym e))
   no_operand (s ∷ rs) (suc k) e = ap (λ (t : List ℕ). (blank ∷ f s) ++ t) (no_operand rs k e)
-
-  pub no_operands : (rs : List Role) → first_operands rs 0 ≡ []
-  unfolding spaced
-  no_operands rs = refl
 
   -- where all have room, one more has
   pub operand_room : (rs : List Role) (k : ℕ) (r : Role) → slice_get rs k ≡ Some r

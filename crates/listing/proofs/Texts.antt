@@ -28,7 +28,7 @@ use Rattle.isa.specs.Condition.{condition_of, name_of}
 use Rattle.isa.specs.Operation.{operation_of}
 use Rattle.isa.specs.Shown.{has_form, shown_value}
 use Rattle.isa.proofs.Rules.{mnemonic_short}
-use Rattle.console.specs.Digits.{blank, decimal, places_of}
+use Rattle.console.specs.Digits.{blank, places_of}
 use Rattle.console.proofs.Digits.{length_digits_of, places_le, decimal_std}
 use Rattle.listing.specs.Line.{integer_text, prefix_of, operand_text, joined, name_text, condition_text, padded, CONDITION_COLUMN}
 

@@ -125,7 +125,11 @@ fn line_of(width: Width, address: u32, word: u32) -> [u8; LINE]
     console::put_digits(&mut line, 0, 16, 8, address);
     console::put_digits(&mut line, WORD, 16, 2 * width.bytes() as usize, word);
     put_condition(&mut line, i);
-    put(&mut line, NAME, name(Operation::from_number(i.opcode), width));
+    put(
+        &mut line,
+        NAME,
+        name(Operation::from_number(i.opcode), width),
+    );
     put(&mut line, OPERANDS - 1, operands(i, width).as_bytes());
     line
 }

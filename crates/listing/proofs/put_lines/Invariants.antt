@@ -1,7 +1,6 @@
 -- `listing::put_lines` meets its contract: each turn of the loop writes one line more. Assumes nothing.
 use mathlib.Core.Path.{◌≡◌}
-use Prim.Native.Nat.{◌*◌, ◌≤◌}
-use lib.ListN.{length}
+use Prim.Native.Nat.{◌*◌}
 use Rattle.codec.specs.Number.{put_at, over}
 use Rattle.listing.specs.Listing.{lines_from, words_in}
 use Rattle.listing.proofs.Calls.{lines_at}
