@@ -114,3 +114,14 @@ module _ (width : Width) (c : Choice) (form : chosen_form width c.operation (giv
       let most : 2 ^ (8 * word_bytes width) ≤ 2 ^ 32 = pow_mono {j = 32} (omega arith) in
       let below = size width c form in
       omega (arith, sum_is)
+
+-- the same of an operation that is known to be the choice's
+module _ (width : Width) (c : Choice) {o : Operation} (form : chosen_form width c.operation (given c.guard) ≡ true) (e : o ≡ operation_of c.operation) where
+  pub fit_when : {g f : Bool} → g ≡ guard_fits c.guard → f ≡ fields_fit width o c → g && f ≡ all_fit (parts_of width c)
+  fit_when h k = rw (h, k, e) (all_fit_is width c form)
+
+  pub sum_when : placed_in (operation_field width) c.operation + guard_bits c.guard + fields_bits width o c ≡ written (parts_of width c)
+  sum_when = rw e (sum_is width c form)
+
+  pub sum_fits : placed_in (operation_field width) c.operation + guard_bits c.guard + fields_bits width o c < 2 ^ 32
+  sum_fits = rw e (sum_below width c form)

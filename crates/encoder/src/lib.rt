@@ -8,7 +8,7 @@ ghost use Rattle.isa.specs.Format.{placed_in, operation_field};
 ghost use Rattle.isa.specs.declared.form.Reading.TheVariants.{Signed};
 ghost use Rattle.isa.specs.Used.{least_of};
 ghost use Rattle.isa.specs.Places.{put_into, Placeable};
-ghost use Rattle.encoder.specs.Encode.{chosen, chosen_form, parts_of, written, encoding_of, encode_of, given, is_below};
+ghost use Rattle.encoder.specs.Encode.{chosen, chosen_form, parts_of, all_fit, written, encoding_of, encode_of, given, is_below};
 ghost use Rattle.encoder.specs.Fields.{field_fits, fields_fit, fields_bits, guard_fits, guard_bits};
 
 use isa::{Operation, OperandField, Reading, Width};
@@ -163,6 +163,14 @@ impl Choice {
         }
     }
 
+    /// Whether its numbers fit all their bits.
+    fn fits(self, operation: Operation, width: Width) -> bool
+        requires { (chosen_form width self.operation (given self.condition) ≡ true) × (operation ≡ operation_of self.operation) }
+        ensures { result ≡ all_fit (parts_of width (chosen self)) }
+    {
+        self.condition_fits() && self.operands_fit(operation, width)
+    }
+
     /// The sum of all bits: no two parts of a word share one.
     fn word(self, operation: Operation, width: Width) -> u32
         requires { (chosen_form width self.operation (given self.condition) ≡ true) × (operation ≡ operation_of self.operation) }
@@ -182,7 +190,7 @@ pub fn encode(width: Width, choice: Choice) -> Result<u32, Refusal>
         return Err(Refusal::FormUnknown);
     }
     let operation = Operation::from_number(choice.operation);
-    if !choice.condition_fits() || !choice.operands_fit(operation, width) {
+    if !choice.fits(operation, width) {
         return Err(Refusal::OperandUnfit);
     }
     Ok(choice.word(operation, width))
