@@ -6,12 +6,12 @@ use native.Mathlib.Nat.{pow-suc}
 use native.Mathlib.Omega.{arith}
 use lib.ListN.{length, take, drop, set, length-append}
 use lib.Seq.{take-set-le, set_split, drop_at, length-take-le, append_snoc, paste-zero}
-use lib.Dec.{ltb}
-use borrow.Author.Tests.{lt-ltb, le-ltb, ltb-true}
-use Rattle.word.specs.Choice.{choose◌then◌else◌}
-use Rattle.word.proofs.Tests.{either, if_true, if_false}
 use Rattle.codec.specs.Number.{put_at}
-use Rattle.console.specs.Digits.{digit_of, digits_of, places_from, places_of}
+use Rattle.std.specs.Prelude.{decimal as std_decimal}
+use Rattle.std.proofs.lemmas.Fmt.{decimal_digit, decimal_step}
+use Rattle.std.proofs.lemmas.Bool.{cases_lt}
+use Rattle.std.proofs.Common.{rules, inl, inr}
+use Rattle.console.specs.Digits.{digit_of, digits_of, places_from, places_of, decimal}
 
 -- ---- digits
 
@@ -35,19 +35,17 @@ put_at_last l at s a k e h =
     (sym (append_snoc (take at l ++ s) a rest) ∙ ap (λ (x : List ℕ). x ++ rest) (append_assoc (take at l) s (a ∷ [])))
 
 -- no digits change nothing
-pub digits_done : (l : List ℕ) (at base i rest : ℕ) → i ≤ 0 → put_at l at (digits_of base i rest) ≡ l
+pub digits_done : (l : List ℕ) (at base i rest : ℕ) → i ≤ 0 → l ≡ put_at l at (digits_of base i rest)
 unfolding digits_of
-digits_done l at base zero rest h = sym (paste-zero l at [])
+digits_done l at base zero rest h = paste-zero l at []
 digits_done l at base (suc i) rest h = absurd (omega arith)
 
 -- one digit more is written
-pub digit_more : (l : List ℕ) (at base i rest : ℕ) → 0 < i → at + i ≤ length l
+pub digit_more : (l : List ℕ) (at base i rest : ℕ) → 0 < i → at + (i - 1) < length l
     → put_at (set l (at + (i - 1)) (digit_of (rest % base))) at (digits_of base (i - 1) (rest / base)) ≡ put_at l at (digits_of base i rest)
 unfolding digits_of
 digit_more l at base zero rest p h = absurd (omega arith)
-digit_more l at base (suc i) rest p h =
-    let e : suc i - 1 ≡ i = omega arith in
-    rw e (put_at_last l at (digits_of base i (rest / base)) (digit_of (rest % base)) i (length_digits_of base i (rest / base)) (omega arith))
+digit_more l at base (suc i) rest p h = let e : suc i - 1 ≡ i = omega arith in rw e (put_at_last l at (digits_of base i (rest / base)) (digit_of (rest % base)) i (length_digits_of base i (rest / base)) (omega arith))
 
 -- ---- places
 
@@ -55,42 +53,49 @@ digit_more l at base (suc i) rest p h =
 tenth : (n k : ℕ) → n < 10 ^ suc k → n / 10 < 10 ^ k
 tenth n k h = let e : n < 10 ^ k * 10 = rw pow-suc at h in omega arith
 
--- where the digits are enough, one more changes nothing
-places_enough : (more n : ℕ) → n < 10 ^ suc more → places_from (suc more) n ≡ places_from more n
+-- one place below ten, whatever there may be besides
+places_first : (more n : ℕ) → n < 10 → places_from more n ≡ 1
 unfolding places_from
-places_enough zero n h = if_true _ _ _ (lt-ltb n 10 h)
-places_enough (suc more) n h = ap (λ (k : ℕ). choose◌then◌else◌ (ltb n 10) 1 (suc k)) (places_enough more (n / 10) (tenth n (suc more) h))
+places_first zero n h = refl
+places_first (suc more) n h = search rules
 
--- one place below ten, else one more than the tenth has
-pub places_one : (n : ℕ) → n < 10 → places_of n ≡ 1
+-- else one more than the tenth has
+places_next : (more n : ℕ) → 10 ≤ n → places_from (suc more) n ≡ suc (places_from more (n / 10))
 unfolding places_from
-places_one n h = if_true _ _ _ (lt-ltb n 10 h)
-
-pub places_more : (n : ℕ) → 10 ≤ n → n < 2 ^ 32 → places_of n ≡ suc (places_of (n / 10))
-unfolding places_from
-places_more n h k = if_false _ _ _ (le-ltb n 10 h) ∙ ap suc (sym (places_enough 8 (n / 10) (omega arith)))
+places_next more n h = search rules
 
 -- no more places than a power of ten above the number has
 pub places_le : (more k n : ℕ) → n < 10 ^ suc k → places_from more n ≤ suc k
-unfolding places_from choose◌then◌else◌
+unfolding places_from
 places_le zero k n h = omega arith
-places_le (suc more) zero n h = rw (lt-ltb n 10 h) (omega arith)
-places_le (suc more) (suc k) n h =
-    either (ltb n 10)
-    (λ e. rw e (omega arith))
-    (λ e. rw e (omega (arith, places_le more k (n / 10) (tenth n (suc k) h))))
-
--- a 32-bit number has at most ten
-pub places_few : (n : ℕ) → n < 2 ^ 32 → places_of n ≤ 10
-places_few n h = places_le 9 9 n (omega arith)
+places_le (suc more) zero n h = search rules
+places_le (suc more) (suc k) n h = search (rules, places_le more k (n / 10) (tenth n (suc k) h))
 
 -- a larger number has no fewer
 pub places_mono : (more m n : ℕ) → m ≤ n → places_from more m ≤ places_from more n
-unfolding places_from choose◌then◌else◌
+unfolding places_from
 places_mono zero m n h = omega arith
-places_mono (suc more) m n h =
-    either (ltb n 10)
-    (λ e. let k : n < 10 = ltb-true n 10 e in rw (e, lt-ltb m 10 (omega arith)) (omega arith))
-    (λ e. either (ltb m 10)
-    (λ f. rw (e, f) (omega arith))
-    (λ f. rw (e, f) (omega (arith, places_mono more (m / 10) (n / 10) (omega arith)))))
+places_mono (suc more) m n h = search (rules, places_mono more (m / 10) (n / 10) (omega arith))
+
+-- ---- a number in decimal is what std prints
+
+-- its digits are those of its tenth, and one more
+written_next : (more n : ℕ) → 10 ≤ n → digits_of 10 (places_from (suc more) n) n ≡ digits_of 10 (places_from more (n / 10)) (n / 10) ++ ((48 + n % 10) ∷ [])
+unfolding digits_of digit_of places_from
+written_next more n h = search rules
+
+-- below ten it is its digit
+written_first : (more n : ℕ) → n < 10 → digits_of 10 (places_from more n) n ≡ (48 + n) ∷ []
+unfolding digits_of digit_of places_from
+written_first more n h = search (rules, places_first more n h)
+
+-- a number with at most so many digits besides the first
+written : (more n : ℕ) → n < 10 ^ suc more → n < 2 ^ 64 → digits_of 10 (places_from more n) n ≡ std_decimal n
+written zero n h k = search (rules, written_first 0 n h, decimal_digit n h)
+written (suc more) n h k = elim (cases_lt n 10) [ inl b ↦ search (rules, written_first (suc more) n b, decimal_digit n b) | inr b ↦ search (rules, written_next more n b, decimal_step n b k, written more (n / 10) (tenth n (suc more) h)) ]
+
+pub decimal_std : (n : ℕ) → n < 2 ^ 32 → decimal n ≡ std_decimal n
+decimal_std n h = written 9 n (omega arith) (omega arith)
+
+pub places_std : (n : ℕ) → n < 2 ^ 32 → length (std_decimal n) ≡ places_of n
+places_std n h = ap length (sym (decimal_std n h)) ∙ length_digits_of 10 (places_of n) n

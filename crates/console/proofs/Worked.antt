@@ -1,8 +1,7 @@
 -- Texts worked by hand: antt computes both sides. Assumes nothing.
-use mathlib.Core.Path.{◌≡◌, refl}
-use mathlib.Core.List.{List, [], ◌∷◌, map}
-use Prim.Native.Nat.{ℕ}
-use Rattle.console.specs.Limit.{bad_limit, limit_of}
+use Rattle.std.proofs.Common.{◌≡◌, refl, ℕ, List, [], ◌∷◌, Some, None}
+use Rattle.std.specs.Prelude.{map}
+use Rattle.console.specs.Limit.{limit_of}
 use Rattle.console.specs.Line.{ran_text, refusal_text}
 use Rattle.console.specs.Computed.{texts}
 
@@ -25,11 +24,11 @@ inputs =
     (51 ∷ 13 ∷ 10 ∷ []) ∷  -- "3\r\n"
     []
 
-limits : map limit_of inputs ≡ 3 ∷ 3 ∷ 0 ∷ 1000000 ∷ 9999999 ∷ bad_limit ∷ bad_limit ∷ bad_limit ∷ bad_limit ∷ bad_limit ∷ bad_limit ∷ bad_limit ∷ bad_limit ∷ bad_limit ∷ []
+limits : map limit_of inputs ≡ Some 3 ∷ Some 3 ∷ Some 0 ∷ Some 1000000 ∷ Some 9999999 ∷ None ∷ None ∷ None ∷ None ∷ None ∷ None ∷ None ∷ None ∷ None ∷ []
 unfolding texts inputs
 limits = refl
 
--- 01: "whole output: `3 0 00000000`"
+-- the whole output "3 0 00000000"
 pub whole_output : ran_text 3 0 0 ≡ 51 ∷ 32 ∷ 48 ∷ 32 ∷ 48 ∷ 48 ∷ 48 ∷ 48 ∷ 48 ∷ 48 ∷ 48 ∷ 48 ∷ 10 ∷ []
 unfolding texts
 whole_output = refl
@@ -39,7 +38,7 @@ ran_long : ran_text 1000000 15 0x89AB_CDEF ≡ 49 ∷ 48 ∷ 48 ∷ 48 ∷ 48 �
 unfolding texts
 ran_long = refl
 
--- 01: "limit 1,000,001: 7"
+-- a limit of 1,000,001 prints "7"
 refusal : refusal_text 7 ≡ 55 ∷ 10 ∷ []
 unfolding texts
 refusal = refl

@@ -1,6 +1,5 @@
 -- Numbers as text. A character is its ASCII code. Assumes nothing.
-use Rattle.std.specs.Prelude.{List, [], ◌∷◌, ◌++◌, ℕ, zero, suc, ◌+◌, ◌/◌, ◌%◌, ltb}
-use Rattle.word.specs.Choice.{choose◌then◌else◌}
+use Rattle.std.specs.Prelude.{List, [], ◌∷◌, ◌++◌, ℕ, zero, suc, ◌+◌, ◌/◌, ◌%◌, nat_lt, if◌then◌else◌}
 
 abbrev pub blank : ℕ
 blank = 32
@@ -8,9 +7,9 @@ blank = 32
 abbrev pub newline : ℕ
 newline = 10
 
--- the character of a digit: 0 to 9, then A to F ("capitals, here and later")
+-- the character of a digit: 0 to 9, then the capitals A to F
 unfoldable pub digit_of : (d : ℕ) → ℕ
-digit_of d = choose ltb d 10 then 48 + d else 55 + d
+digit_of d = if nat_lt d 10 then 48 + d else 55 + d
 
 -- the `count` lowest digits of a number in a base, the highest first
 unfoldable pub digits_of : (base count n : ℕ) → List ℕ
@@ -20,17 +19,17 @@ digits_of base (suc count) n = digits_of base count (n / base) ++ digit_of (n % 
 -- how many decimal digits a number has, at most `more` besides the first: 1 below 10, else one more than its tenth has
 unfoldable pub places_from : (more n : ℕ) → ℕ
 places_from zero n = 1
-places_from (suc more) n = choose ltb n 10 then 1 else suc (places_from more (n / 10))
+places_from (suc more) n = if nat_lt n 10 then 1 else suc (places_from more (n / 10))
 
 -- ten digits are enough for 32 bits
 abbrev pub places_of : (n : ℕ) → ℕ
 places_of n = places_from 9 n
 
--- a number of 32 bits in decimal, without leading zeros
+-- a number of 32 bits in decimal, without leading zeros; for these it is what std prints (proofs/Digits: decimal_std)
 abbrev pub decimal : (n : ℕ) → List ℕ
 decimal n = digits_of 10 (places_of n) n
 
--- "in 8 hex digits"
+-- a number of 32 bits in hexadecimal, always 8 digits
 abbrev pub hex8 : (n : ℕ) → List ℕ
 hex8 n = digits_of 16 8 n
 

@@ -2,7 +2,7 @@
 #![tactic(auto, unfolding(crate::specs::Condition::conditioning))]
 
 ghost use Rattle.std.specs.Prelude.{◌≡◌};
-ghost use Rattle.isa.specs.Condition.{condition_of, holds};
+ghost use Rattle.isa.specs.Condition.{condition_of, holds, name_of};
 
 /// What a conditional instruction or a branch asks of a condition register, in the order of its number.
 #[derive(Clone, Copy, Debug, PartialEq, Eq)]
@@ -31,6 +31,23 @@ impl Condition {
             5 => Condition::Less,
             6 => Condition::NotEqual,
             _ => Condition::NoCarry,
+        }
+    }
+
+    /// Its name, as ASCII: 1 to 3 characters.
+    #[tactic(auto, unfolding(crate::specs::Condition::conditioning, crate::specs::Text::spelling))]
+    pub fn name(self) -> &'static [u8]
+        ensures { result.now ≡ name_of self }
+    {
+        match self {
+            Condition::Carry => b"c",
+            Condition::EqualOrGreater => b"egt",
+            Condition::EqualOrLess => b"elt",
+            Condition::Equal => b"eq",
+            Condition::Greater => b"gt",
+            Condition::Less => b"lt",
+            Condition::NotEqual => b"ne",
+            Condition::NoCarry => b"nc",
         }
     }
 

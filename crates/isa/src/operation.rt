@@ -179,6 +179,79 @@ impl Operation {
         self as u32
     }
 
+    /// Its mnemonic, as ASCII: 2 to 8 characters.
+    #[tactic(auto, unfolding(crate::specs::Operation::table, crate::specs::Text::spelling))]
+    pub fn mnemonic(self) -> &'static [u8]
+        ensures { result.now ≡ (properties self).mnemonic }
+    {
+        match self {
+            Operation::Nop => b"nop",
+            Operation::Add => b"add",
+            Operation::Addu => b"addu",
+            Operation::Sub => b"sub",
+            Operation::Subu => b"subu",
+            Operation::And => b"and",
+            Operation::Or => b"or",
+            Operation::Xor => b"xor",
+            Operation::Muls => b"muls",
+            Operation::Mulu => b"mulu",
+            Operation::Mulus => b"mulus",
+            Operation::Muls16 => b"muls_16",
+            Operation::Mulu16 => b"mulu_16",
+            Operation::Mulus16 => b"mulus_16",
+            Operation::Sll => b"sll",
+            Operation::Srl => b"srl",
+            Operation::Sra => b"sra",
+            Operation::Sext => b"sext",
+            Operation::Addi => b"addi",
+            Operation::Addiu => b"addiu",
+            Operation::Andi => b"andi",
+            Operation::Ori => b"ori",
+            Operation::Muli => b"muli",
+            Operation::Slli => b"slli",
+            Operation::Srli => b"srli",
+            Operation::Srai => b"srai",
+            Operation::Sexti => b"sexti",
+            Operation::Ld => b"ld",
+            Operation::St => b"st",
+            Operation::Mov => b"mov",
+            Operation::Not => b"not",
+            Operation::Mulhi => b"mulhi",
+            Operation::Cmp => b"cmp",
+            Operation::Cmpi => b"cmpi",
+            Operation::Lli => b"lli",
+            Operation::Lui => b"lui",
+            Operation::Jmp => b"jmp",
+            Operation::Jal => b"jal",
+            Operation::Jmpr => b"jmpr",
+            Operation::Jalr => b"jalr",
+            Operation::Bc => b"bc",
+            Operation::Begt => b"begt",
+            Operation::Belt => b"belt",
+            Operation::Beq => b"beq",
+            Operation::Bgt => b"bgt",
+            Operation::Blt => b"blt",
+            Operation::Bne => b"bne",
+            Operation::Bnc => b"bnc",
+            Operation::Scall => b"scall",
+            Operation::Retu => b"retu",
+            Operation::Reti => b"reti",
+            Operation::Chrs => b"chrs",
+            Operation::Di => b"di",
+            Operation::Ei => b"ei",
+            Operation::Swm => b"swm",
+            Operation::Trap => b"trap",
+            Operation::Scon => b"scon",
+            Operation::Rcon => b"rcon",
+            Operation::Conb => b"conb",
+            Operation::Conh => b"conh",
+            Operation::Exb => b"exb",
+            Operation::Exh => b"exh",
+            Operation::Exbf => b"exbf",
+            Operation::Exbfi => b"exbfi",
+        }
+    }
+
     /// Whether it may be conditional; where it may not, bit 25 of its 32-bit words is ignored.
     pub fn is_conditional(self) -> bool
         ensures { result ≡ (properties self).conditional }

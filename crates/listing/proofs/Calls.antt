@@ -1,16 +1,13 @@
 -- The listing call: its questions, and the lines one after the other. Assumes nothing.
 use mathlib.Core.Path.{◌≡◌, sym, ap, ◌∙◌}
 use mathlib.Core.Logic.{◌≢◌}
-use mathlib.Core.List.{List, [], ◌++◌}
+use mathlib.Core.List.{List, ◌++◌}
 use Prim.Native.Nat.{ℕ, suc, ◌+◌, ◌-◌, ◌*◌, ◌/◌, ◌%◌, ◌≤◌, ◌<◌}
-use native.Mathlib.Nat.{mul-zero}
 use native.Mathlib.Omega.{arith}
 use lib.ListN.{length}
-use borrow.Rule.Slice.PartMut.{put_mid}
 use borrow.Author.Tests.{le-leb, lt-leb, eq-eqb, ne_eqb}
-use Rattle.word.specs.Choice.{choose◌then◌else◌}
 use Rattle.codec.specs.Number.{put_at, over}
-use Rattle.codec.proofs.Laws.{length_put_at, put_at_append, part_put}
+use Rattle.codec.proofs.Laws.{put_at_nothing, put_at_append}
 use Rattle.isa.specs.declared.width.Width.{Width}
 use Rattle.isa.specs.declared.width.Width.TheVariants.{Narrow, Wide}
 use Rattle.isa.specs.Decode.{word_bytes, word_at}
@@ -23,22 +20,22 @@ use Rattle.listing.proofs.Lines.{length_line}
 
 module _ (width : Width) (program text : List ℕ) where
   pub too_long_law : MOST_MEMORY < length program → listed 1 text ≡ listing_call width program text
-  unfolding listing_call choose◌then◌else◌
+  unfolding listing_call
   too_long_law h = rw (lt-leb (length program) MOST_MEMORY h)
 
   module _ (size : length program ≤ MOST_MEMORY) where
     pub not_whole_law : length program % word_bytes width ≢ 0 → listed 16 text ≡ listing_call width program text
-    unfolding listing_call choose◌then◌else◌
+    unfolding listing_call
     not_whole_law d = rw (le-leb (length program) MOST_MEMORY size, ne_eqb (length program % word_bytes width) 0 d)
 
     module _ (whole : length program % word_bytes width ≡ 0) where
       pub too_short_law : length text < LINE_BYTES * words_in width program → listed 17 text ≡ listing_call width program text
-      unfolding listing_call choose◌then◌else◌
+      unfolding listing_call
       too_short_law h =
           rw (le-leb (length program) MOST_MEMORY size, eq-eqb (length program % word_bytes width) 0 whole, lt-leb (LINE_BYTES * words_in width program) (length text) h)
 
       pub listable : LINE_BYTES * words_in width program ≤ length text → listed 0 (over (lines_from width program 0 (words_in width program)) text) ≡ listing_call width program text
-      unfolding listing_call choose◌then◌else◌
+      unfolding listing_call
       listable h =
           rw (le-leb (length program) MOST_MEMORY size, eq-eqb (length program % word_bytes width) 0 whole, le-leb (LINE_BYTES * words_in width program) (length text) h)
 
@@ -73,12 +70,6 @@ module _ (width : Width) (program : List ℕ) where
   abbrev pub line_at : (n : ℕ) → List ℕ
   line_at n = word_line width (word_bytes width * n) (word_at width program (word_bytes width * n))
 
-  pub lines_first : lines_at 0 ≡ lines_from width program 0 (words_in width program)
-  lines_first =
-      let words = words_in width program in
-      let e : words - 0 ≡ words = omega arith in
-      ap (λ (a : ℕ). lines_from width program a (words - 0)) (mul-zero (word_bytes width)) ∙ ap (lines_from width program 0) e
-
   pub lines_next : (n : ℕ) → n < words_in width program → lines_at n ≡ line_at n ++ lines_at (n + 1)
   unfolding lines_from
   lines_next n h =
@@ -86,37 +77,19 @@ module _ (width : Width) (program : List ℕ) where
       let e : words - n ≡ suc (words - (n + 1)) = omega arith in
       ap (lines_from width program (word_bytes width * n)) e ∙ ap (λ (a : ℕ). line_at n ++ lines_from width program a (words - (n + 1))) (next_word width n)
 
-  pub lines_none : lines_at (words_in width program) ≡ []
-  unfolding lines_from
-  lines_none =
-      let words = words_in width program in
-      let e : words - words ≡ 0 = omega arith in
-      ap (lines_from width program (word_bytes width * words)) e
-
--- line n, written to its part of the text
-module _ (width : Width) (program : List ℕ) (n : ℕ) (text part : List ℕ) (room : 48 * n + 48 ≤ length text) (e : part ≡ line_at width program n) where
-  -- the text then
-  abbrev written : List ℕ
-  written = put_mid (48 * n) (48 * n + 48 - 48 * n) text part
-
-  size : length part ≡ 48
-  size = ap length e ∙ length_line width (word_bytes width * n) (word_at width program (word_bytes width * n))
-
-  written_is : written ≡ put_at text (48 * n) part
-  written_is = part_put text part (48 * n) (48 * n + 48 - 48 * n) (omega (arith, size))
-
-  pub written_length : length written ≡ length text
-  written_length = ap length written_is ∙ length_put_at text (48 * n) part (omega (arith, size))
-
-  -- the lines after it are left
-  pub written_next : (goal : List ℕ) → n < words_in width program → put_at text (48 * n) (lines_at width program n) ≡ goal
-      → put_at written (48 * (n + 1)) (lines_at width program (n + 1)) ≡ goal
-  written_next goal h g =
-      let rest = lines_at width program (n + 1) in
-      let k : 48 * (n + 1) ≡ 48 * n + length part = omega (arith, size) in
-      ap (λ (s : List ℕ). put_at s (48 * (n + 1)) rest) written_is
-      ∙ ap (λ (k : ℕ). put_at (put_at text (48 * n) part) k rest) k
-      ∙ put_at_append text (48 * n) part rest (omega arith)
-      ∙ ap (λ (t : List ℕ). put_at text (48 * n) (t ++ rest)) e
-      ∙ ap (λ (t : List ℕ). put_at text (48 * n) t) (sym (lines_next width program n h))
+  -- line n is written, and the lines after it are left
+  pub line_written : (n : ℕ) (text goal : List ℕ) → n < words_in width program → 48 * n + 48 ≤ length text → put_at text (48 * n) (lines_at n) ≡ goal
+      → put_at (put_at text (48 * n) (line_at n)) (48 * (n + 1)) (lines_at (n + 1)) ≡ goal
+  line_written n text goal h room g =
+      let k : 48 * (n + 1) ≡ 48 * n + length (line_at n) = omega (arith, length_line width (word_bytes width * n) (word_at width program (word_bytes width * n))) in
+      ap (λ (k : ℕ). put_at (put_at text (48 * n) (line_at n)) k (lines_at (n + 1))) k
+      ∙ put_at_append text (48 * n) (line_at n) (lines_at (n + 1)) (omega arith)
+      ∙ ap (λ (t : List ℕ). put_at text (48 * n) t) (sym (lines_next n h))
       ∙ g
+
+  -- past the last none is left
+  pub lines_written : (n : ℕ) (text : List ℕ) → words_in width program ≤ n → put_at text (48 * n) (lines_at n) ≡ text
+  unfolding lines_from
+  lines_written n text h =
+      let e : words_in width program - n ≡ 0 = omega arith in
+      ap (λ (count : ℕ). put_at text (48 * n) (lines_from width program (word_bytes width * n) count)) e ∙ put_at_nothing text (48 * n)

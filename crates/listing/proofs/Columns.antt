@@ -11,7 +11,7 @@ use Rattle.codec.proofs.Laws.{put_at_nothing, put_at_skip}
 use Rattle.console.specs.Digits.{blank, newline}
 use Rattle.listing.specs.Line.{joined, padded, columns}
 use Rattle.listing.specs.Parts.{spaced}
-use Rattle.listing.proofs.Names.{length_padded}
+use Rattle.listing.proofs.Texts.{length_padded}
 
 -- ---- one column
 
@@ -36,13 +36,6 @@ fill_after : (n : ℕ) (t rest : List ℕ) → length t ≤ n → put_at (blank 
 fill_after n t rest h =
     let e : 0 + suc (length t) ≡ suc (0 + length t) = omega arith in
     ap (λ (k : ℕ). (blank ∷ t) ++ drop k (blank ∷ (padded n [] ++ rest))) e ∙ ap (λ (s : List ℕ). blank ∷ s) (fill n t rest h)
-
--- padding twice is padding once
-pub padded_again : (n : ℕ) (t : List ℕ) → length t ≤ n → padded n (padded n t) ≡ padded n t
-unfolding padded
-padded_again n t h =
-    let e : n - length (padded n t) ≡ 0 = omega (arith, length_padded n t h) in
-    ap (λ (k : ℕ). padded n t ++ replicate k blank) e ∙ append-nil (padded n t)
 
 -- what is put past a column and the blank after it
 within : (n at k : ℕ) (c s t after : List ℕ) → length c ≤ n → n + 1 + at ≡ k → put_at s at t ≡ after → put_at (padded n c ++ (blank ∷ s)) k t ≡ padded n c ++ (blank ∷ after)

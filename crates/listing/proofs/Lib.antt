@@ -1,8 +1,6 @@
 -- Laws of listings.
 pub mod Texts
-pub mod Names
-pub mod Conditions
-pub mod Operands
+pub mod Spaced
 pub mod Rooms
 pub mod Columns
 pub mod Lines

@@ -1,88 +1,109 @@
--- Laws of texts in a line. Assumes nothing.
+-- Laws of the texts in a line. Assumes nothing.
 use mathlib.Core.Path.{◌≡◌, refl, sym, ap, ◌∙◌}
-use mathlib.Core.Logic.{◌≢◌}
-use mathlib.Core.List.{List, [], ◌∷◌}
+use mathlib.Core.Bool.{true, false}
+use mathlib.Core.List.{List, [], ◌∷◌, ◌++◌, append_assoc}
 use Prim.Native.Nat.{ℕ, suc, ◌+◌, ◌-◌, ◌^◌, ◌≤◌, ◌<◌}
 use native.Mathlib.Omega.{arith}
-use native.Mathlib.Numerals.{add-one}
-use lib.ListN.{length, take, drop, set, get_or, length-drop}
-use lib.Seq.{take-suc, get_or-drop, length-take-le}
-use lib.Dec.{eqb}
-use borrow.Author.Tests.{ne_eqb}
+use lib.IntN.{ℤ, pos, negsuc}
+use lib.ListN.{length, replicate, length-append, length-replicate}
+use lib.Signed.{mag}
+use mir.Syntax.{w32}
+use mir.Val.{to_z, of_z}
+use borrow.Author.Rules.{rules}
 use Rattle.word.specs.Choice.{choose◌then◌else◌}
-use Rattle.word.specs.Word.{signed_of}
+use Rattle.std.specs.Fmt.{signed_decimal}
+use Rattle.word.specs.Word.{word_of, signed_of}
 use Rattle.word.proofs.Tests.{either}
-use Rattle.word.proofs.Integers.{signed_low, signed_either}
-use Rattle.isa.specs.Text.{bytes}
-use Rattle.isa.proofs.Table.{values, agree}
-use Rattle.operands.specs.Letters.{role_of, lettering}
-use Rattle.console.specs.Digits.{digits_of, places_of, decimal}
-use Rattle.console.proofs.Digits.{length_digits_of, places_le}
-use Rattle.listing.specs.Line.{integer_text, prefix_of}
-use Rattle.listing.specs.Computed.{listings}
-use Rattle.listing.specs.Parts.{placed, put}
+use Rattle.word.proofs.Bounds.{word_below}
+use Rattle.word.proofs.Integers.{signed_word, back}
 use Rattle.codec.specs.Number.{put_at}
-use Rattle.codec.proofs.Laws.{set_put_at, length_put_at, put_at_append}
+use Rattle.codec.proofs.Laws.{put_at_append}
+use Rattle.isa.specs.Text.{bytes}
+use Rattle.isa.specs.declared.width.Width.{Width}
+use Rattle.isa.specs.declared.condition.Condition.{Condition}
+use Rattle.isa.specs.declared.condition.Condition.TheVariants.{Carry, EqualOrGreater, EqualOrLess, Equal, Greater, Less, NotEqual, NoCarry}
+use Rattle.isa.specs.declared.instruction.Instruction.{Instruction}
+use Rattle.isa.specs.declared.form.Role.TheVariants.{Creg}
+use Rattle.isa.specs.Condition.{condition_of, name_of}
+use Rattle.isa.specs.Operation.{operation_of}
+use Rattle.isa.specs.Shown.{has_form, shown_value}
+use Rattle.isa.proofs.Rules.{mnemonic_short}
+use Rattle.console.specs.Digits.{blank, places_of}
+use Rattle.console.proofs.Digits.{length_digits_of, places_le, decimal_std}
+use Rattle.listing.specs.Line.{integer_text, prefix_of, operand_text, joined, name_text, condition_text, padded, CONDITION_COLUMN}
 
--- one byte more is copied
-pub copy_more : (line text : List ℕ) (at from i : ℕ) → at + i < length line → from + i < length text
-    → set (put_at line at (take i (drop from text))) (at + i) (get_or text (from + i) 0) ≡ put_at line at (take (i + 1) (drop from text))
-copy_more line text at from i h k =
-    let d = drop from text in
-    let t = take i d in
-    let l : i < length d = rw (length-drop from text) (omega arith) in
-    let n : length t ≡ i = length-take-le i d (omega arith) in
-    let a = get_or text (from + i) 0 in
-    set_put_at (put_at line at t) (at + i) a (rw (length_put_at line at t (omega arith)) h)
-    ∙ ap (λ (k : ℕ). put_at (put_at line at t) (at + k) (a ∷ [])) (sym n)
-    ∙ put_at_append line at t (a ∷ []) (omega arith)
-    ∙ ap (λ (s : List ℕ). put_at line at s) (rw (add-one i, take-suc d i 0 l, get_or-drop from text i 0))
+-- a text that fits its columns fills them
+pub length_padded : (n : ℕ) (t : List ℕ) → length t ≤ n → length (padded n t) ≡ n
+unfolding padded
+length_padded n t h = length-append t (replicate (n - length t) blank) ∙ omega (arith, length-replicate (n - length t) blank)
 
--- a number of as many digits as it has
-pub decimal_put : (line after : List ℕ) (at k n : ℕ) → k ≡ places_of n → after ≡ put_at line at (digits_of 10 k n) → placed (at + k) after ≡ put (decimal n) at line
-decimal_put line after at k n e f =
-    let l = length_digits_of 10 (places_of n) n in
-    cc
+-- ---- operands
 
--- a text after a character
-pub put_after : (line after : List ℕ) (at next a : ℕ) (t : List ℕ) → at < length line
-    → placed next after ≡ put t (at + 1) (set line at a) → placed next after ≡ put (a ∷ t) at line
-put_after line after at next a t h e =
-    let l : set line at a ≡ put_at line at (a ∷ []) = set_put_at line at a h in
-    let m : put_at (set line at a) (at + 1) t ≡ put_at line at (a ∷ t) = ap (λ (s : List ℕ). put_at s (at + 1) t) l ∙ put_at_append line at (a ∷ []) t (omega arith) in
-    let n : at + 1 + length t ≡ at + length (a ∷ t) = omega arith in
-    e ∙ (cc (m, n))
-
--- ---- integers
-
--- of a word below 2 ^ 31 the number itself; else it is negative, and its magnitude the distance to 2 ^ 32
-pub text_positive : (n : ℕ) → n < 2 ^ 31 → integer_text (signed_of 32 n) ≡ decimal n
-unfolding integer_text
-text_positive n h = ap integer_text (signed_low 32 n h)
-
-pub text_negative : (n : ℕ) → 2 ^ 31 ≤ n → n < 2 ^ 32 → integer_text (signed_of 32 n) ≡ 45 ∷ decimal (0xFFFF_FFFF - n + 1)
+-- std writes the same of a 32-bit integer
+integer_std : (z : ℤ) → mag z < 2 ^ 31 → signed_decimal z ≡ integer_text z
 unfolding integer_text bytes
-text_negative n l h =
-    signed_either 32 n (λ z. integer_text z ≡ 45 ∷ decimal (0xFFFF_FFFF - n + 1)) h
-    (λ t. absurd (omega arith))
-    (λ t. let same : suc (2 ^ 32 - suc n) ≡ 0xFFFF_FFFF - n + 1 = omega arith in rw same)
+integer_std (pos n) h = rw (decimal_std n (omega arith)) refl
+integer_std (negsuc n) h = rw (decimal_std (suc n) (omega arith)) refl
 
--- a number below ten has one digit
-pub length_digit : (n : ℕ) → n < 10 → length (decimal n) ≤ 1
-length_digit n h = omega (arith, length_digits_of 10 (places_of n) n, places_le 9 0 n h)
+-- the integer of a word
+signed_cast : (n : ℕ) → n < 2 ^ 32 → to_z w32 n ≡ signed_of 32 n
+unfolding signed_of choose◌then◌else◌
+signed_cast n h = search rules
 
--- ---- prefixes
+-- what std writes of a value that was passed on as a word
+pub operand_std : (v : ℤ) → mag v < 2 ^ 31 → signed_decimal (to_z w32 (of_z w32 (to_z w32 (word_of 32 v)))) ≡ integer_text v
+operand_std v h =
+    let e : to_z w32 (word_of 32 v) ≡ v = signed_cast (word_of 32 v) (word_below 32 v) ∙ signed_word 32 (omega arith) v h in
+    rw e (ap signed_decimal (back w32 v h) ∙ integer_std v h)
 
-pub prefix_register : (b : ℕ) → 48 ≤ b → b ≤ 50 → prefix_of (role_of b) ≡ 82 ∷ []
-unfolding listings lettering values
-prefix_register b l h = agree (λ b. prefix_of (role_of b)) (λ b. 82 ∷ []) 48 3 refl b l (omega arith)
+pub ruleset operand_rules = (operand_std, length-append, append_assoc)
 
-pub prefix_creg : (b : ℕ) → b ≡ 99 → prefix_of (role_of b) ≡ 67 ∷ []
-unfolding listings lettering
-prefix_creg b e = rw e
+-- the condition register: a prefix and a digit
+pub length_creg : (i : Instruction) → i.creg < 8 → length (operand_text i Creg) ≤ 2
+unfolding operand_text prefix_of bytes integer_text shown_value
+length_creg i h = omega (arith, length_digits_of 10 (places_of i.creg) i.creg, places_le 9 0 i.creg (omega arith))
 
-pub prefix_none : (b : ℕ) → 50 < b → b ≢ 99 → prefix_of (role_of b) ≡ []
-unfolding prefix_of role_of choose◌then◌else◌
-prefix_none b l d =
-    rw (ne_eqb b 48 (λ e. omega arith), ne_eqb b 49 (λ e. omega arith), ne_eqb b 50 (λ e. omega arith), ne_eqb b 99 d)
-    (either (eqb b 105) (λ e. rw e) (λ e. either (eqb b 108) (λ f. rw (e, f)) (λ f. rw (e, f))))
+pub creg_small : (i : Instruction) → i.creg < 8 → mag (shown_value i Creg) < 2 ^ 31
+unfolding shown_value
+creg_small i h = omega arith
+
+-- ---- names
+
+pub condition_short : (c : Condition) → length (name_of c) ≤ 3
+unfolding name_of bytes
+condition_short Carry = omega arith
+condition_short EqualOrGreater = omega arith
+condition_short EqualOrLess = omega arith
+condition_short Equal = omega arith
+condition_short Greater = omega arith
+condition_short Less = omega arith
+condition_short NotEqual = omega arith
+condition_short NoCarry = omega arith
+
+pub name_fits : (width : Width) (n : ℕ) → length (name_text width (operation_of n)) ≤ 8
+unfolding name_text bytes
+name_fits width n = either (has_form width (operation_of n)) (λ e. rw e (mnemonic_short n)) (λ e. rw e (omega arith))
+
+-- ---- the condition of an instruction, where it is conditional and where it is not
+
+pub condition_given : (i : Instruction) → i.conditional ≡ true → condition_text i ≡ name_of (condition_of i.condition) ++ (blank ∷ operand_text i Creg)
+unfolding condition_text joined
+condition_given i t = rw t refl
+
+pub condition_none : (i : Instruction) → i.conditional ≡ false → condition_text i ≡ []
+unfolding condition_text
+condition_none i t = rw t refl
+
+-- the name, and the register after it
+pub condition_written : (line : List ℕ) (i : Instruction) → i.conditional ≡ true → CONDITION_COLUMN ≤ length line
+    → put_at (put_at line CONDITION_COLUMN (name_of (condition_of i.condition))) (CONDITION_COLUMN + length (name_of (condition_of i.condition))) (blank ∷ operand_text i Creg)
+    ≡ put_at line CONDITION_COLUMN (condition_text i)
+condition_written line i t h =
+    put_at_append line CONDITION_COLUMN (name_of (condition_of i.condition)) (blank ∷ operand_text i Creg) h ∙ ap (λ (s : List ℕ). put_at line CONDITION_COLUMN s) (sym (condition_given i t))
+
+pub condition_fits : (i : Instruction) → i.creg < 8 → length (condition_text i) ≤ 6
+condition_fits i h =
+    let name = name_of (condition_of i.condition) in
+    either i.conditional
+    (λ e. omega (arith, ap length (condition_given i e), length-append name (blank ∷ operand_text i Creg), condition_short (condition_of i.condition), length_creg i h))
+    (λ e. omega (arith, ap length (condition_none i e)))

@@ -22,7 +22,7 @@ use Rattle.console.specs.Digits.{blank, newline, hex8}
 use Rattle.listing.specs.Line.{joined, operands_text, name_text, condition_text, padded, columns, word_line}
 use Rattle.listing.specs.Listing.{LINE_BYTES, lines_from, words_in, Listed, listed, listing_call}
 use Rattle.listing.specs.Theorems.{LineColumns, FormlessShown, RefusedKeeps, Listable, Lines, ListedLines, AskedInOrder}
-use Rattle.listing.proofs.Names.{length_padded}
+use Rattle.listing.proofs.Texts.{length_padded}
 use Rattle.listing.proofs.Columns.{fifth, fourth, third, second, first, from_right}
 use Rattle.listing.proofs.Lines.{word_text, parts_fit, length_line}
 use Rattle.listing.proofs.Calls.{too_long_law, not_whole_law, too_short_law, listable}

@@ -1,6 +1,5 @@
--- One line of a listing (02 wish 2). Assumes nothing.
-use Rattle.std.specs.Prelude.{List, [], ◌∷◌, ◌++◌, map, ℕ, suc, ◌-◌, ◌*◌, length, replicate, ℤ, pos, negsuc}
-use Rattle.word.specs.Choice.{choose◌then◌else◌}
+-- One line of a listing (Manual 11). Assumes nothing.
+use Rattle.std.specs.Prelude.{List, [], ◌∷◌, ◌++◌, map, ℕ, suc, ◌-◌, ◌*◌, length, replicate, ℤ, pos, negsuc, if◌then◌else◌}
 use Rattle.isa.specs.Text.{bytes}
 use Rattle.isa.specs.declared.operation.Operation.{Operation}
 use Rattle.isa.specs.declared.width.Width.{Width}
@@ -15,12 +14,12 @@ use Rattle.console.specs.Digits.{blank, newline, digits_of, decimal, hex8}
 
 -- ---- operands
 
--- "decimals", "negative ones with a minus"; negsuc n is -(n + 1)
+-- an integer in decimal, a negative one with a minus; negsuc n is -(n + 1)
 unfoldable pub integer_text : ℤ → List ℕ
 integer_text (pos n) = decimal n
 integer_text (negsuc n) = bytes "-" ++ decimal (suc n)
 
--- "with R names", and condition registers as in `egt C7`
+-- registers are named R, condition registers C; other operands are numbers alone
 unfoldable pub prefix_of : Role → List ℕ
 prefix_of Dreg = bytes "R"
 prefix_of Sreg1 = bytes "R"
@@ -34,7 +33,7 @@ prefix_of Position = []
 unfoldable pub operand_text : Instruction → Role → List ℕ
 operand_text i r = prefix_of r ++ integer_text (shown_value i r)
 
--- texts one after the other, "single blanks" between them
+-- texts one after the other, a single blank between any two
 unfoldable pub joined : List (List ℕ) → List ℕ
 joined [] = []
 joined (t ∷ []) = t
@@ -44,19 +43,19 @@ joined (t ∷ u ∷ ts) = t ++ blank ∷ joined (u ∷ ts)
 abbrev pub shown_texts : Width → Instruction → List (List ℕ)
 shown_texts width i = map (operand_text i) (shown_roles width (operation_of i.opcode))
 
--- "operands (13, with R names, decimals, single blanks)"
+-- all of them as one text
 unfoldable pub operands_text : Width → Instruction → List ℕ
 operands_text width i = joined (shown_texts width i)
 
 -- ---- name and condition
 
--- "an operation with no form in that width prints `?`"
+-- the mnemonic of an operation (COFFEE Core user manual (July 2007), section 6.2), or ? where words of the width have no such form
 unfoldable pub name_text : Width → Operation → List ℕ
-name_text width o = choose has_form width o then (properties o).mnemonic else bytes "?"
+name_text width o = if has_form width o then (properties o).mnemonic else bytes "?"
 
--- "condition (`egt C7` ..)", of an instruction that is conditional
+-- the condition of an instruction that is conditional: its name and the condition register, as in: egt C7
 unfoldable pub condition_text : Instruction → List ℕ
-condition_text i = choose i.conditional then joined (name_of (condition_of i.condition) ∷ operand_text i Creg ∷ []) else []
+condition_text i = if i.conditional then joined (name_of (condition_of i.condition) ∷ operand_text i Creg ∷ []) else []
 
 -- ---- the line
 
@@ -73,16 +72,15 @@ NAME_COLUMN = 25
 abbrev pub OPERANDS_COLUMN : ℕ
 OPERANDS_COLUMN = 34
 
--- "every part is padded with blanks on its right"
+-- a text with blanks on its right, as many as fill its columns
 unfoldable pub padded : (columns : ℕ) (text : List ℕ) → List ℕ
 padded n text = text ++ replicate (n - length text) blank
 
--- "a line of exactly 47 characters and a newline: address (8 hex digits), blank, word (8 ..), blank, condition (.. 6), blank, name (8), blank,
--- operands (13 ..)"
+-- a line of 47 characters and a newline: address and word in 8 columns each, condition in 6, name in 8, operands in 13, a blank between any two
 unfoldable pub columns : (address word condition name operands : List ℕ) → List ℕ
 columns a w c n o = joined (padded 8 a ∷ padded 8 w ∷ padded 6 c ∷ padded 8 n ∷ padded 13 o ∷ []) ++ newline ∷ []
 
--- the line of a word at an address; "word (8, or 4 and 4 blanks)": two hexadecimal digits to a byte
+-- the line of a word at an address; the word has two hexadecimal digits to a byte, so 8 or 4
 unfoldable pub word_line : Width → (address word : ℕ) → List ℕ
 word_line width address word =
     let i = decode width word in

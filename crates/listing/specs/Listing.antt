@@ -1,17 +1,16 @@
--- The call that lists a program (02 wish 2). Assumes nothing.
-use Rattle.std.specs.Prelude.{not, List, [], ◌++◌, ℕ, zero, suc, ◌+◌, ◌*◌, ◌/◌, ◌%◌, leb, eqb, length}
-use Rattle.word.specs.Choice.{choose◌then◌else◌}
+-- The call that lists a program (Manual 11). Assumes nothing.
+use Rattle.std.specs.Prelude.{not, List, [], ◌++◌, ℕ, zero, suc, ◌+◌, ◌*◌, ◌/◌, ◌%◌, nat_le, nat_eq, length, if◌then◌else◌}
 use Rattle.codec.specs.Number.{over}
 use Rattle.isa.specs.declared.width.Width.{Width}
 use Rattle.isa.specs.Decode.{word_bytes, word_at}
 use Rattle.machine.specs.Machine.{MOST_MEMORY}
 use Rattle.listing.specs.Line.{word_line}
 
--- "48 bytes per word": 47 characters and a newline
+-- bytes of a line: 47 characters and a newline
 abbrev pub LINE_BYTES : ℕ
 LINE_BYTES = 48
 
--- "each instruction a line": those of `count` words, from an address on
+-- the lines of `count` words, from an address on
 unfoldable pub lines_from : Width → (program : List ℕ) (address count : ℕ) → List ℕ
 lines_from width program a zero = []
 lines_from width program a (suc count) = word_line width a (word_at width program a) ++ lines_from width program (a + word_bytes width) count
@@ -28,15 +27,15 @@ pub record Listed : Type 0 where
 abbrev pub listed : (answer : ℕ) (text : List ℕ) → Listed
 listed answer text = record { answer = answer; text = text }
 
--- "16 when the bytes are no whole number of words, asked after 1; 17 when the buffer is below 48 bytes per word"; the lines stand at the text's
--- front, "Every byte of the buffer past the lines keeps its value"
+-- 1 for a program that is too long, 16 for one that is not made of whole words, 17 for a text with less room than a line for each word, in this
+-- order; else the lines stand at the text's front, and each byte past them is as it was
 unfoldable pub listing_call : Width → (program text : List ℕ) → Listed
 listing_call width program text =
     let words = words_in width program in
-    choose not (leb (length program) MOST_MEMORY) then listed 1 text
-    else choose not (eqb (length program % word_bytes width) 0) then listed 16 text
-    else choose not (leb (LINE_BYTES * words) (length text)) then listed 17 text
-    else listed 0 (over (lines_from width program 0 words) text)
+    if not (nat_le (length program) MOST_MEMORY) then listed 1 text
+    else (if not (nat_eq (length program % word_bytes width) 0) then listed 16 text
+    else (if not (nat_le (LINE_BYTES * words) (length text)) then listed 17 text
+    else listed 0 (over (lines_from width program 0 words) text)))
 
 -- to unfold all of these
 unfoldable pub call_listing : Unit {0}

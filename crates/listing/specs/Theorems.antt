@@ -1,4 +1,4 @@
--- What is proved of listings: the statements, each with the sentence of 02 wish 2 that it says. Assumes nothing.
+-- What is proved of listings (Manual 11): the statements, each below the rule that it says. Assumes nothing.
 use Rattle.std.specs.Prelude.{◌≡◌, false, ◌≢◌, List, [], ◌∷◌, ◌++◌, ℕ, suc, ◌*◌, ◌%◌, ◌≤◌, ◌<◌, length, take, drop}
 use Rattle.isa.specs.Text.{bytes}
 use Rattle.isa.specs.declared.width.Width.{Width}
@@ -18,8 +18,7 @@ pub record ColumnIs (line : List ℕ) (first count : ℕ) (text : List ℕ) (nex
   pub fits : length text ≤ count
   pub shown : take (suc count) (drop first line) ≡ padded count text ++ next ∷ []
 
--- "each instruction a line of exactly 47 characters and a newline: address (8 ..), blank, word (8 ..), blank, condition (.. 6), blank, name (8), blank,
--- operands (13 ..)"
+-- a line has 47 characters and a newline: address and word in 8 columns each, condition in 6, name in 8, operands in 13, a blank between any two
 pub record Columns (width : Width) (a w : ℕ) : Type 0 where
   pub size : length (word_line width a w) ≡ LINE_BYTES
   pub address : ColumnIs (word_line width a w) 0 8 (hex8 a) blank
@@ -31,7 +30,7 @@ pub record Columns (width : Width) (a w : ℕ) : Type 0 where
 abbrev pub LineColumns : Type 0
 LineColumns = (width : Width) (address word : ℕ) → Columns width address word
 
--- "an operation with no form in that width prints `?` and no operands"
+-- an operation that words of the width do not have is shown as ? and without operands
 pub record Formless (width : Width) (i : Instruction) : Type 0 where
   pub name : name_text width (operation_of i.opcode) ≡ bytes "?"
   pub operands : operands_text width i ≡ []
@@ -41,7 +40,7 @@ FormlessShown = (width : Width) (i : Instruction) → has_form width (operation_
 
 -- ---- a call
 
--- "Every refusal by any public function, later ones too, changes no lent memory" (01)
+-- a call that is refused changes no lent memory (Manual 9)
 abbrev pub RefusedKeeps : Type 0
 RefusedKeeps = (width : Width) (program text : List ℕ) → (listing_call width program text).answer ≢ 0 → (listing_call width program text).text ≡ text
 
@@ -62,7 +61,8 @@ abbrev pub ListedLines : Type 0
 ListedLines = (width : Width) (program text : List ℕ) → (listing_call width program text).answer ≡ 0
     → Listable width program text × Lines width program text (listing_call width program text).text
 
--- 1, "16 when the bytes are no whole number of words, asked after 1; 17 when the buffer is below 48 bytes per word"; every other call is answered 0
+-- 1 for a program that is too long; else 16 where its bytes are no whole number of words; else 17 where the text has fewer than 48 bytes for each
+-- word; every other call is answered 0
 pub record Asked (width : Width) (program text : List ℕ) : Type 0 where
   pub too_long : MOST_MEMORY < length program → listing_call width program text ≡ listed 1 text
   pub not_whole : length program ≤ MOST_MEMORY → length program % word_bytes width ≢ 0 → listing_call width program text ≡ listed 16 text
