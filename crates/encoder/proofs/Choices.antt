@@ -4,7 +4,7 @@ use mathlib.Core.Path.{◌≡◌, refl, sym, ap, ◌∙◌}
 use mathlib.Core.Bool.{Bool, true, false, ◌&&◌, and-true}
 use mathlib.Core.Logic.{◌≢◌}
 use mathlib.Core.List.{List, [], ◌∷◌, ◌++◌, append-nil}
-use mathlib.Core.Option.{Option, none, some}
+use Rattle.std.specs.Prelude.{Option, Some, None}
 use Prim.Native.Nat.{ℕ, ◌^◌, ◌<◌}
 use native.Mathlib.Nat.{lt_of_lt_of_le}
 use native.Mathlib.Omega.{arith}
@@ -22,7 +22,8 @@ use Rattle.isa.specs.Format.{fields_width, fields_of, placed_in, kept_in, operat
 use Rattle.isa.specs.Decode.{opcode_of, assembled, decode}
 use Rattle.isa.specs.Used.{shown_fields, guard_fields, used_fields}
 use Rattle.isa.proofs.Fields.{fields_below}
-use Rattle.encoder.specs.Encode.{Guard, Choice, guard_by, guard_of, choice_of, Part, guard_parts, parts_of, part_fits, all_fit, written, given}
+use Rattle.encoder.specs.declared.Guard.{Guard}
+use Rattle.encoder.specs.Encode.{Choice, guard_by, guard_of, choice_of, Part, guard_parts, parts_of, part_fits, all_fit, written, given}
 use Rattle.encoder.specs.Theorems.{pieces_of}
 use Rattle.isa.proofs.Pieces.{placed_low, placed_held, kept_append}
 use Rattle.encoder.proofs.Values.{Held}
@@ -101,10 +102,10 @@ module _ (width : Width) (word : ℕ) where
 guard_pieces : (width : Width) (o : Operation) (g : Option Guard) (ps : List Part) → (given g ≡ true → (properties o).conditional ≡ true)
     → pieces_of (guard_parts width o g ++ ps) ≡ guard_fields width o (given g) ++ pieces_of ps
 unfolding guard_parts pieces_of guard_fields given choose◌then◌else◌ conditional_field creg_field condition_field
-guard_pieces Narrow o none ps h = either (properties o).conditional (λ t. rw t) (λ t. rw t)
-guard_pieces Wide o none ps h = either (properties o).conditional (λ t. rw t) (λ t. rw t)
-guard_pieces Narrow o (some g) ps h = rw (h refl)
-guard_pieces Wide o (some g) ps h = rw (h refl)
+guard_pieces Narrow o None ps h = either (properties o).conditional (λ t. rw t) (λ t. rw t)
+guard_pieces Wide o None ps h = either (properties o).conditional (λ t. rw t) (λ t. rw t)
+guard_pieces Narrow o (Some g) ps h = rw (h refl)
+guard_pieces Wide o (Some g) ps h = rw (h refl)
 
 pub pieces_used : (width : Width) (c : Choice) → (given c.guard ≡ true → (properties (operation_of c.operation)).conditional ≡ true)
     → pieces_of (parts_of width c) ≡ used_fields width (operation_of c.operation) (given c.guard)

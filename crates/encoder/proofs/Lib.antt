@@ -4,7 +4,6 @@ pub mod Values
 pub mod Operands
 pub mod Choices
 pub mod Theorems
-pub mod Lines
 pub mod Fits
 pub mod Forms
 pub mod Worked

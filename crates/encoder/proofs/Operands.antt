@@ -2,12 +2,13 @@
 use mathlib.Core.Path.{◌≡◌, refl, sym, ap, ◌∙◌, subst}
 use mathlib.Core.Bool.{Bool, true, false, not, ◌&&◌, true≢false}
 use mathlib.Core.List.{List, [], ◌∷◌}
-use mathlib.Core.Option.{Option, some}
+use Rattle.std.specs.Prelude.{Option, Some}
+use Rattle.std.specs.List.{slice_get}
 use Prim.Native.Nat.{ℕ, zero, suc, ◌+◌, ◌*◌, ◌^◌, ◌≤◌, ◌<◌}
 use native.Mathlib.Omega.{arith}
 use lib.Dec.{leb, eqb}
 use lib.IntN.{ℤ, pos}
-use lib.ListN.{take, drop, get_elem?}
+use lib.ListN.{take, drop}
 use borrow.Author.Tests.{leb-true, eqb-true, not-true}
 use Rattle.word.specs.Choice.{choose◌then◌else◌}
 use Rattle.word.specs.Word.{Field, bits◌to◌, field_of, word_of}
@@ -159,7 +160,7 @@ module _ (width : Width) (word : ℕ) where
       let fs = fields_for width form r in
       Held (fields_width fs) (least_of (reading_for width form r) (fields_width fs)) (value_for (decode width word) r) (fields_of fs word)
 
-  role_held : (r : Role) → readable width form r ≡ true → HeldFor (some r)
+  role_held : (r : Role) → readable width form r ≡ true → HeldFor (Some r)
   unfolding readable part_bits fields_for operand_fields reading_for value_for shown_value least_of decode assembled operands_of
   role_held Dreg e = register_held width (layout_of width form).dreg word e
   role_held Sreg1 e = register_held width (layout_of width form).sreg1 word e
@@ -177,7 +178,7 @@ module _ (width : Width) (word : ℕ) where
       let p = two_parts_law i.fields word t.1 in
       field_held (drop 1 i.fields) word _ (ap (λ (z : ℤ). field_of (bits 4 to 0) (word_of 32 z)) (natural_immediate i word t.0) ∙ p.low) p.low_short
 
-  at : (rs : List Role) (k : ℕ) → all_readable width form rs ≡ true → HeldFor (get_elem? rs k)
+  at : (rs : List Role) (k : ℕ) → all_readable width form rs ≡ true → HeldFor (slice_get rs k)
   unfolding all_readable fields_for reading_for value_for fields_width fields_of
   at [] k e = natural_held 0 0 (omega arith) (omega arith)
   at (r ∷ rs) zero e = role_held r (and_parts (readable width form r) (all_readable width form rs) e).0

@@ -2,7 +2,7 @@
 use mathlib.Core.Path.{◌≡◌, refl, sym, ap, ◌∙◌, subst}
 use mathlib.Core.Bool.{Bool, true, false, not, ◌&&◌, ◌||◌, true≢false, and-true, and-false}
 use mathlib.Core.List.{List, [], ◌∷◌, ◌++◌}
-use mathlib.Core.Option.{Option, none, some}
+use Rattle.std.specs.Prelude.{Option, Some, None}
 use Prim.Native.Nat.{ℕ, ◌*◌, ◌%◌, ◌^◌, ◌<◌}
 use native.Mathlib.Omega.{arith}
 use lib.Dec.{ltb, eqb}
@@ -25,7 +25,8 @@ use Rattle.isa.proofs.Rules as rules
 use Rattle.isa.proofs.Showing.{form_is}
 use Rattle.isa.proofs.Rows.{UsedSound, rows_sound}
 use Rattle.isa.proofs.Decoded.{opcode_below}
-use Rattle.encoder.specs.Encode.{Guard, Choice, guard_by, guard_of, value_for, value_at, choice_of, Part, natural, guard_parts, operand_part, parts_of, part_fits, all_fit, written, given, conditional_form, chosen_form, Encoding, Encodes, RefusedWith, encode_of}
+use Rattle.encoder.specs.declared.Guard.{Guard}
+use Rattle.encoder.specs.Encode.{Choice, guard_by, guard_of, value_for, value_at, choice_of, Part, natural, guard_parts, operand_part, parts_of, part_fits, all_fit, written, given, conditional_form, chosen_form, Encoding, Encodes, RefusedWith, encode_of}
 use Rattle.encoder.specs.Theorems.{pieces_of, AllHold, Apart, PartsApart, EncodeDecode, word_has_form, DecodeEncode, OneWord, SecondWriting, ChosenFormIs, AskedInOrder}
 use Rattle.encoder.proofs.Parts.{hold_append, fit_append, written_read, written_below}
 use Rattle.encoder.proofs.Values.{Held, fits_one, natural_back}
@@ -127,22 +128,22 @@ guard_in width o word = guard_by (eqb (fields_of (conditional_field width) word)
 guard_back : (width : Width) (o : Operation) (g : Option Guard) (word : ℕ) → (given g ≡ true → conditional_form width o ≡ true)
     → AllHold (guard_parts width o g) word → all_fit (guard_parts width o g) ≡ true → guard_in width o word ≡ g
 unfolding AllHold guard_by guard_parts all_fit part_fits given conditional_form choose◌then◌else◌ fields_width conditional_field creg_field condition_field fields_of mod_z
-guard_back Narrow o none word f h e = refl
-guard_back Wide o none word f h e =
+guard_back Narrow o None word f h e = refl
+guard_back Wide o None word f h e =
     either (properties o).conditional
     (λ t.
     let held : AllHold (natural (conditional_field Wide) 0 ∷ []) word = rw t at h in
-    if_false _ _ none (ap (λ (n : ℕ). eqb n 1 && (properties o).conditional) held.0))
-    (λ t. if_false _ _ none (ap (λ (b : Bool). eqb (fields_of (conditional_field Wide) word) 1 && b) t ∙ and-false (eqb (fields_of (conditional_field Wide) word) 1)))
-guard_back Narrow o (some g) word f h e = absurd (true≢false (sym (and_parts (properties o).conditional false (f refl)).1))
-guard_back Wide o (some g) word f h e =
+    if_false _ _ None (ap (λ (n : ℕ). eqb n 1 && (properties o).conditional) held.0))
+    (λ t. if_false _ _ None (ap (λ (b : Bool). eqb (fields_of (conditional_field Wide) word) 1 && b) t ∙ and-false (eqb (fields_of (conditional_field Wide) word) 1)))
+guard_back Narrow o (Some g) word f h e = absurd (true≢false (sym (and_parts (properties o).conditional false (f refl)).1))
+guard_back Wide o (Some g) word f h e =
     let t = (and_parts (properties o).conditional true (f refl)).0 in
     let second = natural (creg_field Wide) g.creg in
     let third = natural (condition_field Wide) g.condition in
     let e' = fit_parts second (third ∷ []) (fit_parts (natural (conditional_field Wide) 1) (second ∷ third ∷ []) e).1 in
     let creg = natural_back 3 g.creg _ (omega arith) e'.0 h.1.0 in
     let condition = natural_back 3 g.condition _ (omega arith) (fit_parts third [] e'.1).0 h.1.1.0 in
-    if_true _ _ none (and_both _ _ (ap (λ (n : ℕ). eqb n 1) h.0) t) ∙ ap some (λ i. record { creg = creg i; condition = condition i })
+    if_true _ _ None (and_both _ _ (ap (λ (n : ℕ). eqb n 1) h.0) t) ∙ ap Some (λ i. record { creg = creg i; condition = condition i })
 
 same_choice : (c d : Choice) → c.operation ≡ d.operation → c.guard ≡ d.guard → c.first ≡ d.first → c.second ≡ d.second → c.third ≡ d.third
     → c.fourth ≡ d.fourth → c ≡ d

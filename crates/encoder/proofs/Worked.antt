@@ -6,16 +6,16 @@ use Prim.Native.Nat.{ℕ}
 use lib.IntN.{ℤ, pos, negsuc}
 use Rattle.isa.specs.declared.width.Width.TheVariants.{Narrow, Wide}
 use Rattle.isa.specs.Used.{cleared}
-use Rattle.encoder.specs.Encode.{Choice, chosen, Encoding, Encodes, RefusedWith, encode_of}
+use Rattle.encoder.specs.Encode.{Choice, guard_by, Encoding, Encodes, RefusedWith, encode_of}
 use Rattle.encoder.specs.Computed.{encodings}
 
 -- without a condition, whose numbers are then any
 abbrev plain : (operation : ℕ) → (a b c d : ℤ) → Choice
-plain n a b c d = chosen n false 8 9 a b c d
+plain n a b c d = record { operation = n; guard = guard_by false 8 9; first = a; second = b; third = c; fourth = d }
 
 -- with a condition of a register
 abbrev under : (creg condition operation : ℕ) → (a b c d : ℤ) → Choice
-under creg condition n a b c d = chosen n true creg condition a b c d
+under creg condition n a b c d = record { operation = n; guard = guard_by true creg condition; first = a; second = b; third = c; fourth = d }
 
 -- ---- choices and what is answered
 

@@ -1,6 +1,5 @@
--- An instruction word from its operation, condition and operands (02 wish 7). Assumes nothing.
-use Rattle.std.specs.Prelude.{Bool, true, false, not, ◌&&◌, ◌||◌, List, [], ◌∷◌, ◌++◌, ℕ, ◌+◌, ◌^◌, leb, ltb, ℤ, pos, negsuc, ◌-ℤ◌}
-use Rattle.std.proofs.Math.Option.{Option, none, some}
+-- An instruction word from its operation, condition and operands (Manual 12). Assumes nothing.
+use Rattle.std.specs.Prelude.{Bool, true, false, not, ◌&&◌, ◌||◌, Option, Some, None, Result, Ok, Err, List, [], ◌∷◌, ◌++◌, ℕ, ◌+◌, ◌^◌, leb, ltb, ℤ, pos, negsuc, ◌-ℤ◌, slice_index_or}
 use Rattle.word.specs.Choice.{choose◌then◌else◌}
 use Rattle.word.specs.Word.{Field, word_of}
 use Rattle.isa.specs.declared.operation.Operation.{Operation}
@@ -12,18 +11,14 @@ use Rattle.isa.specs.Decode.{decode}
 use Rattle.isa.specs.Shown.{has_form, shown_value}
 use Rattle.isa.specs.Used.{shown_role, shown_fields, least_of, shown_reading}
 use Rattle.isa.specs.declared.instruction.Instruction.{Instruction}
-use Rattle.encoder.specs.declared.Encoded.{Encoded}
-use Rattle.encoder.specs.declared.Encoded.TheVariants.{Word, Refusal}
+use Rattle.machine.specs.Refusal.{number_of}
+use Rattle.machine.specs.declared.refusal.Refusal.{Refusal}
+use Rattle.encoder.specs.declared.Guard.{Guard}
+use Rattle.encoder.specs.declared.Choice as code
 
 -- ---- what is chosen
 
--- a condition, as in `egt C7`: the numbers of its register and of the condition
-pub record Guard : Type 0 where
-  pub creg : ℕ
-  pub condition : ℕ
-
--- "operation, .. condition and operands as wish 2 prints them": the operation by its number, the operands in the order in which they are shown,
--- 0 for each that there is not
+-- an operation by its number, a condition, as in `egt C7`, and the operands in the order in which a listing shows them, 0 for each that there is not
 pub record Choice : Type 0 where
   pub operation : ℕ
   pub guard : Option Guard
@@ -32,12 +27,21 @@ pub record Choice : Type 0 where
   pub third : ℤ
   pub fourth : ℤ
 
--- a choice in numbers; without a condition, creg and condition are no part of it
-unfoldable pub guard_by : (conditional : Bool) (creg condition : ℕ) → Option Guard
-guard_by conditional creg condition = choose conditional then some (record { creg = creg; condition = condition }) else none
+-- the same as the code has it
+abbrev pub chosen : code.Choice → Choice
+chosen c =
+    record {
+      operation = c.operation;
+      guard = c.condition;
+      first = slice_index_or c.operands 0 (pos 0);
+      second = slice_index_or c.operands 1 (pos 0);
+      third = slice_index_or c.operands 2 (pos 0);
+      fourth = slice_index_or c.operands 3 (pos 0);
+    }
 
-abbrev pub chosen : (operation : ℕ) (conditional : Bool) (creg condition : ℕ) (a b c d : ℤ) → Choice
-chosen n conditional creg condition a b c d = record { operation = n; guard = guard_by conditional creg condition; first = a; second = b; third = c; fourth = d }
+-- a condition in numbers; without one, creg and condition are no part of it
+unfoldable pub guard_by : (conditional : Bool) (creg condition : ℕ) → Option Guard
+guard_by conditional creg condition = choose conditional then Some (record { creg = creg; condition = condition }) else None
 
 -- ---- the choice that a word is read as
 
@@ -47,8 +51,8 @@ guard_of i = guard_by i.conditional i.creg i.condition
 
 -- the value of an operand, where there is one
 unfoldable pub value_for : Instruction → Option Role → ℤ
-value_for i none = pos 0
-value_for i (some r) = shown_value i r
+value_for i None = pos 0
+value_for i (Some r) = shown_value i r
 
 -- of operand k, from 0 on
 abbrev pub value_at : Width → Instruction → (k : ℕ) → ℤ
@@ -79,8 +83,8 @@ natural fs n = record { fields = fs; least = pos 0; number = pos n }
 
 -- the condition's: a conditional bit where the operation may be conditional; register and number of a condition that is given
 unfoldable pub guard_parts : Width → Operation → Option Guard → List Part
-guard_parts width o none = choose (properties o).conditional then natural (conditional_field width) 0 ∷ [] else []
-guard_parts width o (some g) = natural (conditional_field width) 1 ∷ natural (creg_field width) g.creg ∷ natural (condition_field width) g.condition ∷ []
+guard_parts width o None = choose (properties o).conditional then natural (conditional_field width) 0 ∷ [] else []
+guard_parts width o (Some g) = natural (conditional_field width) 1 ∷ natural (creg_field width) g.creg ∷ natural (condition_field width) g.condition ∷ []
 
 -- operand k; an absent one has no bits
 abbrev pub operand_part : Width → Operation → (k : ℕ) → ℤ → Part
@@ -118,16 +122,16 @@ unfoldable pub all_fit : List Part → Bool
 all_fit [] = true
 all_fit (p ∷ ps) = part_fits p && all_fit ps
 
--- the word with the lowest bits of every number in its pieces: a negative one in two's complement, and of register 24 + n those of n; "Ignored
--- bits are 0"
+-- the word with the lowest bits of every number in its pieces: a negative one in two's complement, and of register 24 + n those of n; ignored
+-- bits are 0
 unfoldable pub written : List Part → ℕ
 written [] = 0
 written (p ∷ ps) = placed_in p.fields (word_of 32 p.number) + written ps
 
 -- a condition is given
 unfoldable pub given : Option Guard → Bool
-given none = false
-given (some g) = true
+given None = false
+given (Some g) = true
 
 -- the operation may be conditional, and words of this width have a conditional bit
 unfoldable pub conditional_form : Width → Operation → Bool
@@ -142,13 +146,13 @@ pub data Encoding : Type 0 where
   Encodes : (word : ℕ) → Encoding
   RefusedWith : (number : ℕ) → Encoding
 
--- the number and values of each case of the code's answer (01 "If an answer is an enum")
-unfoldable pub encoding_of : Encoded → Encoding
-encoding_of (Word w) = Encodes w
-encoding_of (Refusal n) = RefusedWith n
+-- the code's answer, a refusal by its number
+unfoldable pub encoding_of : Result ℕ Refusal → Encoding
+encoding_of (Ok w) = Encodes w
+encoding_of (Err why) = RefusedWith (number_of why)
 
--- "18 when the operation has no such form in that width, or no conditional form and a condition is given, asked first .. 19 when an operand or a
--- part of the condition does not fit the bits used, or an operand has none and is not 0"
+-- 18 where the operation has no such form in the width, or no conditional form and a condition is given, asked first; 19 where an operand or a
+-- part of the condition does not fit its bits, or an operand has none and is not 0
 unfoldable pub encode_of : Width → Choice → Encoding
 encode_of width c =
     choose not (chosen_form width c.operation (given c.guard)) then RefusedWith 18

@@ -1,42 +1,66 @@
-// Instruction words made from what a listing shows of them.
-#![tactic(auto)]
+//! Instruction words made from what a listing shows of them.
+#![tactic(auto, unfolding(crate::specs::Computed::encodings))]
 
-ghost use Rattle.std.specs.Prelude.{◌≡◌, true, ◌+◌, ◌*◌, ◌%◌, ◌^◌, ◌<◌, ◌≤◌};
-ghost use Rattle.word.specs.Word.{signed_of};
-ghost use Rattle.isa.specs.Operation.{operation_of, width_by};
+ghost use Rattle.std.specs.Prelude.{◌≡◌, true, Some, ◌+◌, ◌*◌, ◌%◌, ◌^◌, ◌<◌, ◌≤◌};
+ghost use Rattle.word.specs.Word.{word_of};
+ghost use Rattle.isa.specs.Operation.{operation_of};
 ghost use Rattle.isa.specs.Format.{placed_in, operation_field};
-ghost use Rattle.operands.specs.Places.{fields_at, put_into, Placeable, AllPlaceable};
-ghost use Rattle.encoder.specs.Encode.{chosen, parts_of, written, chosen_form, encoding_of, encode_of};
-ghost use Rattle.encoder.specs.Fields.{field_fits, all_fields_fit, guard_bits};
+ghost use Rattle.isa.specs.declared.form.Reading.TheVariants.{Signed};
+ghost use Rattle.isa.specs.Used.{least_of};
+ghost use Rattle.isa.specs.Places.{put_into, Placeable};
+ghost use Rattle.encoder.specs.Encode.{chosen, chosen_form, parts_of, all_fit, written, encoding_of, encode_of, given, is_below};
+ghost use Rattle.encoder.specs.Fields.{field_fits, fields_fit, fields_bits, guard_fits, guard_bits};
 
-use operands::{OperandField, OperandFields};
+use isa::{Operation, OperandField, Reading, Width};
+use machine::Refusal;
 
-// What is answered.
+/// A condition, as in `egt C7`: the numbers of its register and of the condition.
 #[derive(Clone, Copy)]
-pub enum Encoded {
-    // The word.
-    Word(u32),
-    // The number of the refusal.
-    Refusal(u32),
+pub struct Guard {
+    pub creg: u32,
+    pub condition: u32,
 }
 
-// ---- operands, in two's complement
+/// What a word is to be made from: what a listing shows of it.
+#[derive(Clone, Copy)]
+pub struct Choice {
+    /// The operation, by its number.
+    pub operation: u32,
+    pub condition: Option<Guard>,
+    /// The operands in the order in which they are shown, 0 for each that there is not.
+    pub operands: [i32; 4],
+}
 
-// Whether a number fits the bits of a field.
-fn operand_fits(f: OperandField, n: u32) -> bool
-    requires { Placeable f }
-    ensures { result ≡ field_fits f (signed_of 32 n) }
+/// The least number that so many bits stand for.
+fn least(reading: Reading, bits: u32) -> i64
+    requires { (bits ≤ 25) × (reading ≡ Signed → 0 < bits) }
+    ensures { result ≡ least_of reading bits }
 {
-    let count = 1 << (f.width + f.extra);
-    let reading = f.reading;
     match reading {
-        b's' => (n < count / 2) | (n > 0xFFFF_FFFF - count / 2),
-        b'h' => (24 <= n) & (n < 24 + count),
-        _ => n < count,
+        Reading::Natural => 0,
+        Reading::Signed => -(1 << (bits - 1)),
+        Reading::High => 24,
     }
 }
 
-// The `width` lowest bits of a number, from bit `place` of a word up.
+/// Whether a number is one of 0 to 2 ^ bits - 1.
+fn is_one_of(n: i64, bits: u32) -> bool
+    requires { bits ≤ 25 }
+    ensures { result ≡ is_below (2 ^ bits) n }
+{
+    0 <= n && n < 1 << bits
+}
+
+/// Whether a number is one of those that the bits of a field stand for.
+fn operand_fits(field: OperandField, n: i32) -> bool
+    requires { Placeable field }
+    ensures { result ≡ field_fits field n }
+{
+    let bits = field.low.width + field.high.width;
+    is_one_of(i64::from(n) - least(field.reading, bits), bits)
+}
+
+/// The `width` lowest bits of a number, from bit `place` of a word up.
 fn put(n: u32, width: u32, place: u32) -> u32
     requires { (place < 32) × (width < 32) × (place + width ≤ 32) }
     ensures { result ≡ n % 2 ^ width * 2 ^ place }
@@ -44,147 +68,130 @@ fn put(n: u32, width: u32, place: u32) -> u32
     n % (1 << width) << place
 }
 
-// The bits of a number in a field.
-fn operand_bits(f: OperandField, n: u32) -> u32
-    requires { Placeable f }
-    ensures { result ≡ put_into f n }
+/// The bits of a number in a field.
+fn operand_bits(field: OperandField, n: i32) -> u32
+    requires { Placeable field }
+    ensures { result ≡ put_into field (word_of 32 n) }
 {
-    put(n >> f.width, f.extra, f.upper) + put(n, f.width, f.place)
+    let word = n.cast_unsigned();
+    let high = put(word >> field.low.width, field.high.width, field.high.place);
+    high + put(word, field.low.width, field.low.place)
 }
 
-// ---- words, of operands in two's complement
-
-// Whether an operation has this form in this width, with or without a condition.
-fn has_form(operation: u32, wide: bool, conditional: bool) -> bool
-    ensures { result ≡ chosen_form (width_by wide) operation conditional }
+/// The bits of an operation.
+fn operation_bits(operation: u32, width: Width) -> u32
+    ensures { result ≡ placed_in (operation_field width) operation }
 {
-    (operation < 64)
-        & (isa::unavailability(operation, wide, false) == 0)
-        & (!conditional | wide & isa::is_conditional(operation))
-}
-
-// Whether the condition and all operands fit.
-fn all_fit(
-    fields: OperandFields,
-    conditional: bool,
-    creg: u32,
-    condition: u32,
-    a: u32,
-    b: u32,
-    c: u32,
-    d: u32,
-) -> bool
-    requires { AllPlaceable fields }
-    ensures { result ≡ all_fields_fit fields conditional creg condition (signed_of 32 a) (signed_of 32 b) (signed_of 32 c) (signed_of 32 d) }
-{
-    (!conditional | (creg < 8) & (condition < 8))
-        & operand_fits(fields.first, a)
-        & operand_fits(fields.second, b)
-        & operand_fits(fields.third, c)
-        & operand_fits(fields.fourth, d)
-}
-
-// The bits of an operation.
-fn operation_bits(op: u32, wide: bool) -> u32
-    ensures { result ≡ placed_in (operation_field (width_by wide)) op }
-{
-    if wide { put(op, 6, 26) } else { put(op, 6, 10) }
-}
-
-// The bits of a condition of 32-bit words; without one there are none.
-fn guard_bits(conditional: bool, creg: u32, condition: u32) -> u32
-    ensures { result ≡ guard_bits conditional creg condition }
-{
-    if conditional {
-        0x0200_0000 + put(creg, 3, 22) + put(condition, 3, 19)
-    } else {
-        0
+    match width {
+        Width::Narrow => put(operation, 6, 10),
+        Width::Wide => put(operation, 6, 26),
     }
 }
 
-// The sum of all bits.
-fn word_of(
-    op: u32,
-    wide: bool,
-    fields: OperandFields,
-    conditional: bool,
-    creg: u32,
-    condition: u32,
-    a: u32,
-    b: u32,
-    c: u32,
-    d: u32,
-) -> u32
-    requires { (chosen_form (width_by wide) op conditional ≡ true) × (fields ≡ fields_at (width_by wide) (operation_of op)) }
-    ensures { result ≡ written (parts_of (width_by wide) (chosen op conditional creg condition (signed_of 32 a) (signed_of 32 b) (signed_of 32 c) (signed_of 32 d))) }
-{
-    operation_bits(op, wide)
-        + guard_bits(conditional, creg, condition)
-        + operand_bits(fields.first, a)
-        + operand_bits(fields.second, b)
-        + operand_bits(fields.third, c)
-        + operand_bits(fields.fourth, d)
+impl Guard {
+    /// Whether its numbers fit the three bits that each has.
+    fn fits(self) -> bool
+        ensures { result ≡ guard_fits (Some self) }
+    {
+        self.creg < 8 && self.condition < 8
+    }
+
+    /// Its bits in 32-bit words.
+    fn bits(self) -> u32
+        ensures { result ≡ guard_bits (Some self) }
+    {
+        0x0200_0000 + put(self.creg, 3, 22) + put(self.condition, 3, 19)
+    }
 }
 
-// The word of a choice, or the refusal.
-fn encode_words(
-    operation: u32,
-    wide: bool,
-    conditional: bool,
-    creg: u32,
-    condition: u32,
-    a: u32,
-    b: u32,
-    c: u32,
-    d: u32,
-) -> Encoded
-    ensures { encoding_of result ≡ encode_of (width_by wide) (chosen operation conditional creg condition (signed_of 32 a) (signed_of 32 b) (signed_of 32 c) (signed_of 32 d)) }
-{
-    if !has_form(operation, wide, conditional) {
-        return Encoded::Refusal(18);
+impl Choice {
+    /// Whether its operands fit the fields that its operation has for them.
+    fn operands_fit(self, operation: Operation, width: Width) -> bool
+        ensures { result ≡ fields_fit width operation (chosen self) }
+    {
+        let fields = operation.fields(width);
+        operand_fits(fields[0], self.operands[0])
+            && operand_fits(fields[1], self.operands[1])
+            && operand_fits(fields[2], self.operands[2])
+            && operand_fits(fields[3], self.operands[3])
     }
-    let fields = operands::fields(operation, wide);
-    if !all_fit(fields, conditional, creg, condition, a, b, c, d) {
-        return Encoded::Refusal(19);
+
+    /// Whether its operation has this form in words of a width, with a condition where one is given.
+    fn has_form(self, width: Width) -> bool
+        ensures { result ≡ chosen_form width self.operation (given self.condition) }
+    {
+        match Operation::try_from(self.operation) {
+            Ok(operation) => {
+                let conditional = match width {
+                    Width::Narrow => false,
+                    Width::Wide => operation.is_conditional(),
+                };
+                operation.has_form(width) && (self.condition.is_none() || conditional)
+            }
+            Err(_) => false,
+        }
     }
-    Encoded::Word(word_of(
-        operation,
-        wide,
-        fields,
-        conditional,
-        creg,
-        condition,
-        a,
-        b,
-        c,
-        d,
-    ))
+
+    /// The bits of its operands in those fields.
+    fn operands_bits(self, operation: Operation, width: Width) -> u64
+        ensures { result ≡ fields_bits width operation (chosen self) }
+    {
+        let fields = operation.fields(width);
+        u64::from(operand_bits(fields[0], self.operands[0]))
+            + u64::from(operand_bits(fields[1], self.operands[1]))
+            + u64::from(operand_bits(fields[2], self.operands[2]))
+            + u64::from(operand_bits(fields[3], self.operands[3]))
+    }
+
+    /// Whether its condition fits, where one is given.
+    fn condition_fits(self) -> bool
+        ensures { result ≡ guard_fits self.condition }
+    {
+        match self.condition {
+            Some(guard) => guard.fits(),
+            None => true,
+        }
+    }
+
+    /// The bits of its condition; without one there are none.
+    fn condition_bits(self) -> u32
+        ensures { result ≡ guard_bits self.condition }
+    {
+        match self.condition {
+            Some(guard) => guard.bits(),
+            None => 0,
+        }
+    }
+
+    /// Whether its numbers fit all their bits.
+    fn fits(self, operation: Operation, width: Width) -> bool
+        requires { (chosen_form width self.operation (given self.condition) ≡ true) × (operation ≡ operation_of self.operation) }
+        ensures { result ≡ all_fit (parts_of width (chosen self)) }
+    {
+        self.condition_fits() && self.operands_fit(operation, width)
+    }
+
+    /// The sum of all bits: no two parts of a word share one.
+    fn word(self, operation: Operation, width: Width) -> u32
+        requires { (chosen_form width self.operation (given self.condition) ≡ true) × (operation ≡ operation_of self.operation) }
+        ensures { result ≡ written (parts_of width (chosen self)) }
+    {
+        let operation_bits = u64::from(operation_bits(self.operation, width));
+        let condition_bits = u64::from(self.condition_bits());
+        (operation_bits + condition_bits + self.operands_bits(operation, width)) as u32
+    }
 }
 
-// The word of an operation with its operands in the order in which a listing shows them, and with a condition where `conditional` says so; or
-// the refusal, 18 or 19.
-pub fn encode(
-    operation: u32,
-    wide: bool,
-    conditional: bool,
-    creg: u32,
-    condition: u32,
-    a: i32,
-    b: i32,
-    c: i32,
-    d: i32,
-) -> Encoded
-    ensures { encoding_of result ≡ encode_of (width_by wide) (chosen operation conditional creg condition a b c d) }
+/// The word of a choice; or the refusal: there is no such form in the width, which is asked first, or a number does not fit its bits (Manual 12).
+pub fn encode(width: Width, choice: Choice) -> Result<u32, Refusal>
+    ensures { encoding_of result ≡ encode_of width (chosen choice) }
 {
-    encode_words(
-        operation,
-        wide,
-        conditional,
-        creg,
-        condition,
-        a.cast_unsigned(),
-        b.cast_unsigned(),
-        c.cast_unsigned(),
-        d.cast_unsigned(),
-    )
+    if !choice.has_form(width) {
+        return Err(Refusal::FormUnknown);
+    }
+    let operation = Operation::from_number(choice.operation);
+    if !choice.fits(operation, width) {
+        return Err(Refusal::OperandUnfit);
+    }
+    Ok(choice.word(operation, width))
 }

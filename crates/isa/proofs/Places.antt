@@ -7,6 +7,7 @@ use native.Mathlib.Nat.{add-zero, div-one, mod-one}
 use native.Mathlib.Omega.{arith}
 use lib.Dec.{leb, ltb, eqb}
 use lib.ListN.{length}
+use Rattle.std.specs.Prelude.{slice_index_or}
 use borrow.Author.Tests.{ltb-true, leb-true, eqb-true}
 use Rattle.word.specs.Word.{Field}
 use Rattle.word.proofs.Tests.{and_parts}
@@ -20,7 +21,7 @@ use Rattle.isa.specs.declared.operands.OperandField.{OperandField}
 use Rattle.isa.specs.Format.{fields_width, placed_in, lie_below, separate}
 use Rattle.isa.specs.Used.{shown_fields, shown_reading}
 use Rattle.isa.specs.Computed.{instructions}
-use Rattle.isa.specs.Places.{lower_piece, upper_piece, field_with, field_at, fields_at, bits_of, put_into, Placeable, AllPlaceable}
+use Rattle.isa.specs.Places.{lower_piece, upper_piece, field_with, field_at, fields_at, bits_of, put_into, Placeable}
 use Rattle.isa.proofs.Pieces.{placed_below}
 
 -- ---- fields of at most two pieces
@@ -118,7 +119,9 @@ field_is width o k l =
       three = λ e. eqb-true (fields_width fs) 3 (rw e at v.1);
     }
 
-pub all_placeable : (width : Width) (o : Operation) → AllPlaceable (fields_at width o)
-unfolding AllPlaceable
-all_placeable width o =
-    ((field_is width o 0 (omega arith)).placeable, ((field_is width o 1 (omega arith)).placeable, ((field_is width o 2 (omega arith)).placeable, ((field_is width o 3 (omega arith)).placeable, tt))))
+pub placeable_at : (width : Width) (o : Operation) (k : ℕ) {fs : List OperandField} (d : OperandField) → fs ≡ fields_at width o → k < 4 → Placeable (slice_index_or fs k d)
+placeable_at width o zero d e h = rw e (field_is width o 0 (omega arith)).placeable
+placeable_at width o (suc zero) d e h = rw e (field_is width o 1 (omega arith)).placeable
+placeable_at width o (suc (suc zero)) d e h = rw e (field_is width o 2 (omega arith)).placeable
+placeable_at width o (suc (suc (suc zero))) d e h = rw e (field_is width o 3 (omega arith)).placeable
+placeable_at width o (suc (suc (suc (suc k)))) d e h = absurd (omega arith)

@@ -107,12 +107,7 @@ pub record Placeable (f : OperandField) : Type 0 where
   pub below : (n : ℕ) → put_into f n < 2 ^ 32
   pub signed : f.reading ≡ Signed → 0 < bits_of f
 
--- all of a list are
-unfoldable pub AllPlaceable : List OperandField → Type 0
-AllPlaceable [] = Unit {0}
-AllPlaceable (f ∷ fs) = Placeable f × AllPlaceable fs
-
 -- to unfold all of these
 unfoldable pub placing : Unit {0}
-unfolding lower_piece upper_piece field_with operand_for operands_in role_in field_or_none Counted AllPlaceable
+unfolding lower_piece upper_piece field_with operand_for operands_in role_in field_or_none Counted
 placing = tt
