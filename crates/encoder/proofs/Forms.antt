@@ -1,12 +1,12 @@
 -- Choices whose form there is, as the code takes them: what fits, and the sum of the parts. Assumes nothing.
 use mathlib.Core.Path.{◌≡◌, refl, sym, ap, ◌∙◌, subst}
-use mathlib.Core.Bool.{Bool, true, false, not, ◌&&◌, true≢false, and-true, and_assoc}
+use mathlib.Core.Bool.{Bool, true, false, ◌&&◌, true≢false, and-true}
 use mathlib.Core.List.{List, [], ◌∷◌}
 use Rattle.std.specs.Prelude.{Option, Some, None}
 use Prim.Native.Nat.{ℕ, ◌+◌, ◌*◌, ◌^◌, ◌≤◌, ◌<◌}
 use native.Mathlib.Omega.{arith}
 use lib.Dec.{ltb}
-use lib.IntN.{ℤ, pos}
+use lib.IntN.{pos}
 use lib.Pow.{pow_pos, pow_mono}
 use borrow.Author.Tests.{ltb-true, lt-ltb}
 use Rattle.word.specs.Choice.{choose◌then◌else◌}
@@ -28,7 +28,7 @@ use Rattle.encoder.specs.Fields.{fields_fit, guard_fits, guard_bits, fields_bits
 use Rattle.encoder.proofs.Parts.{fit_append, written_append}
 use Rattle.encoder.proofs.Values.{natural_fits}
 use Rattle.encoder.proofs.Fits.{field_fits_law}
-use Rattle.encoder.proofs.Theorems.{operation_bits, size}
+use Rattle.encoder.proofs.ReadBack.{operation_bits, size}
 
 -- ---- the condition
 
@@ -90,9 +90,16 @@ module _ (width : Width) (c : Choice) (form : chosen_form width c.operation (giv
   pub all_fit_is : guard_fits c.guard && fields_fit width o c ≡ all_fit (parts_of width c)
   unfolding parts_of all_fit
   all_fit_is =
-      rw (operation_fits, fit_append guard operands, guard_fits_law width n c.guard form,
-      field_fits_law width o 0 (omega arith) c.first, field_fits_law width o 1 (omega arith) c.second, field_fits_law width o 2 (omega arith) c.third, field_fits_law width o 3 (omega arith) c.fourth,
-      and-true (part_fits (operand_part width o 3 c.fourth))) refl
+      rw (
+        operation_fits,
+        fit_append guard operands,
+        guard_fits_law width n c.guard form,
+        field_fits_law width o 0 (omega arith) c.first,
+        field_fits_law width o 1 (omega arith) c.second,
+        field_fits_law width o 2 (omega arith) c.third,
+        field_fits_law width o 3 (omega arith) c.fourth,
+        and-true (part_fits (operand_part width o 3 c.fourth)),
+      ) refl
 
   -- what it writes is the sum of all parts
   pub sum_is : placed_in (operation_field width) n + guard_bits c.guard + fields_bits width o c ≡ written (parts_of width c)

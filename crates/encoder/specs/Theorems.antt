@@ -11,6 +11,7 @@ use Rattle.isa.specs.declared.form.Reading.TheVariants.{Natural, Signed, High}
 use Rattle.isa.specs.Used.{shown_fields, least_of, shown_reading, cleared}
 use Rattle.isa.specs.Theorems.{between}
 use Rattle.isa.specs.declared.instruction.Instruction.{Instruction}
+use Rattle.listing.specs.Line.{operands_text, name_text, condition_text}
 use Rattle.encoder.specs.Encode.{Choice, choice_of, Part, parts_of, fits, all_fit, written, given, chosen_form, Encodes, RefusedWith, encode_of}
 
 -- ---- what fits is shown from the places and widths of fields, and not field by field
@@ -95,6 +96,18 @@ pub record WrittenAgain (width : Width) (word : ℕ) : Type 0 where
 
 abbrev pub SecondWriting : Type 0
 SecondWriting = (width : Width) (word : ℕ) → word_has_form width word ≡ true → WrittenAgain width word
+
+-- ---- as a listing shows them (Manual 11)
+
+-- what a listing shows of two instructions
+pub record ShownAlike (width : Width) (i j : Instruction) : Type 0 where
+  pub condition : condition_text i ≡ condition_text j
+  pub name : name_text width (operation_of i.opcode) ≡ name_text width (operation_of j.opcode)
+  pub operands : operands_text width i ≡ operands_text width j
+
+-- it is the same of words that are read as the same choice
+abbrev pub ChoiceShown : Type 0
+ChoiceShown = (width : Width) (word other : ℕ) → choice_of width word ≡ choice_of width other → ShownAlike width (decode width word) (decode width other)
 
 -- ---- refusals
 

@@ -11,7 +11,9 @@ ghost use Rattle.isa.specs.Places.{put_into, Placeable};
 ghost use Rattle.encoder.specs.Encode.{chosen, chosen_form, parts_of, all_fit, written, encoding_of, encode_of, given, is_below};
 ghost use Rattle.encoder.specs.Fields.{field_fits, fields_fit, fields_bits, guard_fits, guard_bits};
 
-use isa::{Operation, OperandField, Reading, Width};
+pub mod theorems;
+
+use isa::{OperandField, Operation, Reading, Width};
 use machine::Refusal;
 
 /// A condition, as in `egt C7`: the numbers of its register and of the condition.

@@ -1,5 +1,4 @@
 -- `Choice::operands_bits` meets its contract: its fields are placeable, and each operand has its bits. Assumes nothing.
-use mathlib.Core.Path.{refl}
 use native.Mathlib.Omega.{arith}
 use Rattle.std.proofs.Common.{rules}
 use Rattle.isa.proofs.Places.{placeable_at}

@@ -1,5 +1,4 @@
 -- `isa::Instruction::of_access` meets its contract: ld and st have one form. Assumes nothing.
-use Rattle.std.specs.Prelude.{◌≡◌}
 use mathlib.Core.Path.{refl, ◌∙◌}
 use native.Mathlib.Nat.{mul-one, add-zero, div-one}
 use native.Mathlib.Omega.{arith}

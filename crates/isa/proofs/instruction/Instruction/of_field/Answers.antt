@@ -1,5 +1,4 @@
 -- `isa::Instruction::of_field` meets its contract: the last arm is of exbfi. Assumes nothing.
-use Rattle.std.specs.Prelude.{◌≡◌}
 use mathlib.Core.Path.{refl, ◌∙◌}
 use native.Mathlib.Nat.{mul-one, add-zero, div-one}
 use native.Mathlib.Omega.{arith}

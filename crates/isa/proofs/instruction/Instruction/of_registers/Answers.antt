@@ -1,5 +1,4 @@
 -- `isa::Instruction::of_registers` meets its contract: add to sext have one form. Assumes nothing.
-use Rattle.std.specs.Prelude.{◌≡◌}
 use mathlib.Core.Path.{refl, ◌∙◌}
 use native.Mathlib.Nat.{mul-one, add-zero, div-one}
 use native.Mathlib.Omega.{arith}

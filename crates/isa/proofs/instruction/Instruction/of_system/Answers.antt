@@ -1,5 +1,4 @@
 -- `isa::Instruction::of_system` meets its contract: each arm has the form of its operations. Assumes nothing.
-use Rattle.std.specs.Prelude.{◌≡◌}
 use mathlib.Core.Path.{refl, ◌∙◌}
 use native.Mathlib.Nat.{mul-one, add-zero, div-one}
 use native.Mathlib.Omega.{arith}

@@ -1,5 +1,4 @@
 -- `isa::Operation::from_number` meets its contract: the last arm is of 63 and above. Assumes nothing.
-use Rattle.std.specs.Prelude.{◌≡◌}
 use mathlib.Core.Path.{sym}
 use native.Mathlib.Omega.{arith}
 use Rattle.isa.proofs.Table.{last_law}
