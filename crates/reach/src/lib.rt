@@ -32,9 +32,11 @@ fn mark_reached(code: Code<'_>, start: u32, map: &mut [u8])
     mark_slots(code, map);
 }
 
-/// Writes 1 to a map's byte at the address of each word that is reached, and 0 to the others over the program's length; later bytes keep
-/// their values. Refused are a program longer than program memory, then a map shorter than the program, then a start at which there is no
-/// word: these change nothing.
+/// Maps the words of a program that are reached from the word at `start`: writes 1 to the map's byte at the address of each, and 0 to the
+/// others over the program's length; later bytes keep their values.
+///
+/// Refused, in this order, and with the map as it was: `MemoryTooLong` for a program of more than 65,536 bytes, `MapTooShort` for a map
+/// shorter than the program, `StartUnfit` for a start that is misaligned or whose word is not wholly in the program.
 #[tactic(auto, using(crate::proofs::Calls::map_length, crate::proofs::Words::aligned, crate::proofs::Words::wholly, crate::proofs::Theorems::marked), unfolding(word::specs::Choice::choices, crate::specs::Call::reach_call))]
 pub fn reach(program: &[u8], width: Width, start: u32, map: &mut [u8]) -> Result<(), Refusal>
     ensures exact { mapped (refused_by result) map.new ≡ reach_call width program.now start map.old }

@@ -5,10 +5,10 @@ ghost use Rattle.std.specs.Prelude.{◌≡◌, ◌<◌, [], ◌∷◌, ◌++◌,
 
 use std::marker::Model;
 
-// Room for every address of a program, and more than the three to which one word leads.
+// Room for every address of a program, and more than the three to which one word leads; fixed, since the library allocates nothing.
 const ROOM: usize = 65_540;
 
-/// A list of at most 65,540 addresses of a program, which are below 65,536.
+/// Addresses of a program, below 65,536, at most 65,540 of them: seen as their list, the first one first.
 #[derive(Drop)]
 pub struct Queue {
     items: [u16; ROOM],

@@ -46,6 +46,7 @@ pub fn search(code: Code<'_>, start: u32, map: &mut [u8])
     let mut queue = Queue::new();
     visit(map, &mut queue, start);
     let mut head = 0;
+    // A `while`, since the queue grows as it is gone through.
     while head < queue.len() {
         let words = code.successors(u32::from(queue.at(head)));
         visit_all(map, &mut queue, words);

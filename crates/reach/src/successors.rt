@@ -106,7 +106,7 @@ pub fn next_of(width: Width, i: Instruction, a: u32) -> Option<i64>
     }
 }
 
-/// Its target.
+/// Its target, by immediate, if it has one: two bytes times the immediate after its slot.
 pub fn target_of(width: Width, i: Instruction, a: u32) -> Option<i64>
     ensures { option_to_list result ≡ target_of width i a }
 {
@@ -118,7 +118,7 @@ pub fn target_of(width: Width, i: Instruction, a: u32) -> Option<i64>
     }
 }
 
-/// The address of the word at which a call returns, or a swm goes on.
+/// The address of the word at which a call returns, or a swm goes on, if there is one.
 pub fn resumption_of(width: Width, i: Instruction, a: u32) -> Option<i64>
     ensures { option_to_list result ≡ resumption_of width i a }
 {
