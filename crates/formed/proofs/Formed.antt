@@ -74,7 +74,7 @@ registers_held {l} s = held_all 0 l (λ j. rw zero_plus (s.hold j))
 held_registers : (l : List ℕ) → length l ≡ OFFSETS → all_held 0 l ≡ true → Registers l
 held_registers l n h = record { count = n; hold = λ j. rw zero_plus at (all_held_law 0 l (omega arith) h j) }
 
--- ---- a status: PSR, at most 31, and in user mode both set bits 0
+-- ---- a status: PSR, at most 31, and in user mode RSRD and RSWR 0
 
 pub record StatusOk (q : ℕ) : Type 0 where
   pub small : q < 32

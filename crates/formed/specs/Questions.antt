@@ -1,4 +1,4 @@
--- Questions 3 to 5 (01 "Machine image"), and what makes a machine well formed. Assumes nothing.
+-- Questions 3 to 5 (Manual 8.1, 8.2 and 9.2), and what makes a machine well formed. Assumes nothing.
 use Rattle.std.specs.Prelude.{Bool, true, false, not, ◌&&◌, List, [], ◌∷◌, ℕ, zero, suc, ◌%◌, ◌^◌, length, ltb, eqb}
 use Rattle.word.specs.Choice.{choose◌then◌else◌}
 use Rattle.word.specs.Flags.{distinct_below}
@@ -60,11 +60,11 @@ number_tests m =
     entries_fit m.stack ∷
     []
 
--- "a divider at most 255" (02, wish 5)
+-- a divider is at most 255 (Manual 8.1)
 unfoldable pub question3 : Machine → Bool
 question3 m = all (number_tests m) && all_below 256 m.dividers
 
--- ---- 4: every current or stacked PSR with UM 1 has both set bits 0
+-- ---- 4: every current or stacked PSR with UM 1 has RSRD and RSWR 0
 
 unfoldable pub sets_fit : (psr : ℕ) → Bool
 sets_fit q = implies (user_mode q) (eqb (q % 8) 1)

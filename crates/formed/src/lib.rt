@@ -1,4 +1,4 @@
-// What makes a machine well formed: questions 3 to 5 (01 "Machine image"), asked of the machine's words.
+//! What makes a machine well formed: questions 3 to 5 (Manual 8 and 9.2), asked of the machine's words.
 #![tactic(auto)]
 
 ghost use Rattle.std.specs.Prelude.{◌≡◌, true, ◌≤◌, ◌<◌, eqb, length};
@@ -8,7 +8,7 @@ ghost use Rattle.machine.specs.Words.{OFFSETS, SOURCES, MachineWords, machine_of
 ghost use Rattle.formed.specs.Questions.{all, implies, all_below, all_held, position_tests, sets_fit, question3, question4, question5, ask_machine, read_by};
 ghost use Rattle.formed.specs.Entries.{passes as passesOf, all_pass};
 
-// What questions 3, 4 and 5 ask of a stack entry.
+/// What questions 3, 4 and 5 ask of a stack entry.
 #[derive(Clone, Copy)]
 pub enum Test {
     Range,
@@ -18,7 +18,7 @@ pub enum Test {
 
 // ---- stack entries
 
-// Whether a status with UM 1 has both set bits 0.
+// Whether a status with UM 1 has RSRD and RSWR 0.
 fn sets_fit(psr: u32) -> bool
     ensures { result ≡ sets_fit psr }
 {
@@ -51,7 +51,7 @@ fn entries_pass(t: Test, w: &[u32]) -> bool
 
 // ---- question 3
 
-// Whether every number is below a bound.
+/// Whether every number is below a bound.
 pub fn all_below(numbers: &[u32], top: u32) -> bool
     ensures { result ≡ all_below top numbers.now }
 {
@@ -133,7 +133,7 @@ fn numbers_fit(w: &[u32]) -> bool
 
 // ---- question 4
 
-// Whether every current or stacked status with UM 1 has both set bits 0.
+// Whether every current or stacked status with UM 1 has RSRD and RSWR 0.
 fn modes_fit(w: &[u32]) -> bool
     requires { MachineWords w.now × (length (machine_of w.now).stack ≤ SOURCES) }
     ensures { result ≡ question4 (machine_of w.now) }
@@ -158,7 +158,7 @@ fn service_flags(w: &[u32]) -> u32
     flags
 }
 
-// Whether the stack's sources are below 12, those of INT_SERV and all different, and RETI_ is its top: "as many entries as INT_SERV has ones".
+// Whether the stack's sources are below 12, those of INT_SERV and all different, with as many entries as ones, and RETI_ is its top.
 fn stack_fits(w: &[u32]) -> bool
     requires { MachineWords w.now × (length (machine_of w.now).stack ≤ SOURCES) }
     ensures { result ≡ question5 (machine_of w.now) }
@@ -182,7 +182,7 @@ fn stack_fits(w: &[u32]) -> bool
 
 // ---- the questions in order
 
-// The number of the first of questions 3 to 5 that says no, or 0.
+/// The number of the first of questions 3 to 5 that is answered no, or 0.
 pub fn ask_machine(w: &[u32]) -> u32
     requires { MachineWords w.now × (length (machine_of w.now).stack ≤ SOURCES) }
     ensures { read_by result (machine_of w.now) ≡ ask_machine (machine_of w.now) }

@@ -254,7 +254,7 @@ earlier_extended image m b e =
     let bytes = written_extended image m r b in
     record { bytes = bytes; read = rw (← bytes) (read_back r.formed); zeros = no_dividers image m r }
 
--- what the old layout gave of a machine
+-- what the earlier layout gave of a machine
 module _ {m : Machine} (w : WellFormed m) where
   abbrev ns : List ℕ
   ns = section_numbers m ++ []

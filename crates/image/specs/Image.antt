@@ -1,4 +1,4 @@
--- The machine image: numbers in sections, each after its count, as bytes (01 "Machine image"; 02, wish 5). Assumes nothing.
+-- The machine image: numbers in sections, each after its count, as bytes (Manual 8). Assumes nothing.
 use Rattle.std.specs.Prelude.{◌≡◌, Bool, true, ◌&&◌, List, [], ◌∷◌, ◌++◌, reverse, ℕ, zero, suc, ◌+◌, ◌*◌, ◌≤◌, length, get_or, drop, leb, eqb}
 use Rattle.word.specs.Choice.{choose◌then◌else◌}
 use Rattle.codec.specs.Number.{numbers_of, bytes_of}
@@ -27,7 +27,7 @@ section_numbers m =
     PLACES ∷ position_numbers m.position ++ (
     length m.stack ∷ entry_numbers (reverse m.stack))))))
 
--- "The image gains a last section of 2 dividers"
+-- the last section: the two dividers, after their count
 unfoldable pub image_numbers : Machine → List ℕ
 image_numbers m = section_numbers m ++ (TIMERS ∷ m.dividers)
 
@@ -81,7 +81,7 @@ machine_with ds ns =
 unfoldable pub machine_in : (numbers : List ℕ) → Machine
 machine_in ns = machine_with (section (dividers_at ns) TIMERS ns) ns
 
--- bytes up to the stack's last entry: "516 + 16 per entry"
+-- bytes up to the stack's last entry: 516, and 16 for each entry
 abbrev pub bytes_to_stack : (entries : ℕ) → ℕ
 bytes_to_stack n = 4 * STACK_AT + 16 * n
 
@@ -122,7 +122,7 @@ pub record ToStack (image : List ℕ) : Type 0 where
   pub most : behind ≤ LAST
   pub fits : fits_to_stack behind image ≡ true
 
--- "Question 2 reads the longer layout"
+-- question 2, which asks for the present layout
 unfoldable pub question2 : (image : List ℕ) → Bool
 question2 image = let ns = numbers_of image in fits_to_stack LAST image && eqb (count_of (dividers_at ns) ns) TIMERS
 

@@ -1,10 +1,10 @@
--- What an image is to its machine: its length, and that reading and writing undo each other (01 "Machine image"). Assumes nothing.
+-- What an image is to its machine: its length, and that reading and writing undo each other (Manual 8). Assumes nothing.
 use Rattle.std.specs.Prelude.{◌≡◌, true, List, ℕ, ◌+◌, ◌*◌, ◌<◌, length, get_or}
 use Rattle.machine.specs.Machine.{Machine}
 use Rattle.formed.specs.Questions.{well_formed, Accepted}
 use Rattle.image.specs.Image.{write_image, image_bytes, SHORTEST, LONGEST, read_image}
 
--- "Length 516 + 16 per entry", and 12 for the dividers' section
+-- an image's length: 516 bytes, 16 for each entry, and 12 for the dividers' section
 unfoldable pub ImageLength : Type 0
 ImageLength = (m : Machine) → well_formed m ≡ true → length (write_image m) ≡ image_bytes (length m.stack)
 

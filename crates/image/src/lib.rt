@@ -1,4 +1,5 @@
-// The machine image: question 2, reading and writing; and the earlier layout, without dividers. An image becomes the machine's words once; questions 3 to 5 are asked of those.
+//! The machine image (Manual 8): question 2, reading and writing; and the earlier layout, without dividers. An image becomes the machine's words once;
+//! questions 3 to 5 are asked of those.
 #![tactic(auto)]
 
 ghost use Rattle.std.specs.Prelude.{◌≡◌, true, [], ◌∷◌, ◌≤◌, length};
@@ -75,7 +76,7 @@ fn sections_to_stack(image: &[u8], behind: usize) -> bool
     bytes & set1 & set2 & conditions & control & position
 }
 
-// Whether an image has exactly the sections and counts.
+/// Whether bytes have the length and the counts of an image of the present layout (question 2; Manual 8.3).
 pub fn sections_fit(image: &[u8]) -> bool
     ensures { result ≡ question2 image.now }
 {
@@ -86,7 +87,7 @@ pub fn sections_fit(image: &[u8]) -> bool
     }
 }
 
-// The same of an image of the earlier layout.
+/// The same of the earlier layout.
 pub fn earlier_fits(image: &[u8]) -> bool
     ensures { result ≡ earlier2 image.now }
 {
@@ -104,7 +105,8 @@ fn read_with(image: &[u8], w: &mut [u32], first: u32, second: u32)
     machine::set_dividers(w, first, second);
 }
 
-// Reads an image with its sections into the machine's words. Nothing is refused here: question 2 comes before anything lent is written.
+/// Reads an image of the present layout into the machine's words. Nothing is refused here: question 2 comes before any of the caller's memory is
+/// written.
 pub fn read(image: &[u8], w: &mut [u32])
     requires { MachineWords w.old × (question2 image.now ≡ true) }
     ensures { Says w.new (machine_in (numbers_of image.now)) }
@@ -114,7 +116,7 @@ pub fn read(image: &[u8], w: &mut [u32])
     read_with(image, w, first, second);
 }
 
-// The words of an image of the earlier layout; its machine has dividers 0.
+/// The words of an image of the earlier layout; its machine has dividers 0 (Manual 9.4).
 pub fn read_earlier(image: &[u8]) -> [u32; machine::WORDS]
     requires { earlier2 image.now ≡ true }
     ensures { Says result (earlier_in (numbers_of image.now)) }
@@ -126,8 +128,8 @@ pub fn read_earlier(image: &[u8]) -> [u32; machine::WORDS]
 
 // ---- writing
 
-// Writes the machine's image to the front of a buffer with room for it; the further bytes stay. Its numbers are the words up to the last entry, with the sections' counts, which the words
-// need not hold, and the last section behind them.
+/// Writes the machine's image to the front of a buffer with room for it; the further bytes stay. Its numbers are the words up to the last entry, with
+/// the sections' counts, which the words need not hold, and the last section behind them.
 pub fn write(w: &[u32], buffer: &mut [u8])
     requires { MachineWords w.now × (length (machine_of w.now).stack ≤ SOURCES) × (image_bytes (length (machine_of w.now).stack) ≤ length buffer.old) }
     ensures { buffer.new ≡ over (write_image (machine_of w.now)) buffer.old }

@@ -44,7 +44,7 @@ module _ (user read write wide enabled : Bool) where
   unfolding status_of
   status_small = omega (arith, bit_small user, bit_small read, bit_small write, bit_small wide, bit_small enabled)
 
-  -- UM and the set bits are the three lowest
+  -- UM, RSRD and RSWR are the three lowest
   pub status_low : made % 8 ≡ bit_of user + 2 * bit_of read + 4 * bit_of write
   unfolding status_of
   status_low = omega (arith, bit_small user, bit_small read, bit_small write, bit_small wide, bit_small enabled)

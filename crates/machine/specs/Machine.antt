@@ -1,4 +1,4 @@
--- The machine's state (002 section 2; 01 "Machine image"). Assumes nothing.
+-- The machine's state (Manual 1). Assumes nothing.
 use Rattle.std.specs.Prelude.{Bool, true, false, ◌&&◌, List, ℕ, ◌+◌, ◌*◌, get_or, set, eqb}
 use Rattle.word.specs.Choice.{choose◌then◌else◌}
 use Rattle.word.specs.Word.{bit_at, bit_of}
@@ -16,13 +16,13 @@ pub record Machine : Type 0 where
   pub control : List ℕ  -- the control block's registers
   pub position : Position
   pub stack : List Entry  -- top first
-  pub dividers : List ℕ  -- of timer 0 and timer 1 (02, wish 5)
+  pub dividers : List ℕ  -- of timer 0 and timer 1 (Manual 7.1)
 
 -- what a program loads from and stores to, but for the control block: the data memory's cells
 pub record Memory : Type 0 where
   pub cells : List ℕ
 
--- bytes of the longest program, and cells of the largest data memory (01 "Memories")
+-- bytes of the longest program, and cells of the largest data memory (Manual 1)
 abbrev pub MOST_MEMORY : ℕ
 MOST_MEMORY = 65536
 
@@ -70,7 +70,7 @@ unfoldable pub with_register : (second : Bool) (n x : ℕ) → Machine → Machi
 with_register true n x m = with_set2 (set m.set2 n x) m
 with_register false n x m = with_set1 (set m.set1 n x) m
 
--- ---- special registers of set 2 (002 section 2.4), and the link register of both sets
+-- ---- special registers of set 2 (Manual 1.4), and the link register of both sets
 
 abbrev pub PSR : ℕ
 PSR = 29
@@ -87,11 +87,11 @@ psr m = get_or m.set2 PSR 0
 unfoldable pub with_psr : ℕ → Machine → Machine
 with_psr q m = with_set2 (set m.set2 PSR q) m
 
--- register n of a set replaced, but for PSR: "a write to PSR is ignored" (002 section 2.4)
+-- register n of a set replaced, but for PSR: a result for PSR is thrown away (Manual 1.4)
 unfoldable pub written : (second : Bool) (n x : ℕ) → Machine → Machine
 written second n x m = choose second && eqb n PSR then m else with_register second n x m
 
--- ---- the bits of PSR (002 section 2.4)
+-- ---- the bits of PSR (Manual 1.4)
 
 -- UM
 abbrev pub user_mode : (psr : ℕ) → Bool

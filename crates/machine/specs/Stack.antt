@@ -1,5 +1,5 @@
--- The hardware stack of interrupts in service, the control registers that show it, and stores to the control block (01 "One step", "Control
--- block"; 02, wish 6). Assumes nothing.
+-- The stack of interrupts in service, the control registers that show it, and stores to the control block (Manual 5.2, 5.3 and 6.1).
+-- Assumes nothing.
 use Rattle.std.specs.Prelude.{◌≡◌, true, false, List, [], ◌∷◌, map, ℕ, ◌%◌, ◌^◌, set, eqb}
 use Rattle.word.specs.Choice.{choose◌then◌else◌}
 use Rattle.word.specs.Flags.{flags_at, distinct_below}
@@ -45,7 +45,7 @@ pub record StackShown (m : Machine) : Type 0 where
 
 -- ---- stores to the control block
 
--- what RETI_PSR keeps of x: "bits 4..0, and with UM 1 both set bits become 0" (02, wish 6)
+-- what RETI_PSR keeps of x: bits 4..0, with RSRD and RSWR 0 where UM is 1 (Manual 5.3)
 unfoldable pub kept_status : ℕ → ℕ
 kept_status x = choose user_mode x then status_of true false false (wide_words x) (interrupts_enabled x) else x % 32
 
@@ -59,7 +59,7 @@ return_stored n x e =
       c0 = choose eqb n RETI_CR0 then x % 8 else e.c0;
     }
 
--- a store to such a register replaces that part of the top entry; "with an empty stack they are ignored"
+-- a store to such a register replaces that part of the top entry; with an empty stack it is ignored
 unfoldable pub top_stored : (offset x : ℕ) → List Entry → Machine → Machine
 top_stored n x [] m = m
 top_stored n x (e ∷ es) m = with_stack (return_stored n x e ∷ es) m

@@ -1,4 +1,4 @@
--- What is proved of machines: the statements, each with the sentence that it says. Assumes nothing.
+-- What is proved of machines: the statements, each below its meaning in words. Assumes nothing.
 use Rattle.std.specs.Prelude.{◌≡◌, ◌↔◌, true, false, List, [], ◌∷◌, map, ℕ, ◌%◌, ◌<◌, length, get_or}
 use Rattle.word.specs.Flags.{is_among, ones_of, distinct_below}
 use Rattle.machine.specs.Machine.{Machine, SUPER, user_mode}
@@ -7,36 +7,36 @@ use Rattle.machine.specs.Stack.{sources_of, service_flags, kept_status, store_co
 use Rattle.machine.specs.Words.{OFFSETS, SOURCES, DEPTH, MachineWords, machine_of, is_free, Says}
 use Rattle.machine.specs.declared.Entry.{Entry}
 
--- "an answer that these papers leave free is named, with what holds of it": two lists of words say the same machine exactly where they agree at each place that is
--- not free, the count of stack entries among these
+-- free places may hold anything, and no other: two lists of words say the same machine exactly where they agree at each place that is not free, the
+-- count of stack entries among these
 abbrev pub FreePlaces : Type 0
 FreePlaces =
     (words others : List ℕ) → MachineWords words → MachineWords others
     → Says words (machine_of others) ↔ ((place : ℕ) → is_free (get_or words DEPTH 0) place ≡ false → get_or words place 0 ≡ get_or others place 0)
 
--- "Offsets 00h to 2Ch": the table of control registers has a row for each offset
+-- the table of control registers has a row for each offset, 00h to 2Ch
 abbrev pub RegistersCount : Type 0
 RegistersCount = length registers ≡ OFFSETS
 
--- "A short register keeps its low bits ..; CCB_BASE's low byte is stored 0": a store leaves what the register can hold (question 3)
+-- a store leaves what the register can hold: its low bits, and of CCB_BASE the low byte 0 (Manual 5.2; question 3)
 abbrev pub KeptHolds : Type 0
 KeptHolds = (r : Register) (x : ℕ) → is_writable r.access ≡ true → can_hold r (kept_by r x) ≡ true
 
--- "The stack has as many entries as INT_SERV has ones"
+-- the stack has as many entries as INT_SERV has ones (Manual 6.1)
 abbrev pub OnesDepth : Type 0
 OnesDepth = (stack : List Entry) → distinct_below SOURCES (sources_of stack) ≡ true → ones_of SOURCES (service_flags stack) ≡ length stack
 
--- "PSR becomes 0Eh"
+-- the PSR of scall, of exceptions and at reset is 0Eh
 abbrev pub SuperIs : Type 0
 SuperIs = SUPER ≡ 0x0E
 
--- ---- stores to the RETI_ registers (02, wish 6)
+-- ---- stores to the RETI_ registers (Manual 5.3)
 
--- "RETI_PSR keeps bits 4..0, and with UM 1 both set bits become 0, so question 4 still passes": what it keeps is a PSR that questions 3 and 4 accept
+-- what RETI_PSR keeps is a PSR that questions 3 and 4 accept: at most 31, and with UM 1 its RSRD and RSWR are 0
 abbrev pub KeptStatusFits : Type 0
 KeptStatusFits = (x : ℕ) → (kept_status x < 32) × (user_mode (kept_status x) ≡ true → kept_status x % 8 ≡ 1)
 
--- worked by hand
+-- worked examples
 abbrev pub WorkedStatus : Type 0
 WorkedStatus =
     map kept_status (0xFFFF_FFFF ∷ 0xFFFF_FFFE ∷ 0x1F ∷ 0x07 ∷ 0x06 ∷ 0x100 ∷ 0xFF ∷ [])

@@ -99,7 +99,7 @@ machine_of ws =
       dividers = section DIVIDERS TIMERS ws;
     }
 
--- ---- what is free ("an answer that these papers leave free is named, with what holds of it", 01 "Machine image")
+-- ---- what is free: places whose words say nothing of the machine
 
 -- the places of the words for the counts of the sections before the stack
 abbrev pub COUNTS : List ℕ

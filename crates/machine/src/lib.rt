@@ -1,5 +1,6 @@
-// The running machine: one flat slice of words, at fixed places, read and written through these functions.
-// Their contracts speak of the machine that the words say (specs/Words: Says, which leaves the free places open), so that no other crate says where a number lies.
+//! The running machine: one flat slice of words, at fixed places, read and written through these functions.
+//! Their contracts speak of the machine that the words say (specs/Words: Says, which leaves the free places open), so that no other crate says where
+//! a number lies.
 #![tactic(auto)]
 
 ghost use Rattle.std.specs.Prelude.{◌≡◌, true, false, [], ◌∷◌, ◌+◌, ◌*◌, ◌<◌, ◌≤◌, length, get_or, set};
@@ -17,21 +18,21 @@ use isa::Width;
 pub use refusal::Refusal;
 use word::{has_flag, with_flag, without_flag};
 
-// The program position (01 "Machine image"): six numbers.
+/// The position (Manual 1.5): six numbers.
 #[derive(Clone, Copy)]
 pub struct Position {
     pub pc: u32,
-    // 1 while a branch slot waits.
+    /// 1 while a branch slot waits.
     pub slot: u32,
-    // Where control goes after the slot.
+    /// Where control goes after the slot.
     pub target: u32,
-    // 1 while a product is held for mulhi.
+    /// 1 while a product is held for mulhi.
     pub held: u32,
     pub high: u32,
     pub low: u32,
 }
 
-// An entry of the hardware stack.
+/// An entry of the interrupt stack (Manual 6.1).
 #[derive(Clone, Copy)]
 pub struct Entry {
     pub source: u32,
@@ -40,10 +41,10 @@ pub struct Entry {
     pub c0: u32,
 }
 
-// Bytes of the longest program, and cells of the largest data memory.
+/// Bytes of the longest program, and cells of the largest data memory.
 pub const MOST_MEMORY: usize = 65_536;
 
-// How many numbers each section has: a register set, the conditions, the control block, the position.
+/// How many numbers each section has: a register set; then the conditions, the control block and the position.
 pub const REGISTERS: usize = 32;
 
 pub const FLAGS: usize = 8;
@@ -52,26 +53,26 @@ pub const OFFSETS: usize = 45;
 
 pub const PLACES: usize = 6;
 
-// The interrupt sources; the stack has at most one entry of each.
+/// The interrupt sources; the stack has at most one entry of each.
 pub const SOURCES: u32 = 12;
 
-// The timers, each with a divider.
+/// The timers, each with a divider.
 pub const TIMERS: usize = 2;
 
-// Where the sections' numbers begin among the words, each after a word for its count. Register set 1:
+/// Where register set 1 begins among the words; each section stands behind a word for its count.
 pub const SET1: usize = 1;
 
-// Register set 2, and its PSR and SPSR:
+/// Where register set 2 begins; then its PSR and SPSR.
 pub const SET2: usize = SET1 + REGISTERS + 1;
 
 pub const PSR: usize = SET2 + 29;
 
 const SAVED_PSR: usize = SET2 + SPSR as usize;
 
-// Condition registers:
+/// Where the condition registers begin.
 pub const CONDITIONS: usize = SET2 + REGISTERS + 1;
 
-// The control block, and the registers of it that show the stack:
+/// Where the control block begins; then the registers of it that show the stack.
 pub const CONTROL: usize = CONDITIONS + FLAGS + 1;
 
 const SERVED: usize = CONTROL + INT_SERV as usize;
@@ -82,7 +83,7 @@ const RETURN_STATUS: usize = CONTROL + RETI_PSR as usize;
 
 const RETURN_FLAGS: usize = CONTROL + RETI_CR0 as usize;
 
-// The program position:
+/// Where the position begins; then its six numbers.
 pub const POSITION: usize = CONTROL + OFFSETS + 1;
 
 const PC: usize = POSITION;
@@ -97,17 +98,17 @@ const HIGH: usize = POSITION + 4;
 
 const LOW: usize = POSITION + 5;
 
-// The count of stack entries, and the entries, four words each, the top last:
+/// Where the count of stack entries stands; then the entries, four words each, the top last.
 pub const DEPTH: usize = POSITION + PLACES;
 
 pub const ENTRIES: usize = DEPTH + 1;
 
-// The dividers, behind the words for a full stack and a word for their count:
+/// Where the dividers begin, behind the words for a full stack and a word for their count; then the number of all words.
 pub const DIVIDERS: usize = ENTRIES + 4 * SOURCES as usize + 1;
 
 pub const WORDS: usize = DIVIDERS + TIMERS;
 
-// The offsets of control registers (002 section 2.9); the vectors of the 12 sources follow each other.
+/// The offsets of control registers (Manual 5.1); the vectors of the 12 sources follow each other.
 pub const CCB_BASE: u32 = 0x00;
 
 pub const INT_VECTORS: u32 = 0x04;
@@ -156,7 +157,7 @@ pub const RETI_PSR: u32 = 0x29;
 
 pub const RETI_CR0: u32 = 0x2A;
 
-// The bits of PSR and SPSR (002 section 2.4).
+/// The bits of PSR and SPSR (Manual 1.4).
 pub const UM: u32 = 0;
 
 pub const RSRD: u32 = 1;
@@ -167,14 +168,14 @@ pub const IL: u32 = 3;
 
 pub const IE: u32 = 4;
 
-// Special registers of set 2, and the link register of both sets.
+/// Special registers of set 2, and the link register of both sets.
 pub const SPSR: u32 = 30;
 
 pub const LINK: u32 = 31;
 
 // ---- registers
 
-// Where register n of the set that a bit of PSR names lies.
+// Where register n lies, of set 2 if `second` (a bit of PSR), else of set 1.
 fn place(second: bool, n: u32) -> usize
     requires { n < REGISTERS }
     ensures { result ≡ start_by second + n }
@@ -182,7 +183,7 @@ fn place(second: bool, n: u32) -> usize
     SET1 + second as usize * (SET2 - SET1) + n as usize
 }
 
-// Register n of the set that a bit of PSR names.
+/// Register n, below 32, of set 2 if `second` (a bit of PSR), else of set 1.
 pub fn register(w: &[u32], second: bool, n: u32) -> u32
     requires { MachineWords w.now × (n < REGISTERS) }
     ensures { result ≡ get_or (set_by second (machine_of w.now)) n 0 }
@@ -190,7 +191,7 @@ pub fn register(w: &[u32], second: bool, n: u32) -> u32
     w[place(second, n)]
 }
 
-// The program status register.
+/// The program status register.
 pub fn psr(w: &[u32]) -> u32
     requires { MachineWords w.now }
     ensures { result ≡ psr (machine_of w.now) }
@@ -208,7 +209,7 @@ fn status_bit(w: &[u32], n: u32) -> bool
     has_flag(psr(w), n)
 }
 
-// UM: user mode.
+/// UM: user mode.
 pub fn user_mode(w: &[u32]) -> bool
     requires { MachineWords w.now }
     ensures { result ≡ user_mode (psr (machine_of w.now)) }
@@ -216,7 +217,7 @@ pub fn user_mode(w: &[u32]) -> bool
     status_bit(w, UM)
 }
 
-// RSRD: registers are read from set 2.
+/// RSRD: registers are read from set 2.
 pub fn reads_set2(w: &[u32]) -> bool
     requires { MachineWords w.now }
     ensures { result ≡ reads_set2 (psr (machine_of w.now)) }
@@ -224,7 +225,7 @@ pub fn reads_set2(w: &[u32]) -> bool
     status_bit(w, RSRD)
 }
 
-// RSWR: registers are written in set 2.
+/// RSWR: registers are written in set 2.
 pub fn writes_set2(w: &[u32]) -> bool
     requires { MachineWords w.now }
     ensures { result ≡ writes_set2 (psr (machine_of w.now)) }
@@ -232,7 +233,7 @@ pub fn writes_set2(w: &[u32]) -> bool
     status_bit(w, RSWR)
 }
 
-// IL: words have 32 bits.
+/// IL: words have 32 bits.
 pub fn wide_words(w: &[u32]) -> bool
     requires { MachineWords w.now }
     ensures { result ≡ wide_words (psr (machine_of w.now)) }
@@ -240,7 +241,7 @@ pub fn wide_words(w: &[u32]) -> bool
     status_bit(w, IL)
 }
 
-// The width of its instruction words.
+/// The width of instruction words, by IL.
 #[tactic(auto, unfolding(crate::specs::Machine::width_of))]
 pub fn width(w: &[u32]) -> Width
     requires { MachineWords w.now }
@@ -249,7 +250,7 @@ pub fn width(w: &[u32]) -> Width
     Width::from(wide_words(w))
 }
 
-// IE: interrupts are enabled.
+/// IE: interrupts are enabled.
 pub fn interrupts_enabled(w: &[u32]) -> bool
     requires { MachineWords w.now }
     ensures { result ≡ interrupts_enabled (psr (machine_of w.now)) }
@@ -257,14 +258,14 @@ pub fn interrupts_enabled(w: &[u32]) -> bool
     status_bit(w, IE)
 }
 
-// A status by its bits.
+/// A status by its bits: UM, RSRD, RSWR, IL, IE.
 pub fn status(user: bool, read: bool, write: bool, wide: bool, enabled: bool) -> u32
     ensures { result ≡ status_of user read write wide enabled }
 {
     user as u32 + 2 * read as u32 + 4 * write as u32 + 8 * wide as u32 + 16 * enabled as u32
 }
 
-// The status of scall and of exceptions: super user, set 2, 32-bit words, interrupts disabled.
+/// The status of scall and of exceptions, 0Eh: super user, set 2, 32-bit words, interrupts disabled.
 pub fn super_status() -> u32
     ensures { result ≡ SUPER }
 {
@@ -273,7 +274,7 @@ pub fn super_status() -> u32
 
 // ---- condition registers
 
-// Condition register n.
+/// Condition register n, below 8.
 pub fn condition(w: &[u32], n: u32) -> u32
     requires { MachineWords w.now × (n < FLAGS) }
     ensures { result ≡ get_or (machine_of w.now).conditions n 0 }
@@ -281,7 +282,7 @@ pub fn condition(w: &[u32], n: u32) -> u32
     w[CONDITIONS + n as usize]
 }
 
-// Register n of the set that a bit of PSR names takes x.
+/// Register n, below 32, of set 2 if `second`, else of set 1, takes x.
 pub fn set_register(w: &mut [u32], second: bool, n: u32, x: u32)
     requires { MachineWords w.old × (n < REGISTERS) }
     ensures { Says w.new (with_register second n x (machine_of w.old)) }
@@ -289,7 +290,7 @@ pub fn set_register(w: &mut [u32], second: bool, n: u32, x: u32)
     w[place(second, n)] = x;
 }
 
-// Register n of the set that a bit of PSR names takes x; a write to PSR is ignored.
+/// The same, but a write to PSR is ignored (Manual 1.4).
 pub fn write_register(w: &mut [u32], second: bool, n: u32, x: u32)
     requires { MachineWords w.old × (n < REGISTERS) }
     ensures { Says w.new (written second n x (machine_of w.old)) }
@@ -300,7 +301,7 @@ pub fn write_register(w: &mut [u32], second: bool, n: u32, x: u32)
     }
 }
 
-// The program status register takes q.
+/// The program status register takes q.
 pub fn set_psr(w: &mut [u32], q: u32)
     requires { MachineWords w.old }
     ensures { Says w.new (with_psr q (machine_of w.old)) }
@@ -308,7 +309,7 @@ pub fn set_psr(w: &mut [u32], q: u32)
     w[PSR] = q;
 }
 
-// Condition register n takes x.
+/// Condition register n, below 8, takes x.
 pub fn set_condition(w: &mut [u32], n: u32, x: u32)
     requires { MachineWords w.old × (n < FLAGS) }
     ensures { Says w.new (with_conditions (set (machine_of w.old).conditions n x) (machine_of w.old)) }
@@ -318,7 +319,7 @@ pub fn set_condition(w: &mut [u32], n: u32, x: u32)
 
 // ---- the control block
 
-// The control register at an offset of the block's registers.
+/// The control register at offset n, below 45.
 pub fn control(w: &[u32], n: u32) -> u32
     requires { MachineWords w.now × (n < OFFSETS) }
     ensures { result ≡ control_at (machine_of w.now) n }
@@ -326,7 +327,7 @@ pub fn control(w: &[u32], n: u32) -> u32
     w[CONTROL + n as usize]
 }
 
-// What a load of the control block gives at an offset.
+/// What a load of the control block gives at offset n; 0 beyond its registers (Manual 5.2).
 pub fn control_at(w: &[u32], n: u32) -> u32
     requires { MachineWords w.now }
     ensures { result ≡ control_at (machine_of w.now) n }
@@ -338,7 +339,7 @@ pub fn control_at(w: &[u32], n: u32) -> u32
     }
 }
 
-// The control register at an offset takes x.
+/// The control register at offset n, below 45, takes x, whatever a store would keep of it.
 pub fn set_control(w: &mut [u32], n: u32, x: u32)
     requires { MachineWords w.old × (n < OFFSETS) }
     ensures { Says w.new (with_control (set (machine_of w.old).control n x) (machine_of w.old)) }
@@ -346,7 +347,7 @@ pub fn set_control(w: &mut [u32], n: u32, x: u32)
     w[CONTROL + n as usize] = x;
 }
 
-// The largest number of the bits of the control register at an offset.
+/// The largest number of the bits of the control register at an offset (Manual 5.1).
 pub fn limit(offset: u32) -> u32
     ensures { result ≡ largest (register_at offset) }
 {
@@ -390,7 +391,7 @@ fn kept(offset: u32, x: u32) -> u32
     if offset == 0 { bits / 256 * 256 } else { bits }
 }
 
-// Whether bounds protect an address.
+/// Whether bounds protect an address: low ≤ address ≤ high (Manual 1.3).
 pub fn protected(low: u32, high: u32, address: u32) -> bool
     ensures { result ≡ within low high address }
 {
@@ -399,7 +400,7 @@ pub fn protected(low: u32, high: u32, address: u32) -> bool
 
 // ---- the position
 
-// The program counter.
+/// The program counter.
 pub fn pc(w: &[u32]) -> u32
     requires { MachineWords w.now }
     ensures { result ≡ (machine_of w.now).position.pc }
@@ -407,7 +408,7 @@ pub fn pc(w: &[u32]) -> u32
     w[PC]
 }
 
-// 1 while a branch slot waits.
+/// 1 while a branch slot waits.
 pub fn slot(w: &[u32]) -> u32
     requires { MachineWords w.now }
     ensures { result ≡ (machine_of w.now).position.slot }
@@ -415,7 +416,7 @@ pub fn slot(w: &[u32]) -> u32
     w[SLOT]
 }
 
-// Where control goes after the slot.
+/// Where control goes after the slot.
 pub fn target(w: &[u32]) -> u32
     requires { MachineWords w.now }
     ensures { result ≡ (machine_of w.now).position.target }
@@ -423,7 +424,7 @@ pub fn target(w: &[u32]) -> u32
     w[TARGET]
 }
 
-// 1 while a product is held.
+/// 1 while a product is held.
 pub fn held(w: &[u32]) -> u32
     requires { MachineWords w.now }
     ensures { result ≡ (machine_of w.now).position.held }
@@ -431,7 +432,7 @@ pub fn held(w: &[u32]) -> u32
     w[HELD]
 }
 
-// The high word of the held product.
+/// The high half of the held product.
 pub fn high(w: &[u32]) -> u32
     requires { MachineWords w.now }
     ensures { result ≡ (machine_of w.now).position.high }
@@ -439,7 +440,7 @@ pub fn high(w: &[u32]) -> u32
     w[HIGH]
 }
 
-// Its low word.
+// Its low half.
 fn low(w: &[u32]) -> u32
     requires { MachineWords w.now }
     ensures { result ≡ (machine_of w.now).position.low }
@@ -447,7 +448,7 @@ fn low(w: &[u32]) -> u32
     w[LOW]
 }
 
-// The program position.
+/// The position.
 pub fn position_of(w: &[u32]) -> Position
     requires { MachineWords w.now }
     ensures { result ≡ (machine_of w.now).position }
@@ -462,7 +463,7 @@ pub fn position_of(w: &[u32]) -> Position
     }
 }
 
-// The program position takes p.
+/// The position takes p.
 pub fn set_position(w: &mut [u32], p: Position)
     requires { MachineWords w.old }
     ensures { Says w.new (with_position p (machine_of w.old)) }
@@ -475,9 +476,9 @@ pub fn set_position(w: &mut [u32], p: Position)
     w[LOW] = p.low;
 }
 
-// ---- the hardware stack
+// ---- the interrupt stack
 
-// The number of interrupts in service.
+/// The number of interrupts in service, which is that of stack entries.
 pub fn depth(w: &[u32]) -> u32
     requires { MachineWords w.now }
     ensures { result ≡ length (machine_of w.now).stack }
@@ -485,7 +486,7 @@ pub fn depth(w: &[u32]) -> u32
     w[DEPTH]
 }
 
-// Entry i of the stack, counted from the bottom.
+/// Entry i, below 12, of the stack, counted from 0 at the bottom.
 pub fn entry_at(w: &[u32], i: usize) -> Entry
     requires { MachineWords w.now × (i < SOURCES) }
     ensures { result ≡ entry_of (section (ENTRIES + 4 * i) 4 w.now) }
@@ -511,7 +512,7 @@ fn put_entry(w: &mut [u32], i: usize, e: Entry)
     w[at + 3] = e.c0;
 }
 
-// What the RETI_ registers show of the stack: its top, or 1, 9, 0 when it is empty.
+/// What the RETI_ registers show of the stack: its top, or 1, 9, 0 when it is empty (Manual 5.3).
 pub fn top(w: &[u32]) -> Entry
     requires { MachineWords w.now × (length (machine_of w.now).stack ≤ SOURCES) }
     ensures { result ≡ shown_top (machine_of w.now).stack }
@@ -540,7 +541,7 @@ fn show(w: &mut [u32], flags: u32, e: Entry)
     w[RETURN_FLAGS] = e.c0;
 }
 
-// An entry goes on the stack, and the control block shows it.
+/// An entry, of a source below 12 that has none on the stack, goes on top, and the control block shows it.
 pub fn push(w: &mut [u32], e: Entry)
     requires machine_words { MachineWords w.old }
     requires flags { control_at (machine_of w.old) INT_SERV ≡ service_flags (machine_of w.old).stack }
@@ -554,7 +555,7 @@ pub fn push(w: &mut [u32], e: Entry)
     show(w, flags, e);
 }
 
-// The top leaves the stack, and the control block shows the rest.
+/// The top leaves the stack, which must not be empty, and the control block shows the rest.
 pub fn pop(w: &mut [u32])
     requires machine_words { MachineWords w.old }
     requires flags { control_at (machine_of w.old) INT_SERV ≡ service_flags (machine_of w.old).stack }
@@ -584,7 +585,7 @@ fn replaces_top(offset: u32) -> bool
     }
 }
 
-// What RETI_PSR keeps of x: bits 4..0, and in user mode both set bits 0.
+// What RETI_PSR keeps of x: bits 4..0, with RSRD and RSWR 0 where UM is 1 (Manual 5.3).
 fn kept_status(x: u32) -> u32
     ensures { result ≡ kept_status x }
 {
@@ -629,7 +630,7 @@ fn store_top(w: &mut [u32], offset: u32, x: u32)
     }
 }
 
-// A store of x to the control block at an offset.
+/// A store of x to the control block at an offset; read-only registers, and all beyond 2Ch, ignore it (Manual 5.2 and 5.3).
 pub fn store_control(w: &mut [u32], offset: u32, x: u32)
     requires { MachineWords w.old × StackShown (machine_of w.old) }
     ensures { Says w.new (store_control offset x (machine_of w.old)) }
@@ -645,7 +646,7 @@ pub fn store_control(w: &mut [u32], offset: u32, x: u32)
 
 // ---- dividers
 
-// The divider of timer k.
+/// The divider of timer k, 0 or 1.
 pub fn divider(w: &[u32], k: u32) -> u32
     requires { MachineWords w.now × (k < TIMERS) }
     ensures { result ≡ get_or (machine_of w.now).dividers k 0 }
@@ -653,7 +654,7 @@ pub fn divider(w: &[u32], k: u32) -> u32
     w[DIVIDERS + k as usize]
 }
 
-// The divider of timer k takes x.
+/// The divider of timer k, 0 or 1, takes x.
 pub fn set_divider(w: &mut [u32], k: u32, x: u32)
     requires { MachineWords w.old × (length (machine_of w.old).stack ≤ SOURCES) × (k < TIMERS) }
     ensures { Says w.new (with_dividers (set (machine_of w.old).dividers k x) (machine_of w.old)) }
@@ -661,7 +662,7 @@ pub fn set_divider(w: &mut [u32], k: u32, x: u32)
     w[DIVIDERS + k as usize] = x;
 }
 
-// The dividers of timer 0 and timer 1 take these.
+/// The dividers of timer 0 and timer 1 take these.
 pub fn set_dividers(w: &mut [u32], first: u32, second: u32)
     requires { MachineWords w.old × (length (machine_of w.old).stack ≤ SOURCES) }
     ensures { Says w.new (with_dividers (first ∷ second ∷ []) (machine_of w.old)) }
@@ -672,7 +673,7 @@ pub fn set_dividers(w: &mut [u32], first: u32, second: u32)
 
 // ---- reset
 
-// The control registers at reset (002 section 2.9), by offset.
+// The control registers at reset (Manual 5.1), by offset.
 const RESET: [u32; OFFSETS] = [
     0x0001_0000, // CCB_BASE
     0x0001_0100, // PCB_BASE
@@ -721,7 +722,7 @@ const RESET: [u32; OFFSETS] = [
     1, // CORE_VER_ID
 ];
 
-// Words that say the machine at reset.
+/// Words that say the machine at reset (Manual 4.12).
 pub fn reset() -> [u32; WORDS]
     ensures { Says result resetOf }
 {

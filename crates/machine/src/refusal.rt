@@ -13,7 +13,7 @@ pub enum Refusal {
     NotAnImage,
     /// A number that its register cannot hold.
     NumberUnfit,
-    /// A user-mode status whose set bits are not both 0.
+    /// A status with UM 1 whose RSRD and RSWR are not both 0.
     ModeUnfit,
     /// An interrupt stack that the control block does not show.
     StackUnfit,

@@ -1,4 +1,4 @@
--- One clock of the machine: both timers (02, wish 5). Assumes nothing.
+-- One clock of the machine: both timers (Manual 4.11 and 7). Assumes nothing.
 use Rattle.std.specs.Prelude.{ℕ, ◌+◌, ◌*◌, Bool, true, false, slice_index, slice_set}
 use Rattle.word.specs.Choice.{choose◌then◌else◌}
 use Rattle.word.specs.Word.{field_of}
@@ -10,7 +10,7 @@ use Rattle.timer.specs.declared.Timer.{Timer}
 
 -- ---- timer k, 0 or 1, of a machine
 
--- bits 15..0 of TMR_CONF are timer 0's, 31..16 timer 1's (002 table 3.1)
+-- bits 15..0 of TMR_CONF are timer 0's, 31..16 timer 1's (Manual 7.1)
 abbrev pub configuration_of : (k : ℕ) → Machine → ℕ
 configuration_of k m = field_of (record { place = 16 * k; width = 16 }) (control_at m TMR_CONF)
 
@@ -42,7 +42,7 @@ pub record Clocked : Type 0 where
 abbrev pub goes_on : Machine → Clocked
 goes_on m = record { machine = m; resets = false }
 
--- "registers and conditions at 002's reset values or else 0, section 2.9's values, PC 0, slot and product gone, stack and pending empty, dividers 0"
+-- the watchdog's reset: the whole machine as at reset, dividers 0 too; memories stay (Manual 4.12)
 abbrev pub was_reset : Clocked
 was_reset = record { machine = reset; resets = true }
 
@@ -50,7 +50,7 @@ was_reset = record { machine = reset; resets = true }
 unfoldable pub leaving : Machine → (resets : Bool) → Clocked
 leaving m r = choose r then was_reset else goes_on m
 
--- a tick that left the count equal to the maximum "requests INTN if GINT is 1, or with WDOG 1 resets the core instead"
+-- after a tick that left the count equal to the maximum: with WDOG 1 the core is reset, else with GINT 1 source INTN is requested (Manual 7.3)
 unfoldable pub notified : (configuration : ℕ) → Machine → Clocked
 notified c m =
     choose watchdog c then was_reset
@@ -65,7 +65,7 @@ clock_one k m =
 
 -- ---- the clock
 
--- "Timer 0 goes first, and a reset ends that clock"
+-- timer 0 is clocked before timer 1; if it resets the core, timer 1 is not clocked (Manual 4.12)
 unfoldable pub clock : Machine → Clocked
 clock m =
     let first = clock_one 0 m in

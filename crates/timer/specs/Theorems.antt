@@ -1,4 +1,4 @@
--- What is proved of timers and of the clock: the statements, each with the sentence that it says. Assumes nothing.
+-- What is proved of timers and of the clock: the statements, each below its meaning in words (Manual 7). Assumes nothing.
 use Rattle.std.specs.Prelude.{◌≡◌, ℕ, zero, suc, ◌+◌, ◌%◌, ◌^◌, ◌≤◌, true, false, ◌≢◌, List, [], ◌∷◌, length, ◌==◌}
 use Rattle.std.proofs.Math.ListN.{get_elem?}
 use Rattle.word.specs.Flags.{is_among}
@@ -11,7 +11,7 @@ use Rattle.timer.specs.declared.Timer.{Timer}
 
 -- ---- one timer
 
--- "EN 0 zeroes the divider without a tick"
+-- with EN 0 the divider becomes 0, without a tick
 abbrev pub Disabled : Type 0
 Disabled = (c : ℕ) (t : Timer) → enabled c ≡ false → clock_timer c t ≡ ticked_to (timer_of t.count t.maximum 0) false
 
@@ -24,8 +24,8 @@ unfoldable pub clocks_of : (n configuration : ℕ) → Timer → Timer
 clocks_of zero c t = t
 clocks_of (suc n) c t = (clock_timer c (clocks_of n c t)).timer
 
--- "timer will be incremented [DIV] + 1 clock cycles after enabling it" (002 table 3.2): up to clock DIV nothing but the divider counts, from 0; the next
--- clock takes it back to 0 and ticks
+-- a timer ticks first at clock DIV + 1 after it is enabled (Manual 7.2): up to clock DIV nothing but the divider counts, from 0; the next clock takes it
+-- back to 0 and ticks
 pub record Divided (c n m : ℕ) : Type 0 where
   pub counts : (k : ℕ) → k ≤ divisor c → clocks_of k c (timer_of n m 0) ≡ timer_of n m k
   pub ticks : clocks_of (divisor c + 1) c (timer_of n m 0) ≡ timer_of (next_count (continuous c) m n) m 0
@@ -33,17 +33,17 @@ pub record Divided (c n m : ℕ) : Type 0 where
 abbrev pub FirstTick : Type 0
 FirstTick = (c n m : ℕ) → enabled c ≡ true → Divided c n m
 
--- "at DIV or above goes back to 0": the clock of a timer whose divider is there, by its count and its maximum
+-- a clock of a timer whose divider is at DIV or above takes it to 0 and ticks, by count and maximum (Manual 7.2)
 pub record Tick (c n m d : ℕ) : Type 0 where
-  -- "At the maximum, .. CONT 0 stays"; "A CONT 0 count already at the maximum does nothing"
+  -- at the maximum, with CONT 0, the count stays, and that is not reaching it
   pub stays : continuous c ≡ false → n ≡ m → clock_timer c (timer_of n m d) ≡ ticked_to (timer_of n m 0) false
-  -- "At the maximum, CONT 1 sets zero"
+  -- at the maximum, with CONT 1, the count becomes 0
   pub restarts : continuous c ≡ true → n ≡ m → m ≢ 0 → clock_timer c (timer_of n m d) ≡ ticked_to (timer_of 0 m 0) false
-  -- "(CONT 1, count and maximum 0: every tick)"
+  -- with CONT 1, and count and maximum 0, every tick reaches the maximum
   pub every_tick : continuous c ≡ true → n ≡ 0 → m ≡ 0 → clock_timer c (timer_of n m d) ≡ ticked_to (timer_of 0 m 0) true
-  -- "elsewhere the count wraps"; "A tick that leaves the count equal to the maximum"
+  -- elsewhere the count grows by one, modulo 2 ^ 32, and reaches the maximum if it is then equal to it
   pub counts : n ≢ m → clock_timer c (timer_of n m d) ≡ ticked_to (timer_of ((n + 1) % 2 ^ 32) m 0) ((n + 1) % 2 ^ 32 == m)
-  -- "from FFFFFFFFh to 0"
+  -- it goes from FFFFFFFFh to 0
   pub wraps : n ≡ 0xFFFF_FFFF → n ≢ m → clock_timer c (timer_of n m d) ≡ ticked_to (timer_of 0 m 0) (0 == m)
 
 abbrev pub Ticks : Type 0
@@ -57,7 +57,7 @@ IdleClock =
     (m : Machine) → length m.dividers ≡ TIMERS → enabled (configuration_of 0 m) ≡ false → enabled (configuration_of 1 m) ≡ false
     → clock m ≡ goes_on (with_dividers ZEROS m)
 
--- "resets the core": to one machine, whatever it was
+-- a clock that resets the core leaves the machine at reset, whatever it was (Manual 4.12)
 abbrev pub ResetClock : Type 0
 ResetClock = (m : Machine) → (clock m).resets ≡ true → (clock m).machine ≡ reset
 

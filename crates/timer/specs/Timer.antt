@@ -1,11 +1,11 @@
--- One clock of a timer (002 section 3; 02, wish 5). Assumes nothing.
+-- One clock of a timer (Manual 7). Assumes nothing.
 use Rattle.std.specs.Prelude.{ℕ, ◌+◌, ◌%◌, ◌^◌, Bool, false, not, ◌&&◌, ◌==◌, nat_lt}
 use Rattle.word.specs.Choice.{choose◌then◌else◌}
 use Rattle.word.specs.Word.{bit_at, field_of, bits◌to◌}
 use Rattle.timer.specs.declared.Timer.{Timer}
 use Rattle.timer.specs.declared.Ticked.{Ticked}
 
--- ---- a timer's half of TMR_CONF (002 table 3.2)
+-- ---- a timer's half of TMR_CONF (Manual 7.1)
 
 -- EN
 abbrev pub enabled : (configuration : ℕ) → Bool
@@ -23,7 +23,7 @@ interrupts c = bit_at 13 c
 abbrev pub watchdog : (configuration : ℕ) → Bool
 watchdog c = bit_at 12 c
 
--- INTN, as a source: 0 is EXT_INT0, and "4 to 11 EXT" (01 "One step")
+-- INTN, as a source: 0 is EXT_INT0, source 4 (Manual 7.3)
 abbrev pub source_of : (configuration : ℕ) → ℕ
 source_of c = 4 + field_of (bits 10 to 8) c
 
@@ -33,11 +33,11 @@ divisor c = field_of (bits 7 to 0) c
 
 -- ---- a tick
 
--- "At the maximum, CONT 1 sets zero and CONT 0 stays; elsewhere the count wraps from FFFFFFFFh to 0"
+-- at the maximum the count becomes 0 with CONT 1, and stays with CONT 0; elsewhere it grows by one, modulo 2 ^ 32 (Manual 7.2)
 unfoldable pub next_count : (continuous : Bool) (maximum count : ℕ) → ℕ
 next_count cont m n = choose n == m then (choose cont then 0 else n) else (n + 1) % 2 ^ 32
 
--- "A tick that leaves the count equal to the maximum"; "A CONT 0 count already at the maximum does nothing"
+-- whether a tick reaches the maximum: the count after it is the maximum; not so with CONT 0 where it was there before
 unfoldable pub reaches : (continuous : Bool) (maximum count : ℕ) → Bool
 reaches cont m n = not (n == m && not cont) && next_count cont m n == m
 
@@ -50,7 +50,7 @@ timer_of n m d = record { count = n; maximum = m; divider = d }
 abbrev pub ticked_to : Timer → (reached : Bool) → Ticked
 ticked_to t r = record { timer = t; reached = r }
 
--- "EN 0 zeroes the divider without a tick"; "A divider counts 0 to DIV, and at DIV or above goes back to 0; on going back to 0 the timer ticks"
+-- with EN 0 the divider becomes 0, without a tick; below DIV it grows by one; at DIV or above it becomes 0, and the timer ticks (Manual 7.2)
 unfoldable pub clock_timer : (configuration : ℕ) → Timer → Ticked
 clock_timer c t =
     choose not (enabled c) then ticked_to (timer_of t.count t.maximum 0) false

@@ -1,4 +1,4 @@
-// Timers and their clock (002 section 3; 02, wish 5).
+//! Timers and their clock (Manual 7).
 #![tactic(auto)]
 
 ghost use Rattle.std.specs.Prelude.{◌≡◌, ◌<◌, ◌≤◌, length};
@@ -10,7 +10,7 @@ ghost use Rattle.timer.specs.Clock.{counted, leaving, notified, clock_one, clock
 use machine::{INT_PEND, TMR_CONF, TMR0_CNT, TMR0_MAX_CNT};
 use word::has_flag;
 
-// A timer.
+/// A timer (Manual 7.1).
 #[derive(Clone, Copy)]
 pub struct Timer {
     pub count: u32,
@@ -18,7 +18,7 @@ pub struct Timer {
     pub divider: u32,
 }
 
-// A timer after a clock, and whether a tick left its count equal to the maximum.
+/// A timer after a clock, and whether a tick left its count equal to the maximum.
 #[derive(Clone, Copy)]
 pub struct Ticked {
     pub timer: Timer,
@@ -166,7 +166,8 @@ fn clock_both(w: &mut [u32])
     }
 }
 
-// One clock of both timers: with neither enabled, both dividers become 0. `clock_both` is called at two places, so that it is not inlined into the loop of steps, where it would cost every step one or two instructions.
+/// One clock of both timers (Manual 4.11): with neither enabled, both dividers become 0. `clock_both` is called at two places, so that it is not
+/// inlined into the loop of steps, where it would cost every step one or two instructions.
 pub fn clock(w: &mut [u32])
     requires { MachineWords w.old × (length (machine_of w.old).stack ≤ SOURCES) }
     ensures { Says w.new (clock (machine_of w.old)).machine }
