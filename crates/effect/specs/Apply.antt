@@ -15,15 +15,15 @@ use Rattle.word.specs.Word.{bit_at}
 
 -- ---- registers; numbers of registers have five bits, of condition registers three, and each keeps its low bits
 
--- register d of the set that RSWR names takes x
+-- register d of the set that RSWR selects takes x (Manual 1.4)
 unfoldable pub write_register : (d x : ℕ) → Machine → Machine
 write_register d x m = written (writes_set2 (psr m)) (d % 32) (x % 2 ^ 32) m
 
--- condition register c takes flags: Z × 4 + N × 2 + C (01 "Instruction words")
+-- condition register c takes flags: Z × 4 + N × 2 + C (Manual 1.4)
 unfoldable pub write_flags : (c flags : ℕ) → Machine → Machine
 write_flags c flags m = with_conditions (slice_set m.conditions (c % 8) (flags % 8)) m
 
--- n condition registers from their places in a word: Cn at bits 3n+2..3n (01 "Instruction words", of rcon)
+-- n condition registers from their places in a word: Cn at bits 3n+2..3n (Manual 3.2, rcon)
 unfoldable pub unpacked : (n word : ℕ) → List ℕ
 unpacked zero x = []
 unpacked (suc n) x = x % 8 ∷ unpacked n (x / 8)
@@ -38,7 +38,7 @@ words_on count m = (m.position.pc + count * word_bytes (width_of (psr m))) % 2 ^
 unfoldable pub next_pc : Machine → ℕ
 next_pc m = choose m.position.slot == 1 then m.position.target else words_on 1 m
 
--- PC goes on; the slot is used up and a product dropped (01: "Every step but an executed muls, mulu, mulus or muli drops it")
+-- PC goes on; the slot is used up and a held product is gone (Manual 4)
 unfoldable pub advance : Machine → Machine
 advance m = with_position (position_at (next_pc m)) m
 
@@ -47,34 +47,35 @@ unfoldable pub advance_holding : (high low : ℕ) → Machine → Machine
 advance_holding high low m =
     with_position (record { pc = next_pc m; slot = 0; target = 0; held = 1; high = high % 2 ^ 32; low = low % 2 ^ 32 }) m
 
--- a taken jump: the next word is its slot, and the target comes after that
+-- a taken jump: the next word is its slot, and the target comes after that (Manual 4.8)
 unfoldable pub jump_to : (target : ℕ) → Machine → Machine
 jump_to target m = with_position (record { pc = next_pc m; slot = 1; target = target % 2 ^ 32; held = 0; high = 0; low = 0 }) m
 
 -- ---- changes of mode
 
--- an exception: EXCEPTION_CS, _PC, _PSR take the code, the instruction's address and the PSR before; PC is EXCEP_ADDR, slot dropped (01 "One step")
+-- an exception: EXCEPTION_CS, EXCEPTION_PC and EXCEPTION_PSR take the code, the instruction's address and the PSR before; PSR becomes 0Eh and PC
+-- EXCEP_ADDR; slot and product are gone (Manual 4.9)
 unfoldable pub raise : (code : ℕ) → Machine → Machine
 raise code m =
     with_position (position_at (control_at m EXCEP_ADDR))
     (with_psr SUPER
     (with_control (slice_set (slice_set (slice_set m.control EXCEPTION_CS (code % 256)) EXCEPTION_PC m.position.pc) EXCEPTION_PSR (psr m)) m))
 
--- scall: the link PR31 is two words on, SPSR takes PSR, PSR becomes 0Eh; PC is SYSTEM_ADDR (002 section 6.2)
+-- scall: PR31 takes the address two words on, SPSR takes PSR, PSR becomes 0Eh, and PC SYSTEM_ADDR (Manual 3.2)
 unfoldable pub system_call : Machine → Machine
 system_call m =
     with_position (position_at (control_at m SYSTEM_ADDR))
     (with_psr SUPER
     (with_set2 (slice_set (slice_set m.set2 SPSR (psr m)) LINK (words_on 2 m)) m))
 
--- retu: PC from PR31; IE, IL from SPSR; user mode, set 1
+-- retu: PC from PR31; IE and IL from SPSR; user mode, set 1 (Manual 3.2)
 unfoldable pub user_return : Machine → Machine
 user_return m =
     let saved = slice_index_or m.set2 SPSR 0 in
     with_position (position_at (slice_index m.set2 LINK))
     (with_psr (status_of true false false (wide_words saved) (interrupts_enabled saved)) m)
 
--- reti pops: PC, PSR and C0 come back from the stack's top, and its source's flag is cleared
+-- reti: PC, PSR and C0 come back from the top entry, which is removed, and its source's flag is cleared (Manual 6.2)
 unfoldable pub interrupt_return : Machine → Machine
 interrupt_return m =
     let e = shown_top m.stack in
@@ -83,19 +84,19 @@ interrupt_return m =
     (with_conditions (slice_set m.conditions 0 e.c0)
     (with_stack (popped m.stack) m)))
 
--- di and ei: IE is 0 or 1
+-- di and ei: IE becomes 0 or 1 (Manual 3.2)
 unfoldable pub enable_interrupts : Bool → Machine → Machine
 enable_interrupts enabled m =
     let q = psr m in
     with_psr (status_of (user_mode q) (reads_set2 q) (writes_set2 q) (wide_words q) enabled) (advance m)
 
--- swm: IL is 0 or 1; goes on three old-width words later
+-- swm: IL becomes 0 or 1; PC goes three words of the old width on (Manual 3.2)
 unfoldable pub switch_width : (wide : Bool) → Machine → Machine
 switch_width wide m =
     let q = psr m in
     with_psr (status_of (user_mode q) (reads_set2 q) (writes_set2 q) wide (interrupts_enabled q)) (with_position (position_at (words_on 3 m)) m)
 
--- chrs: "bit 0 is RSRD and bit 1 RSWR"
+-- chrs: RSRD becomes bit 0, RSWR bit 1 (Manual 3.2)
 unfoldable pub select_sets : (sets : ℕ) → Machine → Machine
 select_sets sets m =
     let q = psr m in
@@ -103,7 +104,7 @@ select_sets sets m =
 
 -- ---- effects
 
--- a step or a stop (01: turn), and the state after it
+-- a step or a stop, and the state after it (Manual 10.1)
 pub record Transition : Type 0 where
   pub kind : Kind
   pub after : State

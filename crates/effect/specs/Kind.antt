@@ -7,9 +7,9 @@ pub data Kind : Type 0 where
   SystemCall : Kind  -- scall
   InterruptReturn : Kind  -- reti
   Exception : (code : ℕ) → Kind
-  Reset : Kind  -- a step whose clock reset the core (02, wish 5)
+  Reset : Kind  -- a step whose clock reset the core (Manual 4.12)
   Stop : (number : ℕ) → Kind
 
--- the numbers of stops: 11 to 15 (01 "One step"), and 20 (02, wish 8)
+-- the numbers of stops (Manual 4.10)
 abbrev pub STOPS : List ℕ
 STOPS = 11 ∷ 12 ∷ 13 ∷ 14 ∷ 15 ∷ 20 ∷ []

@@ -2,7 +2,7 @@
 use Rattle.std.specs.Prelude.{ℕ, Bool}
 
 pub data Update : Type 0 where
-  Next : Update  -- nothing but PC moves
+  Next : Update  -- PC goes on, and nothing else
   Result : (dreg value : ℕ) → Update
   ResultFlags : (dreg value flags : ℕ) → Update  -- the flags go to C0
   ResultProduct : (dreg high low : ℕ) → Update  -- the register takes the low half, and the product is held

@@ -1,6 +1,6 @@
-// What an effect changes of the machine and the data memory.
-// Each function carries out the definition of its contract on the words that hold the machine. Those of effects report 0: no effect but
-// a stop, which changes nothing, reports a number.
+//! What an effect changes of the machine and the data memory.
+//! Each function carries out the definition of its contract on the words that hold the machine. Those of effects answer 0: only a stop, which
+//! changes nothing, has a number.
 #![tactic(auto)]
 
 ghost use Rattle.std.specs.Prelude.{◌≡◌, ◌%◌, ◌^◌, ◌<◌, set, slice_set};
@@ -14,7 +14,7 @@ use machine::Position;
 
 // ---- registers
 
-// Register d of the set that RSWR names takes x; a write to PSR is ignored.
+// Register d of the set that RSWR selects takes x; a write to PSR is thrown away (Manual 1.4).
 fn write_register(w: &mut [u32], d: u32, x: u32)
     requires { MachineWords w.old }
     ensures { Says w.new (write_register d x (machine_of w.old)) }
@@ -31,7 +31,7 @@ fn write_flags(w: &mut [u32], c: u32, flags: u32)
     machine::set_condition(w, c % 8, flags % 8);
 }
 
-// All condition registers are taken from a word: Cn from bits 3n+2..3n.
+// All condition registers are taken from a word: Cn from bits 3n+2..3n (Manual 3.2).
 fn unpack(w: &mut [u32], x: u32)
     requires { MachineWords w.old }
     ensures { Says w.new (with_conditions (unpacked 8 x) (machine_of w.old)) }
@@ -126,7 +126,7 @@ fn advance_holding(w: &mut [u32], high: u32, low: u32)
     );
 }
 
-// A taken jump: the next word is its slot.
+// A taken jump: the next word is its slot (Manual 4.8).
 fn jump_to(w: &mut [u32], target: u32)
     requires { MachineWords w.old }
     ensures { Says w.new (jump_to target (machine_of w.old)) }
@@ -137,7 +137,8 @@ fn jump_to(w: &mut [u32], target: u32)
 
 // ---- changes of mode
 
-// An exception: code, address and PSR are shown; PC is EXCEP_ADDR.
+/// An exception, by its code: EXCEPTION_CS, EXCEPTION_PC and EXCEPTION_PSR take code, address and PSR; PSR becomes 0Eh and
+/// PC EXCEP_ADDR (Manual 4.9).
 pub fn raise(w: &mut [u32], code: u32) -> u32
     requires { MachineWords w.old }
     ensures { Performs (Raised code) result w.old w.new }
@@ -153,7 +154,7 @@ pub fn raise(w: &mut [u32], code: u32) -> u32
     0
 }
 
-// scall: the link PR31 is two words on, SPSR takes PSR; PC is SYSTEM_ADDR.
+/// scall: PR31 takes the address two words on, SPSR takes PSR; PSR becomes 0Eh and PC SYSTEM_ADDR (Manual 3.2).
 pub fn system_call(w: &mut [u32]) -> u32
     requires { MachineWords w.old }
     ensures { Performs SystemCall result w.old w.new }
@@ -168,7 +169,7 @@ pub fn system_call(w: &mut [u32]) -> u32
     0
 }
 
-// retu: PC from PR31; IE and IL from SPSR; user mode, set 1.
+/// retu: PC from PR31; IE and IL from SPSR; user mode, set 1 (Manual 3.2).
 pub fn user_return(w: &mut [u32]) -> u32
     requires { MachineWords w.old }
     ensures { Performs UserReturn result w.old w.new }
@@ -192,7 +193,7 @@ fn pop(w: &mut [u32])
     }
 }
 
-// reti pops: PC, PSR and C0 come back, and the source's flag is cleared.
+/// reti: PC, PSR and C0 come back from the top entry, which is removed, and its source's flag is cleared (Manual 6.2).
 pub fn interrupt_return(w: &mut [u32]) -> u32
     requires { MachineWords w.old × StackShown (machine_of w.old) }
     ensures { Performs InterruptReturn result w.old w.new }
@@ -219,7 +220,7 @@ fn status_with(w: &[u32], wide: bool, enabled: bool) -> u32
     )
 }
 
-// di and ei: IE is 0 or 1.
+/// di and ei: IE becomes 0 or 1 (Manual 3.2).
 pub fn enable_interrupts(w: &mut [u32], enabled: bool) -> u32
     requires { MachineWords w.old }
     ensures { Performs (EnableInterrupts enabled) result w.old w.new }
@@ -230,7 +231,7 @@ pub fn enable_interrupts(w: &mut [u32], enabled: bool) -> u32
     0
 }
 
-// swm: IL is 0 or 1; goes on three old-width words later.
+/// swm: IL becomes 0 or 1; PC goes three words of the old width on (Manual 3.2).
 pub fn switch_width(w: &mut [u32], wide: bool) -> u32
     requires { MachineWords w.old }
     ensures { Performs (SwitchWidth wide) result w.old w.new }
@@ -242,7 +243,7 @@ pub fn switch_width(w: &mut [u32], wide: bool) -> u32
     0
 }
 
-// chrs: RSRD and RSWR.
+/// chrs: RSRD becomes bit 0 of sets, RSWR bit 1 (Manual 3.2).
 pub fn select_sets(w: &mut [u32], sets: u32) -> u32
     requires { MachineWords w.old }
     ensures { Performs (SelectSets sets) result w.old w.new }
@@ -273,7 +274,7 @@ fn set_cell(cells: &mut [u32], a: u32, x: u32)
 
 // ---- results
 
-// Nothing but PC moves.
+/// PC goes on, and nothing else happens (Manual 4).
 pub fn next(w: &mut [u32]) -> u32
     requires { MachineWords w.old }
     ensures { Performs Next result w.old w.new }
@@ -282,7 +283,7 @@ pub fn next(w: &mut [u32]) -> u32
     0
 }
 
-// A register takes a value. Where control goes on does not depend on it: a write to PSR is ignored.
+/// Register d takes x. Where control goes on does not depend on it: a write to PSR is thrown away (Manual 1.4).
 pub fn result(w: &mut [u32], d: u32, x: u32) -> u32
     requires { MachineWords w.old }
     ensures { Performs (Result d x) result w.old w.new }
@@ -293,7 +294,7 @@ pub fn result(w: &mut [u32], d: u32, x: u32) -> u32
     0
 }
 
-// A register takes a value, and C0 flags.
+/// Register d takes x, and C0 the flags.
 pub fn result_flags(w: &mut [u32], d: u32, x: u32, flags: u32) -> u32
     requires { MachineWords w.old }
     ensures { Performs (ResultFlags d x flags) result w.old w.new }
@@ -305,7 +306,7 @@ pub fn result_flags(w: &mut [u32], d: u32, x: u32, flags: u32) -> u32
     0
 }
 
-// A register takes the low half of a product, which is held.
+/// Register d takes the low half of a product, which is held for the next step (Manual 1.5).
 pub fn result_product(w: &mut [u32], d: u32, high: u32, low: u32) -> u32
     requires { MachineWords w.old }
     ensures { Performs (ResultProduct d high low) result w.old w.new }
@@ -315,7 +316,7 @@ pub fn result_product(w: &mut [u32], d: u32, high: u32, low: u32) -> u32
     0
 }
 
-// A condition register takes flags.
+/// Condition register c takes flags.
 pub fn compare(w: &mut [u32], c: u32, flags: u32) -> u32
     requires { MachineWords w.old }
     ensures { Performs (Compare c flags) result w.old w.new }
@@ -325,7 +326,7 @@ pub fn compare(w: &mut [u32], c: u32, flags: u32) -> u32
     0
 }
 
-// All condition registers are taken from a word.
+/// All condition registers are taken from a word: rcon (Manual 3.2).
 pub fn conditions(w: &mut [u32], x: u32) -> u32
     requires { MachineWords w.old }
     ensures { Performs (Conditions x) result w.old w.new }
@@ -337,7 +338,7 @@ pub fn conditions(w: &mut [u32], x: u32) -> u32
 
 // ---- stores
 
-// A register of the control block is stored to.
+/// The register of the control block at offset n is stored to (Manual 5.2 and 5.3).
 pub fn store_control(w: &mut [u32], n: u32, x: u32) -> u32
     requires { MachineWords w.old × StackShown (machine_of w.old) }
     ensures { Performs (StoreControl n x) result w.old w.new }
@@ -347,7 +348,7 @@ pub fn store_control(w: &mut [u32], n: u32, x: u32) -> u32
     0
 }
 
-// A data cell takes a value; a store beyond the last cell changes nothing.
+/// The data cell at address a takes x; a store beyond the last cell changes nothing.
 pub fn store_cell(w: &mut [u32], cells: &mut [u32], a: u32, x: u32) -> u32
     requires { MachineWords w.old }
     ensures { report_by result w.new (memory_of cells.new) ≡ report_on (StoreCell a x) w.old (memory_of cells.old) }
@@ -359,7 +360,7 @@ pub fn store_cell(w: &mut [u32], cells: &mut [u32], a: u32, x: u32) -> u32
 
 // ---- jumps
 
-// To a target, after the slot.
+/// A taken jump to a target, after the slot (Manual 4.8).
 pub fn jump(w: &mut [u32], target: u32) -> u32
     requires { MachineWords w.old }
     ensures { Performs (Jump target) result w.old w.new }
@@ -368,7 +369,7 @@ pub fn jump(w: &mut [u32], target: u32) -> u32
     0
 }
 
-// The same, with the address after the slot in the link register.
+/// The same, with the address after the slot in the link register.
 pub fn jump_link(w: &mut [u32], target: u32) -> u32
     requires { MachineWords w.old }
     ensures { Performs (JumpLink target) result w.old w.new }

@@ -14,7 +14,7 @@ use Rattle.view.specs.View.{Attempt, Found, Raises, Stops, map_found, found_then
 use Rattle.view.proofs.Bytes.{Read, word, closed, missing, word_read}
 use Rattle.effect.specs.Kind.{STOPS}
 
--- a code of an exception: of a test of an instruction, or "trap n has code 224 + n"
+-- a code of an exception: of a test of an instruction, or E0h + n of trap n (Manual 4.9)
 pub data Code (c : ℕ) : Type 0 where
   tests : eqb c 0x00 || between 0x02 0x09 c ≡ true → Code c
   traps : (n : ℕ) → n < 32 → c ≡ 224 + n → Code c

@@ -1,4 +1,4 @@
--- What the next instruction does: the order of its tests (01 "Instruction order"). Assumes nothing.
+-- What the next instruction does: the order of its tests (Manual 4). Assumes nothing.
 use Rattle.std.specs.Prelude.{◌≡◌, false, ◌&&◌, ℕ, eqb}
 use Rattle.std.specs.Prelude.{Option, None, Some}
 use Rattle.word.specs.Choice.{choose◌then◌else◌}
@@ -15,8 +15,8 @@ use Rattle.effect.specs.Effect.{Effect, Stopped, Raised, Next}
 unfoldable pub perform : View → Instruction → Operation → Effect
 perform v i op = execute op v i (v.source i.sreg1) (v.source i.sreg2)
 
--- the code of 02h, if it is there; stop 13 for a control transfer in a slot, condition true or not; "condition false: nothing
--- but PC moves"; the nops that must follow, looked at "once any condition is true and before stop 15" (02, wish 8); its own effect
+-- 02h, if the operation is not available; stop 13 for a control transfer in a slot, its condition true or not (Manual 4.4); a false condition, with
+-- which PC goes on and nothing else happens (Manual 4.5); the nops that must follow (Manual 4.6), before stop 15 of reti; its own effect
 unfoldable pub if_available : View → Instruction → Operation → Option ℕ → Effect
 if_available v i op (Some code) = Raised code
 if_available v i op None =
@@ -24,7 +24,7 @@ if_available v i op None =
     else choose condition_false v i then Next
     else on_found (λ _. perform v i op) (nops_after v (properties op).nops)
 
--- a decoded instruction: 02h not in this width or mode ("Code 01h no longer occurs"); then the rest
+-- a decoded instruction: whether its operation is available in this width and mode (code 01h never occurs); then the rest
 unfoldable pub instruction : View → Instruction → Effect
 instruction v i =
     let op = operation_of i.opcode in

@@ -1,5 +1,5 @@
-// The next instruction, carried out in place: its number chooses a group of operations once; the group's function decodes the word, asks
-// the questions that its operations have, and does what the operation does.
+//! The next instruction, carried out in place (Manual 4): its number chooses a group of operations once; the group's function decodes the
+//! word, makes the tests that its operations have, and does what the operation does. It answers 0, or the number of a stop, which changes nothing.
 #![tactic(auto)]
 
 ghost use Rattle.std.specs.Prelude.{◌≡◌, ◌≤◌, ◌<◌, length};
@@ -18,7 +18,7 @@ use isa::{Instruction, Operation, Width};
 use operation::{branches, fields, immediates, jumps, load, moves, registers, store, system};
 use view::{Fetched, NopCheck, condition_false, source};
 
-// The code of the exception where an operation may not be used, by the width and the mode.
+// The code of the exception where an operation may not be used, by the width and the mode (Manual 4.4).
 fn unavailable(w: &[u32], op: u32) -> Option<u32>
     requires { MachineWords w.now }
     ensures { result ≡ unavailable (properties (operation_of op)).availability (width_of (psr (machine_of w.now))) (user_mode (psr (machine_of w.now))) }
@@ -121,7 +121,7 @@ fn branch_word(w: &mut [u32], word: u32, op: u32) -> u32
     branches(w, i)
 }
 
-// Words of operations 48 to 57: scall to rcon. After four of them nops must follow.
+// Words of operations 48 to 57: scall to rcon. After four of them nops must follow (Manual 4.6).
 fn system_word(program: &[u8], w: &mut [u32], word: u32, op: u32) -> u32
     requires { MachineWords w.old × ((machine_of w.old).position.pc < MOST_MEMORY) × StackShown (machine_of w.old) × (op ≡ opcode_of (width_of (psr (machine_of w.old))) word) × (48 ≤ op) × (op ≤ 57) }
     ensures { PerformsIn program.now (λ v. fetched_then v (Found word)) result w.old w.new }
@@ -195,9 +195,9 @@ fn upper_half(program: &[u8], w: &mut [u32], word: u32, op: u32) -> u32
     }
 }
 
-// An instruction word, by the number of its operation. ld and st are chosen first (02, wish 4: "Choose between those two before testing the
-// other operations"); the operations below and above them are told apart after that, each half in a chain of its own: in one chain the
-// compiler takes the last groups for rare.
+// An instruction word, by the number of its operation. ld and st, which programs use most, are chosen before all others are tested; the
+// operations below and above them are told apart after that, each half in a chain of its own: in one chain the compiler takes the last groups
+// for rare.
 fn instruction(program: &[u8], w: &mut [u32], cells: &mut [u32], word: u32) -> u32
     requires { MachineWords w.old × ((machine_of w.old).position.pc < MOST_MEMORY) × StackShown (machine_of w.old) }
     ensures { StoresIn program.now (λ v. fetched_then v (Found word)) result w.old cells.old w.new cells.new }
@@ -214,7 +214,8 @@ fn instruction(program: &[u8], w: &mut [u32], cells: &mut [u32], word: u32) -> u
     }
 }
 
-// The next instruction: 05h, 00h or stop 11, then the instruction word.
+/// The next instruction: 05h, 00h or stop 11 of the fetch, then the instruction word. `program` is at most 65,536 bytes, `w` the words of a machine
+/// (crate machine), `cells` data memory. The answer is 0, or the number of a stop; after a stop all is as before.
 pub fn execute(program: &[u8], w: &mut [u32], cells: &mut [u32]) -> u32
     requires { MachineWords w.old × (length program.now ≤ MOST_MEMORY) × StackShown (machine_of w.old) }
     ensures { report_by result w.new (memory_of cells.new) ≡ report_on (decide (view_of program.now w.old (memory_of cells.old))) w.old (memory_of cells.old) }

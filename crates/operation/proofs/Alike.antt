@@ -10,7 +10,7 @@ use Rattle.view.specs.View.{View}
 use Rattle.operation.specs.Execute.{branch, execute}
 
 module _ (v : View) (i : Instruction) (x y : ℕ) where
-  -- 40 to 47 branch on conditions 0 to 7
+  -- operations 40 to 47 branch on conditions 0 to 7
   pub branches_are : (op : ℕ) → 40 ≤ op → op < 48 → execute (operation_of op) v i x y ≡ branch (condition_of (op - 40)) v i
   unfolding instructions values execute
   branches_are = agree (λ n. execute (operation_of n) v i x y) (λ n. branch (condition_of (n - 40)) v i) 40 8 refl

@@ -1,4 +1,4 @@
--- What each operation does: one clause for each (01 "Instruction words" and "One step"; 02 wish 1; 002 section 6). Assumes nothing.
+-- What each operation does: one clause for each (Manual 3.2). Assumes nothing.
 use Rattle.std.specs.Prelude.{true, false, List, [], ◌∷◌, ℕ, ◌+◌, ◌*◌, ◌%◌, ◌^◌, get_or, eqb, ℤ, pos, ◌+ℤ◌, ◌*ℤ◌}
 use Rattle.std.proofs.Math.Bool as bool
 use Rattle.word.specs.Choice.{choose◌then◌else◌}
@@ -19,7 +19,7 @@ use Rattle.effect.specs.Effect.{Effect, Stopped, Raised, Next, Result, ResultFla
 
 -- ---- sums and products
 
--- add, addi, sub: "06h outside signed 32 bits", else result and flags
+-- add, addi, sub: 06h where the result is outside signed 32 bits, else result and flags
 unfoldable pub checked : (dreg : ℕ) → Sum → Effect
 checked d s = choose s.overflow then Raised 0x06 else ResultFlags d s.value s.flags
 
@@ -44,7 +44,7 @@ unfoldable pub stored : (value : ℕ) → Location → Effect
 stored x (Block n) = StoreControl n x
 stored x (Cell a) = StoreCell a x
 
--- ---- jumps (01 "Jump tests")
+-- ---- jumps (Manual 4.8)
 
 -- the address of the word after this one: a jump's slot
 unfoldable pub after_this : View → ℕ
@@ -54,8 +54,8 @@ after_this v = v.position.pc + word_bytes (width_of v.status)
 unfoldable pub target_by : View → (immediate : ℤ) → ℤ
 target_by v n = pos (after_this v) +ℤ n *ℤ pos 2
 
--- a taken jump: 04h for a target outside 32 bits, 03h misaligned, then in user mode 09h if a byte of the target word is protected;
--- else to the target after the slot. A target from a register has 32 bits, so only one by immediate gives 04h
+-- a taken jump: 04h for a target outside 32 bits, 03h for a misaligned one, then in user mode 09h if a byte of the word there is protected;
+-- else control goes to the target after the slot. A target from a register has 32 bits, so only one by immediate gives 04h
 unfoldable pub jumped : View → (target : ℤ) (taken : ℕ → Effect) → Effect
 jumped v target taken =
     let t = word_of 32 target in
@@ -64,16 +64,16 @@ jumped v target taken =
     else choose v.closed t then Raised 0x09
     else taken t
 
--- "40 to 47 branch on condition 0 to 7": taken where the condition holds of the condition register; not taken, no slot
+-- a branch, operation 40 + i on condition i: taken where the condition holds of the condition register; not taken, it has no slot and no test
 unfoldable pub branch : Condition → View → Instruction → Effect
 branch when v i = choose holds when (get_or v.conditions i.creg 0) then jumped v (target_by v i.immediate) Jump else Next
 
--- "Cn at bits 3n+2..3n", three bits each, C0 first
+-- scon: the condition registers in a word, Cn at bits 3n+2..3n, so three bits each with C0 lowest
 unfoldable pub packed : List ℕ → ℕ
 packed [] = 0
 packed (c ∷ cs) = c % 8 + 8 * packed cs
 
--- ---- one clause for each operation (002 section 6); x and y are the two sources. A result for PSR is dropped when it is applied.
+-- ---- one clause for each operation; x and y are the two sources. A result for PSR is dropped when it is applied (Manual 1.4).
 -- st and lui look at dreg: st in the set that registers are read from, lui in the one that they are written in
 
 unfoldable pub execute : Operation → View → Instruction → (x y : ℕ) → Effect

@@ -1,4 +1,4 @@
-// The operations whose result comes from two sources alone: sums, bits, products, shifts.
+//! The operations whose result comes from two sources alone: sums, bits, products, shifts.
 ghost use Rattle.std.specs.Prelude.{ℕ, ◌≤◌};
 ghost use Rattle.isa.specs.Operation.{operation_of};
 ghost use Rattle.machine.specs.Words.{MachineWords};
@@ -11,7 +11,7 @@ use effect::result;
 use isa::Instruction;
 use word::{Product, Sum};
 
-// A sum that gives 06h outside signed 32 bits.
+// A sum that gives 06h outside signed 32 bits (Manual 3.2).
 fn checked(w: &mut [u32], d: u32, s: Sum) -> u32
     requires { MachineWords w.old }
     ensures { Performs (checked d s) result w.old w.new }
@@ -40,7 +40,7 @@ fn product(w: &mut [u32], d: u32, p: Product) -> u32
     effect::result_product(w, d, p.high, p.low)
 }
 
-// Operations 1 to 17: add to sext, on two registers.
+/// Operations 1 to 17: add to sext, on two registers.
 pub fn registers(w: &mut [u32], i: Instruction, x: u32, y: u32) -> u32
     requires { MachineWords w.old × (1 ≤ i.opcode) × (i.opcode ≤ 17) }
     ensures { (v : View) → Performs (execute (operation_of i.opcode) v i x y) result w.old w.new }
@@ -68,7 +68,7 @@ pub fn registers(w: &mut [u32], i: Instruction, x: u32, y: u32) -> u32
     }
 }
 
-// Operations 18 to 26: addi to sexti, on a register and an immediate.
+/// Operations 18 to 26: addi to sexti, on a register and an immediate.
 pub fn immediates(w: &mut [u32], i: Instruction, x: u32) -> u32
     requires { MachineWords w.old × (18 ≤ i.opcode) × (i.opcode ≤ 26) }
     ensures { (v : View) (y : ℕ) → Performs (execute (operation_of i.opcode) v i x y) result w.old w.new }

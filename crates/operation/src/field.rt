@@ -1,4 +1,4 @@
-// The byte and field operations: conb, conh, exb, exh, exbf, exbfi.
+//! The byte and field operations: conb, conh, exb, exh, exbf, exbfi.
 ghost use Rattle.std.specs.Prelude.{◌≤◌};
 ghost use Rattle.isa.specs.Operation.{operation_of};
 ghost use Rattle.machine.specs.Words.{MachineWords};
@@ -10,7 +10,7 @@ use crate::immediate_value;
 use effect::result;
 use isa::Instruction;
 
-// Operations 58 to 63: conb to exbfi.
+/// Operations 58 to 63: conb to exbfi.
 pub fn fields(w: &mut [u32], i: Instruction, x: u32, y: u32) -> u32
     requires { MachineWords w.old × (58 ≤ i.opcode) × (i.opcode ≤ 63) }
     ensures { (v : View) → Performs (execute (operation_of i.opcode) v i x y) result w.old w.new }

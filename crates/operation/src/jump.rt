@@ -1,4 +1,4 @@
-// Jumps and branches: their targets and the tests of a taken jump.
+//! Jumps and branches: their targets and the tests of a taken jump (Manual 4.8).
 ghost use Rattle.std.specs.Prelude.{◌≡◌, ℕ, ◌≤◌, ◌<◌};
 ghost use Rattle.word.specs.Choice.{choose◌then◌else◌};
 ghost use Rattle.isa.specs.Operation.{operation_of};
@@ -55,7 +55,7 @@ fn target(w: &[u32], n: i32) -> i64
     word::jump_target(machine::pc(w) + bytes, n)
 }
 
-// Operations 36 to 39: jmp, jal, jmpr, jalr.
+/// Operations 36 to 39: jmp, jal, jmpr, jalr.
 pub fn jumps(w: &mut [u32], i: Instruction, x: u32) -> u32
     requires { MachineWords w.old × ((machine_of w.old).position.pc < MOST_MEMORY) × (36 ≤ i.opcode) × (i.opcode ≤ 39) }
     ensures { (y : ℕ) → PerformsSeen (λ v. execute (operation_of i.opcode) v i x y) result w.old w.new }
@@ -75,7 +75,7 @@ pub fn jumps(w: &mut [u32], i: Instruction, x: u32) -> u32
     }
 }
 
-// Operations 40 to 47: branches on conditions 0 to 7.
+/// Operations 40 to 47: branches on conditions 0 to 7.
 pub fn branches(w: &mut [u32], i: Instruction) -> u32
     requires { MachineWords w.old × ((machine_of w.old).position.pc < MOST_MEMORY) × (i.creg < 8) × (40 ≤ i.opcode) × (i.opcode ≤ 47) }
     ensures { (x y : ℕ) → PerformsSeen (λ v. execute (operation_of i.opcode) v i x y) result w.old w.new }

@@ -1,4 +1,5 @@
-// The operations, carried out in place, in groups of their numbers. Each function does what specs/Execute.antt says of its operations.
+//! The operations, carried out in place, in groups of their numbers. Each public function does what specs/Execute.antt says of its operations
+//! (Manual 3.2); x and y are the values of the two sources. The answer is 0, or the number of a stop, which changes nothing.
 #![tactic(auto)]
 
 ghost use Rattle.std.specs.Prelude.{◌≡◌};

@@ -1,4 +1,4 @@
-// Loads and stores: on the control block, a cell, or neither.
+//! Loads and stores: on the control block, a cell, or neither (Manual 4.7).
 ghost use Rattle.std.specs.Prelude.{ℕ, ◌<◌};
 ghost use Rattle.isa.specs.declared.operation.Operation.TheVariants.{Ld, St};
 ghost use Rattle.machine.specs.Stack.{StackShown};
@@ -12,7 +12,7 @@ use view::Place;
 // The stop where there is neither block nor cell.
 const NO_DATA: u32 = 12;
 
-// Operation 27, Ld: the register takes what is there. No cell changes.
+/// Operation 27, ld: the register takes what is there. No cell changes. Stop 12 where nothing is there.
 pub fn load(w: &mut [u32], cells: &[u32], i: Instruction, x: u32) -> u32
     requires { MachineWords w.old × (i.dreg < 32) }
     ensures { (y : ℕ) → PerformsStoring (λ v. execute Ld v i x y) result w.old cells.now w.new cells.now }
@@ -31,7 +31,7 @@ pub fn load(w: &mut [u32], cells: &[u32], i: Instruction, x: u32) -> u32
     }
 }
 
-// Operation 28, St: the control register or the cell takes the register's value.
+/// Operation 28, st: the control register or the cell takes the register's value. Stop 12 where nothing is there.
 pub fn store(w: &mut [u32], cells: &mut [u32], i: Instruction, x: u32) -> u32
     requires { MachineWords w.old × StackShown (machine_of w.old) × (i.dreg < 32) }
     ensures { (y : ℕ) → PerformsStoring (λ v. execute St v i x y) result w.old cells.old w.new cells.new }

@@ -1,4 +1,4 @@
-// Operations that move a value: mov, not, Mulhi, cmp, cmpi, lli, lui.
+//! Operations that move a value: mov, not, mulhi, cmp, cmpi, lli, lui.
 ghost use Rattle.std.specs.Prelude.{ℕ, ◌+◌, ◌*◌, ◌%◌, ◌^◌, ◌≤◌, ◌<◌};
 ghost use Rattle.word.specs.Word.{word_of};
 ghost use Rattle.isa.specs.declared.operation.Operation.TheVariants.{Mulhi};
@@ -33,7 +33,7 @@ fn high_immediate(w: &[u32], i: Instruction) -> u32
     immediate_value(i) % 0x1_0000 * 0x1_0000 + view::target(w, i.dreg) % 0x1_0000
 }
 
-// Operations 29 to 35: mov to lui.
+/// Operations 29 to 35: mov to lui. Stop 14 for mulhi with no product held.
 pub fn moves(w: &mut [u32], i: Instruction, x: u32, y: u32) -> u32
     requires { MachineWords w.old × (i.dreg < 32) × (29 ≤ i.opcode) × (i.opcode ≤ 35) }
     ensures { PerformsSeen (λ v. execute (operation_of i.opcode) v i x y) result w.old w.new }

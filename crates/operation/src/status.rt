@@ -1,4 +1,4 @@
-// Operations on the machine's status: calls and returns, modes, all condition registers at once.
+//! Operations on the machine's status: calls and returns, modes, all condition registers at once.
 ghost use Rattle.std.specs.Prelude.{◌≡◌, ℕ, ◌≤◌};
 ghost use Rattle.isa.specs.declared.operation.Operation.TheVariants.{Reti};
 ghost use Rattle.isa.specs.Operation.{operation_of};
@@ -10,7 +10,7 @@ ghost use Rattle.operation.specs.Promises.{PerformsSeen};
 use crate::immediate_value;
 use isa::Instruction;
 
-// The condition registers in a word.
+// The condition registers in a word: Cn at bits 3n+2..3n.
 fn packed(w: &[u32]) -> u32
     requires { MachineWords w.now }
     ensures { result ≡ packed (machine_of w.now).conditions }
@@ -36,7 +36,7 @@ fn interrupt_return(w: &mut [u32], i: Instruction) -> u32
     }
 }
 
-// Operations 48 to 57: scall to rcon.
+/// Operations 48 to 57: scall to rcon. Stop 15 for reti with an empty interrupt stack.
 pub fn system(w: &mut [u32], i: Instruction, x: u32) -> u32
     requires { MachineWords w.old × StackShown (machine_of w.old) × (48 ≤ i.opcode) × (i.opcode ≤ 57) }
     ensures { (y : ℕ) → PerformsSeen (λ v. execute (operation_of i.opcode) v i x y) result w.old w.new }

@@ -5,11 +5,11 @@ use Rattle.isa.specs.Decode.{word_bytes, word_at, opcode_of}
 use Rattle.machine.specs.Machine.{State, width_of}
 use Rattle.view.specs.View.{Attempt, Found, Raises, Stops, bytes_at, View, view, nops_after}
 
--- where all bytes of the word at an address are there, a fetch that is not refused finds `word_at`'s word, the one that a listing shows (02 wish 2)
+-- where all bytes of the word at an address are there, a fetch that is not refused finds `word_at`'s word, the one that a listing shows (Manual 11.1)
 abbrev pub FetchedWord : Type 0
 FetchedWord = (width : Width) (program : List ℕ) (a : ℕ) → a + word_bytes width ≤ length program → bytes_at program (word_bytes width) a 0 ≡ Found (word_at width program a)
 
--- ---- the nops that must follow an instruction (02, wish 8)
+-- ---- the nops that must follow an instruction (Manual 4.6)
 
 -- the k-th word after it is there, not protected from the mode, and a nop
 pub record NopAt (v : View) (k : ℕ) : Type 0 where
@@ -17,8 +17,7 @@ pub record NopAt (v : View) (k : ℕ) : Type 0 where
   pub there : v.following k ≡ Found word
   pub nop : opcode_of (width_of v.status) word ≡ 0
 
--- it is not, and this comes of it: "In user mode a protected byte among them raises 00h ..; an absent byte is stop 11 .. 20, a stop, when one of them
--- has another operation than 0"
+-- it is not, and this comes of it: 00h in user mode for a protected byte, stop 11 for an absent one, stop 20 for an operation other than 0
 pub data NotNopAt (v : View) (k : ℕ) : Attempt (Unit {0}) → Type 0 where
   protected : v.following k ≡ Raises 0x00 → NotNopAt v k (Raises 0x00)
   absent : v.following k ≡ Stops 11 → NotNopAt v k (Stops 11)
@@ -32,7 +31,7 @@ pub record FirstOther (v : View) (from count : ℕ) (a : Attempt (Unit {0})) : T
   pub earlier : (j : ℕ) → from ≤ j → j < k → NopAt v j
   pub other : NotNopAt v k a
 
--- "looked at one after another": all of so many words are nops, or the first that is none decides
+-- the words are looked at in order: all of so many words are nops, or the first that is none decides
 pub data Checked (v : View) (from count : ℕ) (a : Attempt (Unit {0})) : Type 0 where
   all_nops : ((k : ℕ) → from ≤ k → k < from + count → NopAt v k) → a ≡ Found tt → Checked v from count a
   not_all : FirstOther v from count a → Checked v from count a

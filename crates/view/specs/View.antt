@@ -21,7 +21,7 @@ use Rattle.view.specs.declared.Place.TheVariants as place
 
 -- ---- what the memories give
 
--- what is found, the code of an exception, or the number of a stop, as 01 and 02 number them
+-- what is found, the code of an exception, or the number of a stop (Manual 4.9 and 4.10)
 pub data Attempt (A : Type 0) : Type 0 where
   Found : A → Attempt A
   Raises : (code : ℕ) → Attempt A
@@ -41,12 +41,12 @@ found_then (Stops n) f = Stops n
 
 -- ---- program memory
 
--- one of the n addresses from a on is within the bounds: "any byte of the word protected"
+-- one of the n addresses from a on is within the bounds: any protected byte protects its word (Manual 1.3)
 unfoldable pub any_within : (low high a n : ℕ) → Bool
 any_within low high a zero = false
 any_within low high a (suc n) = within low high a || any_within low high (suc a) n
 
--- f of a byte that is there: "byte absent (stop 11)"
+-- f of a byte that is there; stop 11 where it is absent
 unfoldable pub byte_then : Option ℕ → (ℕ → Attempt ℕ) → Attempt ℕ
 byte_then none f = Stops 11
 byte_then (some b) f = f b
@@ -56,19 +56,19 @@ unfoldable pub bytes_at : (program : List ℕ) (n a w : ℕ) → Attempt ℕ
 bytes_at program zero a w = Found w
 bytes_at program (suc n) a w = byte_then (get_elem? program a) (λ b. bytes_at program n (suc a) (w * 256 + b))
 
--- the word at a: "any byte of the word protected in user mode (00h); byte absent (stop 11)". Protection is by address, present or not
+-- the word at a: 00h in user mode if any of its bytes is protected, whether it is there or not; stop 11 if any is absent (Manual 4.3)
 unfoldable pub read_at : (program : List ℕ) (low high : ℕ) (user : Bool) (n a : ℕ) → Attempt ℕ
 read_at program low high user n a =
     choose user && any_within low high a n then Raises 0x00
     else bytes_at program n a 0
 
--- the word at pc: "misaligned (05h)" first
+-- the word at pc: 05h first, where pc is no multiple of the word's bytes (Manual 4.3)
 unfoldable pub fetch_at : (program : List ℕ) (low high : ℕ) (user : Bool) (n pc : ℕ) → Attempt ℕ
 fetch_at program low high user n pc =
     choose not (eqb (pc % n) 0) then Raises 0x05
     else read_at program low high user n pc
 
--- the number and values of each case of the code's answer (01 "If an answer is an enum")
+-- the number and values of each case of the code's answer
 unfoldable pub fetched_as : Fetched → Attempt ℕ
 fetched_as (Word w) = Found w
 fetched_as (Fault c) = Raises c
@@ -81,11 +81,11 @@ pub data Location : Type 0 where
   Block : (offset : ℕ) → Location  -- a register of the control block
   Cell : (address : ℕ) → Location  -- a data cell
 
--- one of the control block's 256 addresses from CCB_BASE
+-- one of the control block's 256 addresses, from CCB_BASE on
 unfoldable pub in_block : (base a : ℕ) → Bool
 in_block base a = leb base a && leb a (base + 255)
 
--- "the control block's 256 addresses from CCB_BASE first, then cells"; "neither block nor cell (stop 12)"
+-- the control block comes first, then the cells; stop 12 where there is neither (Manual 1.2)
 unfoldable pub found_at : State → (a : ℕ) → Attempt Location
 found_at s a =
     let base = control_at s.machine CCB_BASE in
@@ -93,8 +93,8 @@ found_at s a =
     else choose ltb a (length s.memory.cells) then Found (Cell a)
     else Stops 12
 
--- 01's data tests in the order of 02, wish 3, "In user mode, if the address taken modulo 2^32 is protected, it is now 07h": user and protected
--- (07h); "address outside 32 bits (08h)"; "neither block nor cell (stop 12)". The block's addresses are protected like the cells'
+-- the tests of a data address, in order: 07h in user mode if the address modulo 2 ^ 32 is protected, 08h if it is outside 32 bits, stop 12 if
+-- neither block nor cell is there (Manual 4.7). The block's addresses are protected like the cells'
 unfoldable pub place_at : State → (address : ℤ) → Attempt Location
 place_at s address =
     let a = word_of 32 address in
@@ -121,7 +121,7 @@ pub record View : Type 0 where
   pub status : ℕ  -- PSR
   pub position : Position
   pub conditions : List ℕ
-  pub nested : Bool  -- the hardware stack is not empty
+  pub nested : Bool  -- the interrupt stack is not empty
   pub fetched : Attempt ℕ  -- the instruction word
   pub following : (k : ℕ) → Attempt ℕ  -- the k-th word after it, of the same width
   pub source : ℕ → ℕ  -- a register of the set that RSRD names
@@ -197,19 +197,19 @@ view_of program words memory = view program (state_of words memory)
 abbrev pub Shows : {A : Type 0} → (View → A) → A → (words : List ℕ) → Type 0
 Shows f r words = (program : List ℕ) (memory : Memory) → r ≡ f (view_of program words memory)
 
--- a conditional instruction whose condition is false of its condition register
+-- a conditional instruction whose condition does not hold of its condition register (Manual 4.5)
 unfoldable pub condition_false : View → Instruction → Bool
 condition_false v i = i.conditional && not (holds (condition_of i.condition) (get_or v.conditions i.creg 0))
 
--- ---- the nops that must follow some instructions (02, wish 8)
+-- ---- the nops that must follow some instructions (Manual 4.6)
 
--- so many of these words, from the k-th on, "looked at one after another": "20, a stop, when one of them has another operation than 0"
+-- so many of these words, from the k-th on, one after another: stop 20 where one has an operation other than 0
 unfoldable pub nops_from : Width → (following : ℕ → Attempt ℕ) → (k count : ℕ) → Attempt (Unit {0})
 nops_from width following k zero = Found tt
 nops_from width following k (suc count) =
     found_then (following k) (λ w. choose eqb (opcode_of width w) 0 then nops_from width following (suc k) count else Stops 20)
 
--- those that must follow the instruction, "in the old width"
+-- those that must follow the instruction, in the width before it
 abbrev pub nops_after : View → (count : ℕ) → Attempt (Unit {0})
 nops_after v count = nops_from (width_of v.status) v.following 1 count
 

@@ -1,4 +1,4 @@
-// Data memory: what an address names, and what a cell holds.
+//! Data memory: what an address names, and what a cell holds (Manual 1.2 and 4.7).
 ghost use Rattle.std.specs.Prelude.{◌≡◌, ◌&&◌, get_or};
 ghost use Rattle.machine.specs.Machine.{psr, user_mode, memory_of};
 ghost use Rattle.machine.specs.Control.{protected_cell};
@@ -7,7 +7,7 @@ ghost use Rattle.view.specs.View.{in_block, found_at, place_at, place_as};
 
 use crate::Place;
 
-// Whether the data address a is protected from the mode.
+// Whether the data address a is protected in the mode of the machine (Manual 1.3).
 fn guarded(w: &[u32], a: u32) -> bool
     requires { MachineWords w.now }
     ensures { result ≡ user_mode (psr (machine_of w.now)) && protected_cell (machine_of w.now) a }
@@ -39,7 +39,7 @@ fn found(w: &[u32], cells: &[u32], a: u32) -> Place
     }
 }
 
-// What an access of a data address reaches: 07h by its low 32 bits, 08h, or what is there.
+/// What an access reaches at an address that may lie outside 32 bits: 07h by its low 32 bits, 08h, or what is there (Manual 4.7).
 pub fn place(w: &[u32], cells: &[u32], address: i64) -> Place
     requires { MachineWords w.now }
     ensures { place_as result ≡ place_at (state_of w.now (memory_of cells.now)) address }
@@ -54,7 +54,7 @@ pub fn place(w: &[u32], cells: &[u32], address: i64) -> Place
     }
 }
 
-// The cell at an address, 0 beyond the last.
+/// The cell at an address, 0 beyond the last.
 pub fn cell(cells: &[u32], a: u32) -> u32
     ensures { result ≡ get_or cells.now a 0 }
 {

@@ -1,4 +1,4 @@
-// Program memory: its protection, the fetch of an instruction word, and the nops that must follow it.
+//! Program memory: its protection, the fetch of an instruction word, and the nops that must follow it (Manual 1.3, 4.3 and 4.6).
 ghost use Rattle.std.specs.Prelude.{◌≡◌, not, ◌&&◌, ◌+◌, ◌%◌, ◌^◌, ◌≤◌, ◌<◌, eqb};
 ghost use Rattle.isa.specs.Decode.{word_bytes};
 ghost use Rattle.machine.specs.Control.{control_at, IMEM_BOUND_LO, IMEM_BOUND_HI};
@@ -9,7 +9,7 @@ ghost use Rattle.machine.specs.Machine.{MOST_MEMORY, Memory, psr, user_mode, wid
 use crate::{Fetched, NopCheck};
 use isa::Width;
 
-// Whether one of the n program bytes from a on is protected from the mode: the two ranges overlap.
+/// Whether `user` is true and one of the n program bytes from a on is protected: the two ranges overlap (Manual 1.3).
 pub fn closed(w: &[u32], user: bool, a: u32, n: u32) -> bool
     requires { MachineWords w.now × (0 < n) × (a + n ≤ 2 ^ 32) }
     ensures { result ≡ user && any_within (control_at (machine_of w.now) IMEM_BOUND_LO) (control_at (machine_of w.now) IMEM_BOUND_HI) a n }
@@ -23,7 +23,7 @@ pub fn closed(w: &[u32], user: bool, a: u32, n: u32) -> bool
     }
 }
 
-// Whether a is not the address of an instruction word.
+/// Whether the address a is no multiple of a word's bytes.
 #[tactic(auto, unfolding(isa::specs::Decode::word_bytes))]
 pub fn misaligned(width: Width, a: u32) -> bool
     ensures { result ≡ not (eqb (a % word_bytes width) 0) }
@@ -69,7 +69,7 @@ fn read_at(program: &[u8], w: &[u32], width: Width, a: u32) -> Fetched
     }
 }
 
-// The next instruction word: misaligned, protected, absent, or there.
+/// The next instruction word: misaligned (05h), protected (00h), absent, or there (Manual 4.3).
 pub fn fetch(program: &[u8], w: &[u32]) -> Fetched
     requires { MachineWords w.now }
     ensures { (memory : Memory) → fetched_as result ≡ (view_of program.now w.now memory).fetched }
@@ -111,7 +111,7 @@ fn check_nop(program: &[u8], w: &[u32], k: u32) -> NopCheck
     }
 }
 
-// Whether so many nops follow the next instruction: one word after another.
+/// Whether so many nops, at most three, follow the next instruction: one word after another, and the first that fails decides (Manual 4.6).
 pub fn check_nops(program: &[u8], w: &[u32], count: u32) -> NopCheck
     requires { MachineWords w.now × ((machine_of w.now).position.pc < MOST_MEMORY) × (count < 4) }
     ensures { (memory : Memory) → nop_check_as result ≡ nops_after (view_of program.now w.now memory) count }

@@ -1,4 +1,4 @@
--- `view::program::check_nops` meets its contract: before each turn all words before the k-th are nops, and the others decide. Assumes nothing.
+-- `view::program::check_nops` meets its contract: before each pass all words before the k-th are nops, and the others decide. Assumes nothing.
 use mathlib.Core.Path.{◌≡◌, sym, ap, ◌∙◌}
 use Prim.Native.Nat.{ℕ, ◌+◌, ◌-◌}
 use native.Mathlib.Omega.{arith}
@@ -16,7 +16,7 @@ loop-k-init c =
     let all : a.count ≡ a.count + 1 - 1 = omega arith in
     (omega arith, omega arith, λ memory. let v = view_of a.program.now a.w.now memory in ap (λ (n : ℕ). nops_from (width_of v.status) v.following 1 n) all)
 
--- one turn more, by what comes of its word
+-- one pass more, by what comes of its word
 turn : (c : goal.After-check_nop-checked) (r : NopCheck) → c.check_nop-checked.result ≡ r → (memory : Memory)
     → let l = c.loop-k in
     let a = c.args in

@@ -1,4 +1,4 @@
--- `view::program::check_nops` meets its contract: before each turn all words before the k-th are nops, and the others decide. Assumes nothing.
+-- `view::program::check_nops` meets its contract: before each pass all words before the k-th are nops, and the others decide. Assumes nothing.
 use mathlib.Core.Path.{◌≡◌}
 use Prim.Native.Nat.{◌+◌, ◌-◌, ◌≤◌}
 use Rattle.machine.specs.Machine.{Memory, width_of}
