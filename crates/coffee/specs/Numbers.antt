@@ -1,4 +1,4 @@
--- Answers as numbers, for C. Assumes nothing.
+-- Answers as numbers, for C (Manual 14.1). Assumes nothing.
 use Rattle.std.specs.Prelude.{Bool, List, ℕ, ◌+◌, ◌^◌, ℤ}
 use Rattle.machine.specs.Machine.{Memory}
 use Rattle.emulator.specs.Run.{Reply, RefusedWith, RanFor, Outcome}
@@ -12,7 +12,7 @@ unfoldable pub answer_numbers : Reply → CoffeeAnswer
 answer_numbers (RefusedWith n) = record { refusal = n; steps = 0; ending = 0 }
 answer_numbers (RanFor steps ending) = record { refusal = 0; steps = steps; ending = ending }
 
--- the answer, and the lent buffer and memory after the call
+-- the answer, and the caller's buffer and memory after the call
 pub record Shown : Type 0 where
   pub answer : CoffeeAnswer
   pub buffer : List ℕ

@@ -24,11 +24,11 @@ use machine::Refusal;
 #[repr(C)]
 #[derive(Clone, Copy)]
 pub struct CoffeeAnswer {
-    /// The number of the first question that is answered no, or 0.
+    /// The number of the first question that is answered no, or 0 (Manual 9.2).
     pub refusal: u32,
     /// The steps done.
     pub steps: u32,
-    /// 0 for the limit, or the number of a stop.
+    /// 0 for the limit, or the number of a stop (Manual 9.3).
     pub ending: u32,
 }
 
