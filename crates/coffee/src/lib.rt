@@ -111,7 +111,6 @@ fn encoding_number(answer: Result<u32, Refusal>) -> u64
 }
 
 /// Makes an instruction word from what a listing shows of it; wide 0 is 16-bit words, conditional 0 is no condition.
-#[tactic(auto, unfolding(crate::specs::Numbers::choice_by, encoder::specs::Encode::guard_by, word::specs::Choice::choices))]
 #[unsafe(no_mangle)]
 pub extern "C" fn coffee_encode(
     operation: u32,
