@@ -24,11 +24,11 @@ use machine::Refusal;
 #[repr(C)]
 #[derive(Clone, Copy)]
 pub struct CoffeeAnswer {
-    /// The number of the first question that is answered no, or 0.
+    /// The number of the first question that is answered no, or 0 (Manual 9.2).
     pub refusal: u32,
     /// The steps done.
     pub steps: u32,
-    /// 0 for the limit, or the number of a stop.
+    /// 0 for the limit, or the number of a stop (Manual 9.3).
     pub ending: u32,
 }
 
@@ -111,7 +111,6 @@ fn encoding_number(answer: Result<u32, Refusal>) -> u64
 }
 
 /// Makes an instruction word from what a listing shows of it; wide 0 is 16-bit words, conditional 0 is no condition.
-#[tactic(auto, unfolding(crate::specs::Numbers::choice_by, encoder::specs::Encode::guard_by, word::specs::Choice::choices))]
 #[unsafe(no_mangle)]
 pub extern "C" fn coffee_encode(
     operation: u32,

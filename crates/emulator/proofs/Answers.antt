@@ -1,4 +1,4 @@
--- The answer of a call, refused or not, and the lent buffer and data memory. Assumes nothing.
+-- The answer of a call, refused or not, and the caller's buffer and data memory. Assumes nothing.
 use mathlib.Core.Path.{◌≡◌, refl, sym, ap, ◌∙◌}
 use mathlib.Core.List.{List, [], ◌∷◌, ◌++◌}
 use Prim.Native.Nat.{ℕ, zero, suc, ◌+◌, ◌≤◌, ◌<◌}

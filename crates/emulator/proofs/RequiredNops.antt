@@ -1,4 +1,4 @@
--- A call whose program has the nops that must follow has the steps that it had. Assumes nothing.
+-- A call whose program has the nops that must follow has the same steps without the look at them. Assumes nothing.
 use mathlib.Core.Path.{refl, ap, ◌∙◌}
 use mathlib.Core.List.{List, [], ◌∷◌}
 use Prim.Native.Nat.{zero, suc}

@@ -1,4 +1,4 @@
--- The call that carries over an image of the earlier layout (02, wish 5). Assumes nothing.
+-- The call that carries over an image of the earlier layout (Manual 9.4). Assumes nothing.
 use Rattle.std.specs.Prelude.{◌≡◌, Bool, true, List, [], ◌∷◌, ℕ, ◌≤◌, ◌<◌, length, get_or}
 use Rattle.codec.specs.Number.{numbers_of, over}
 use Rattle.machine.specs.Machine.{Machine}
@@ -13,13 +13,13 @@ unfoldable pub carried_by : Read → (buffer : List ℕ) → ImageOutcome
 carried_by (Refused n) buffer = image_outcome n buffer
 carried_by (Accepted m) buffer = image_call m buffer
 
--- "Images saved by cards already on lines, asked 2 to 5 by the old layout, then 8, are carried over"
+-- an image of the earlier layout is asked 2 to 5 by that layout, then 8 is asked, and then it is carried over
 unfoldable pub carry_over_call : (image buffer : List ℕ) → ImageOutcome
 carry_over_call image buffer = carried_by (read_earlier image) buffer
 
 -- ---- what is proved
 
--- the answers to the questions 2 to 5 of the old layout; 1 is not asked
+-- the answers to the questions 2 to 5 of the earlier layout; 1 is not asked
 abbrev pub earlier_answers : (image : List ℕ) → List Bool
 earlier_answers image =
     let m = earlier_in (numbers_of image) in
@@ -34,7 +34,7 @@ pub data CarriedAs (image buffer : List ℕ) : ImageOutcome → Type 0 where
 abbrev pub CarryAnswers : Type 0
 CarryAnswers = (image buffer : List ℕ) → CarriedAs image buffer (carry_over_call image buffer)
 
--- "with dividers 0, all else the same": the bytes of the image, and the last section behind them; they say the machine that the image said
+-- with dividers 0, and all else the same: the bytes of the image, and the last section behind them; they say the machine that the image said
 abbrev pub Carried : Type 0
 Carried =
     (image buffer : List ℕ) (m : Machine) → ((i : ℕ) → get_or image i 0 < 256) → read_earlier image ≡ Accepted m → LONGEST ≤ length buffer

@@ -1,4 +1,4 @@
--- What a call leaves: for lists of calls (01, demand 3), and of its answer and buffer (01 "Machine image"). Assumes nothing.
+-- What a call leaves: of lists of calls on one machine, and of one call's answer and buffer (Manual 9.3). Assumes nothing.
 use Rattle.std.specs.Prelude.{◌≡◌, true, List, [], ◌∷◌, ℕ, suc, ◌≤◌, ◌<◌, length, get_or}
 use Rattle.std.proofs.Math.ListN.{get_elem?}
 use Rattle.word.specs.Flags.{is_among}
@@ -20,17 +20,17 @@ unfoldable pub Steps : (program : List ℕ) → State → List Transition → Ty
 Steps program s [] = Unit {0}
 Steps program s (t ∷ ts) = (requests : ℕ) × (t ≡ step program s requests) × Steps program t.after ts
 
--- "A stop is not a step: everything, requests included, is as before it"
+-- a stop is not a step: everything, requests included, is as before it (Manual 4.10)
 unfoldable pub StopChangesNothing : Type 0
 StopChangesNothing = (program : List ℕ) (s : State) (requests : ℕ) → is_stop (step program s requests).kind ≡ true → (step program s requests).after ≡ s
 
--- the machine after a transition is demand 2's, and where its call ends there, it is what that call left: the image is one for which 2 to 5
--- are all yes, and says the machine after the call's last transition; the data memory is the one after it
+-- a call leaves what its last transition left: its image is one for which questions 2 to 5 are all yes, and says the machine after that transition;
+-- the data memory is the one after it
 pub record Left (start : State) (d : Called) : Type 0 where
   pub machine : read_image d.image ≡ Accepted (final start d.transitions).machine
   pub memory : d.outcome.memory ≡ (final start d.transitions).memory
 
--- of every call, refused or not, on an image for which 2 to 5 are all yes
+-- of every call, refused or not, on an image for which questions 2 to 5 are all yes
 unfoldable pub Closure : Type 0
 Closure =
     (program image : List ℕ) (memory : Memory) (c : Call) (m : Machine) → read_image image ≡ Accepted m
@@ -42,9 +42,9 @@ Continuity =
     (program image : List ℕ) (memory : Memory) (calls : List Call) (m : Machine) → read_image image ≡ Accepted m
     → Steps program (state_with m memory) (transitions program image memory calls)
 
--- ---- the answer and the lent memory
+-- ---- the answer and the caller's memory
 
--- "a no gives the number and does no step"; "Every refusal .. changes no lent memory"
+-- a refused call answers the number of the first no, does no step, and changes none of the caller's memory (Manual 9.1)
 pub record Unchanged (image : List ℕ) (memory : Memory) (c : Call) (n : ℕ) (d : Called) : Type 0 where
   pub least : 1 ≤ n
   pub most : n ≤ 8
@@ -59,13 +59,14 @@ Refusals =
     (program image : List ℕ) (memory : Memory) (c : Call) (n : ℕ) → asked program image memory c ≡ No n
     → Unchanged image memory c n (called program image memory c)
 
--- "the image at the buffer's front; its further bytes keep their values"
+-- the image is at the buffer's front, and the bytes behind it keep their values
 pub record Written (image before after : List ℕ) : Type 0 where
   pub size : length after ≡ length before
   pub front : (i : ℕ) → i < length image → get_elem? after i ≡ get_elem? image i
   pub further : (i : ℕ) → length image ≤ i → get_elem? after i ≡ get_elem? before i
 
--- "steps done, ending (0 limit reached, or stop 11 to 15)", or stop 20 (02, wish 8), of so many transitions: the last one is the stop, if there is one
+-- steps done and ending, 0 where the limit is reached, or the stop's number (Manual 4.10), of so many transitions: the last one is the stop, if there
+-- is one
 pub data Ended (limit steps ending count : ℕ) : Type 0 where
   limit_reached : steps ≡ limit → count ≡ limit → ending ≡ 0 → Ended limit steps ending count
   stopped : steps < limit → count ≡ suc steps → is_among ending STOPS ≡ true → Ended limit steps ending count
@@ -86,7 +87,7 @@ Completed =
     (program image : List ℕ) (memory : Memory) (c : Call) (m : Machine) → asked program image memory c ≡ Start m
     → RanAs program (state_with m memory) c (called program image memory c)
 
--- "limit 0: no step, same image"
+-- with limit 0 no step is done, and the image is the same
 pub record NoStep (image : List ℕ) (memory : Memory) (d : Called) : Type 0 where
   pub no_steps : d.transitions ≡ []
   pub same_image : d.image ≡ image

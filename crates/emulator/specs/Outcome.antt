@@ -5,7 +5,7 @@ use Rattle.codec.specs.Number.{over}
 use Rattle.machine.specs.Machine.{Machine}
 use Rattle.image.specs.Image.{LONGEST, write_image}
 
--- its answer, 0 or the number of the refusal, and the lent buffer after it
+-- its answer, 0 or the number of the refusal, and the caller's buffer after it
 pub record ImageOutcome : Type 0 where
   pub answer : ℕ
   pub buffer : List ℕ
@@ -13,7 +13,7 @@ pub record ImageOutcome : Type 0 where
 abbrev pub image_outcome : (answer : ℕ) (buffer : List ℕ) → ImageOutcome
 image_outcome answer buffer = record { answer = answer; buffer = buffer }
 
--- "question 8 wants 720 bytes" (02, wish 5); the image is at the buffer's front, "its further bytes keep their values"
+-- question 8: the buffer has at least 720 bytes. Then the image is at its front, and the bytes behind it keep their values
 unfoldable pub image_call : Machine → (buffer : List ℕ) → ImageOutcome
 image_call m buffer = choose leb LONGEST (length buffer) then image_outcome 0 (over (write_image m) buffer) else image_outcome 8 buffer
 

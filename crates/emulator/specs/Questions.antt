@@ -1,4 +1,4 @@
--- Which calls are refused, with which number, and which are not (01 "Machine image"). Assumes nothing.
+-- Which calls are refused, with which number, and which are not (Manual 9.1, 9.2). Assumes nothing.
 use Rattle.std.specs.Prelude.{◌≡◌, Bool, true, false, ◌↔◌, List, ℕ, ◌-◌, ◌≤◌, ◌<◌, length, get_or}
 use Rattle.machine.specs.Machine.{Machine, MOST_MEMORY, Memory}
 use Rattle.formed.specs.Questions.{Accepted}
@@ -16,7 +16,7 @@ pub record FirstNoAt (given : List Bool) (n : ℕ) : Type 0 where
   pub before : (k : ℕ) → 1 ≤ k → k < n → answer_to k given ≡ true
   pub no : answer_to n given ≡ false
 
--- "Asked in order; a no gives the number": a call is refused with n just where that is so
+-- a call is refused with n just where that is so
 unfoldable pub FirstNo : Type 0
 FirstNo =
     (program image : List ℕ) (memory : Memory) (c : Call) (n : ℕ)

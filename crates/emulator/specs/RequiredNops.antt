@@ -1,4 +1,4 @@
--- Calls on programs that have the nops that must follow swm, scall, retu and reti (02, wish 8). No definition of a call rests on these. Assumes nothing.
+-- Calls on programs that have the nops that must follow swm, scall, retu and reti (Manual 4.6). No definition of a call rests on these. Assumes nothing.
 use Rattle.std.specs.Prelude.{◌≡◌, false, List, ℕ, zero, suc, get_or}
 use Rattle.machine.specs.Machine.{State}
 use Rattle.step.specs.Step.{is_stop, step}
@@ -13,8 +13,8 @@ NopsFollowIn program requests (suc left) done s =
     let t = step program s q in
     NopsFollow program s q × (is_stop t.kind ≡ false → NopsFollowIn program requests left (suc done) t.after)
 
--- "A program that keeps 002's rule, its nops present and unprotected, runs as before": the call has the steps that it has where nobody looks at the
--- nops, and so the same result (Run: `result_from`)
+-- where its nops are there and not protected, a program runs as it does where nobody looks at them: the call has the same steps, and so the same
+-- result (Run: `result_from`)
 abbrev pub RunsAsBefore : Type 0
 RunsAsBefore =
     (program requests : List ℕ) (left done : ℕ) (s : State) → NopsFollowIn program requests left done s

@@ -1,4 +1,4 @@
--- The call that gives the image of the machine at reset (002 section 2.9), for a first run call. Assumes nothing.
+-- The call that gives the image of the machine at reset (Manual 8.3, 9.4), for a first run call. Assumes nothing.
 use Rattle.std.specs.Prelude.{List, ℕ}
 use Rattle.machine.specs.Control.{reset}
 use Rattle.emulator.specs.Outcome.{ImageOutcome, image_call}

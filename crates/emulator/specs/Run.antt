@@ -1,4 +1,4 @@
--- A run call, and lists of run calls on one machine (01 "Machine image", demand 3). Assumes nothing.
+-- A run call (Manual 9.3), and lists of run calls on one machine (Manual 10.1). Assumes nothing.
 use Rattle.std.specs.Prelude.{Bool, ◌&&◌, List, [], ◌∷◌, ◌++◌, ℕ, zero, suc, length, get_or, leb}
 use Rattle.word.specs.Choice.{choose◌then◌else◌}
 use Rattle.codec.specs.Number.{numbers_of, over}
@@ -10,9 +10,9 @@ use Rattle.step.specs.Step.{is_stop, step}
 use Rattle.emulator.specs.declared.Answer.{Answer}
 use Rattle.emulator.specs.declared.Answer.TheVariants.{Refusal, Ran}
 
--- "Requests, step limit and image buffer are each call's own"
+-- what each call of a list has of its own: requests, step limit and image buffer
 pub record Call : Type 0 where
-  pub requests : List ℕ  -- "one number per step; steps past the list have none"
+  pub requests : List ℕ  -- one number for each step; steps past the list have none
   pub limit : ℕ
   pub buffer : List ℕ
 
@@ -30,7 +30,7 @@ run_by next requests (suc limit) done s =
 unfoldable pub run : (program requests : List ℕ) (limit done : ℕ) → State → List Transition
 run program = run_by (step program)
 
--- steps done; "ending (0 limit reached, or stop 11 to 15)", or 20 (02, wish 8); the state that is left
+-- steps done; the ending, 0 where the limit is reached, or the stop's number; the state that is left
 pub record RunResult : Type 0 where
   pub steps : ℕ
   pub ending : ℕ
@@ -47,7 +47,7 @@ result_of done s (t ∷ ts) =
 unfoldable pub result_from : (program requests : List ℕ) (left done : ℕ) → State → RunResult
 result_from program requests left done s = result_of done s (run program requests left done s)
 
--- ---- the questions: "Asked in order; a no gives the number and does no step"
+-- ---- the questions, asked in order: the first no decides (Manual 9.1, 9.2)
 
 -- the largest step limit
 abbrev pub MOST_STEPS : ℕ
@@ -93,8 +93,8 @@ asked program image memory c = ask (length program) (length memory.cells) image 
 
 -- what a call answers, in numbers
 pub data Reply : Type 0 where
-  RefusedWith : (number : ℕ) → Reply  -- "a no gives the number", 1 to 8
-  RanFor : (steps ending : ℕ) → Reply  -- "steps done, ending (0 limit reached, or stop 11 to 15)", or 20
+  RefusedWith : (number : ℕ) → Reply  -- that of the first no, 1 to 8
+  RanFor : (steps ending : ℕ) → Reply  -- the ending is 0 where the limit is reached, or the stop's number
 
 -- the number and values of each case of the code's answer
 unfoldable pub reply_of : Answer → Reply
@@ -112,7 +112,7 @@ run_end answer after = record { answer = answer; after = after }
 abbrev pub end_of : RunResult → RunEnd
 end_of e = run_end (RanFor e.steps e.ending) e.after
 
--- the answer, and the lent buffer and memory after the call
+-- the answer, and the caller's buffer and memory after the call
 pub record Outcome : Type 0 where
   pub answer : Reply
   pub buffer : List ℕ
@@ -124,13 +124,13 @@ outcome answer buffer memory = record { answer = answer; buffer = buffer; memory
 -- the same with what a list of calls goes on with
 pub record Called : Type 0 where
   pub outcome : Outcome
-  pub image : List ℕ  -- "the image that the last one left (after a refusal, the image that one got)"
+  pub image : List ℕ  -- the image that the call left; after a refusal, the one that it got
   pub transitions : List Transition
 
 abbrev pub state_with : Machine → Memory → State
 state_with m memory = record { machine = m; memory = memory }
 
--- "Every refusal .. changes no lent memory"; otherwise "the image at the buffer's front; its further bytes keep their values"
+-- a refusal changes none of the caller's memory; otherwise the image is at the buffer's front, and the bytes behind it keep their values
 unfoldable pub called_by : (program image : List ℕ) → Memory → Call → Asked → Called
 called_by program image memory c (No n) = record { outcome = outcome (RefusedWith n) c.buffer memory; image = image; transitions = [] }
 called_by program image memory c (Start m) =
@@ -152,8 +152,8 @@ run_call program image memory c = (called program image memory c).outcome
 
 -- ---- lists of calls
 
--- the steps and stops of the calls of a list, in order (01: turns); each later call gets "the same program, a copy of the image that the
--- last one left .. and the memories as it left them"
+-- the transitions, steps and stops, of the calls of a list, in order; each later call gets the same program, and the image and the memory that the one
+-- before it left
 unfoldable pub transitions : (program image : List ℕ) → Memory → List Call → List Transition
 transitions program image memory [] = []
 transitions program image memory (c ∷ cs) =

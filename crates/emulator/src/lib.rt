@@ -1,4 +1,5 @@
-// The run call: the questions in order, the steps, the new image. And the image to start with, and images of the earlier layout carried over.
+//! The run call: the questions in order, the steps, the new image. And the image to start with, and images of the earlier layout carried over
+//! (Manual 9).
 #![tactic(auto)]
 
 ghost use Rattle.std.specs.Prelude.{◌≡◌, true, ◌≤◌, length, get_or};
@@ -10,16 +11,16 @@ ghost use Rattle.emulator.specs.Reset.{reset_call};
 ghost use Rattle.emulator.specs.CarryOver.{carry_over_call};
 ghost use Rattle.machine.specs.Machine.{MOST_MEMORY, memory_of};
 
-// What a run call answers.
+/// What a run call answers.
 #[derive(Clone, Copy)]
 pub enum Answer {
-    // The number of the first question that is answered no.
+    /// The number of the first question that is answered no, 1 to 8 (Manual 9.2).
     Refusal(u32),
-    // Steps done, and the ending: 0 for the limit, or the number of a stop.
+    /// Steps done, and the ending: 0 for the limit, or the number of a stop (Manual 9.3).
     Ran(u32, u32),
 }
 
-// The largest step limit.
+/// The largest step limit.
 pub const MOST_STEPS: u32 = 1_000_000;
 
 // ---- the questions
@@ -94,8 +95,10 @@ fn run_steps(
 
 // ---- the call
 
-// Runs a machine image for at most `limit` steps. A refusal leaves the data cells and the buffer as they were; otherwise the cells are
-// what the completed steps leave, and the new image is at the buffer's front.
+/// Runs a machine image for at most `limit` steps: number k of `requests` is for step k, counted from 0, and a step past the list has none.
+///
+/// A refusal (Manual 9.2) leaves the cells and the buffer as they were; otherwise the cells are what the completed steps leave, and the new
+/// image is at the buffer's front.
 pub fn run(
     program: &[u8],
     cells: &mut [u32],
@@ -138,7 +141,9 @@ fn write_image(w: &[u32], buffer: &mut [u8]) -> u32
     0
 }
 
-// Writes the image of the machine at reset to the buffer's front; 8 when the buffer is too short, and then nothing is changed.
+/// Writes the image of the machine at reset to the buffer's front (Manual 9.4).
+///
+/// Answers 0; or 8, and nothing is changed, when the buffer has fewer than 720 bytes.
 pub fn reset(buffer: &mut [u8]) -> u32
     ensures { image_outcome result buffer.new ≡ reset_call buffer.old }
 {
@@ -146,7 +151,9 @@ pub fn reset(buffer: &mut [u8]) -> u32
     write_image(&words, buffer)
 }
 
-// Writes the machine of an image of the earlier layout, with dividers 0, to the buffer's front; a refusal changes nothing.
+/// Writes the machine of an image of the earlier layout, with dividers 0, to the buffer's front (Manual 9.4).
+///
+/// Answers 0; or the refusal, 2 to 5 of the image or 8 of the buffer, and nothing is changed.
 pub fn carry_over(image: &[u8], buffer: &mut [u8]) -> u32
     ensures { image_outcome result buffer.new ≡ carry_over_call image.now buffer.old }
 {

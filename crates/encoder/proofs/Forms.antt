@@ -7,7 +7,7 @@ use Prim.Native.Nat.{ℕ, ◌+◌, ◌*◌, ◌^◌, ◌≤◌, ◌<◌}
 use native.Mathlib.Omega.{arith}
 use lib.Dec.{ltb}
 use lib.IntN.{pos}
-use lib.Pow.{pow_pos, pow_mono}
+use lib.Pow.{pow_pos}
 use borrow.Author.Tests.{ltb-true, lt-ltb}
 use Rattle.word.specs.Choice.{choose◌then◌else◌}
 use Rattle.word.specs.Word.{mod_z, word_of}
@@ -18,9 +18,7 @@ use Rattle.isa.specs.declared.width.Width.{Width}
 use Rattle.isa.specs.declared.width.Width.TheVariants.{Narrow, Wide}
 use Rattle.isa.specs.Operation.{operation_of, properties}
 use Rattle.isa.specs.Format.{fields_width, placed_in, operation_field, conditional_field, creg_field, condition_field}
-use Rattle.isa.specs.Decode.{word_bytes}
 use Rattle.isa.specs.Shown.{has_form}
-use Rattle.isa.proofs.Decoded.{bytes_most}
 use Rattle.isa.proofs.Places.{field_is}
 use Rattle.encoder.specs.declared.Guard.{Guard}
 use Rattle.encoder.specs.Encode.{Choice, Part, natural, guard_parts, operand_part, parts_of, fits, part_fits, all_fit, written, given, conditional_form, chosen_form}
@@ -28,7 +26,7 @@ use Rattle.encoder.specs.Fields.{fields_fit, guard_fits, guard_bits, fields_bits
 use Rattle.encoder.proofs.Parts.{fit_append, written_append}
 use Rattle.encoder.proofs.Values.{natural_fits}
 use Rattle.encoder.proofs.Fits.{field_fits_law}
-use Rattle.encoder.proofs.ReadBack.{operation_bits, size}
+use Rattle.encoder.proofs.ReadBack.{operation_bits}
 
 -- ---- the condition
 
@@ -115,13 +113,6 @@ module _ (width : Width) (c : Choice) (form : chosen_form width c.operation (giv
       let bits = guard_written width n c.guard form in
       omega arith
 
-  pub sum_below : placed_in (operation_field width) n + guard_bits c.guard + fields_bits width o c < 2 ^ 32
-  sum_below =
-      let bytes = bytes_most width in
-      let most : 2 ^ (8 * word_bytes width) ≤ 2 ^ 32 = pow_mono {j = 32} (omega arith) in
-      let below = size width c form in
-      omega (arith, sum_is)
-
 -- the same of an operation that is known to be the choice's
 module _ (width : Width) (c : Choice) {o : Operation} (form : chosen_form width c.operation (given c.guard) ≡ true) (e : o ≡ operation_of c.operation) where
   pub fit_when : {g f : Bool} → g ≡ guard_fits c.guard → f ≡ fields_fit width o c → g && f ≡ all_fit (parts_of width c)
@@ -129,6 +120,3 @@ module _ (width : Width) (c : Choice) {o : Operation} (form : chosen_form width 
 
   pub sum_when : placed_in (operation_field width) c.operation + guard_bits c.guard + fields_bits width o c ≡ written (parts_of width c)
   sum_when = rw e (sum_is width c form)
-
-  pub sum_fits : placed_in (operation_field width) c.operation + guard_bits c.guard + fields_bits width o c < 2 ^ 32
-  sum_fits = rw e (sum_below width c form)

@@ -108,6 +108,7 @@ impl Guard {
 
 impl Choice {
     /// Whether its operands fit the fields that its operation has for them.
+    // The four are written out, here and below: of a loop over `zip` the check did not find the proof.
     fn operands_fit(self, operation: Operation, width: Width) -> bool
         ensures { result ≡ fields_fit width operation (chosen self) }
     {

@@ -21,8 +21,10 @@ pub struct Operands {
 /// An instruction word taken apart.
 #[derive(Clone, Copy)]
 pub struct Instruction {
+    /// The number of its operation, and no `Operation`: groups of operations are ranges of it.
     pub opcode: u32,
-    /// It is done only where the condition holds of `creg`.
+    /// It is done only where the condition holds of `creg`. No `Option` of a condition: `creg` is an operand of cmp and of branches, and `decode`
+    /// says all three of every word.
     pub conditional: bool,
     pub creg: u32,
     pub condition: u32,
@@ -106,6 +108,9 @@ impl Instruction {
             immediate: o.immediate,
         }
     }
+
+    // A function for each group of operations: who knows a word's group decodes it by the group's few forms, which takes a step fewer instructions.
+    // In a group an arm for each range of numbers. Equal arms stand apart: of `18 | 22` the check finds no proof.
 
     /// Operations 1 to 17, add to sext: a target and two sources; in 16-bit words the second source is the target.
     pub fn of_registers(word: u32, width: Width) -> Self

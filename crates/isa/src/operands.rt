@@ -244,6 +244,7 @@ impl Operation {
     }
 
     /// Where its operands stand.
+    // The four are written out: of `map` over the array the check did not find the proof.
     pub fn fields(self, width: Width) -> [OperandField; 4]
         ensures { result ≡ fields_at width self }
     {

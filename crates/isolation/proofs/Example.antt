@@ -1,4 +1,4 @@
--- The premises of isolation can be met: two machines that differ in CCB_BASE, set 2, vectors, pending flags, timers that run, the hardware
+-- The hypotheses of isolation can be met: two machines that differ in CCB_BASE, set 2, vectors, pending flags, timers that run, the interrupt
 -- stack, a protected cell and a protected program byte, and two lists of calls that differ in requests, limits, buffers and refusals. Both have four
 -- transitions, three in the segment and then the exception 07h. And one whose second transition is a watchdog's reset. Assumes nothing.
 use mathlib.Core.Path.{◌≡◌, refl, sym, ap, ◌∙◌}
@@ -111,7 +111,7 @@ right_segment : length (segment (transitions_of right)) ≡ 3
 unfolding sessions right call entry program cells machine
 right_segment = refl
 
--- ---- the premises
+-- ---- the hypotheses
 
 left_start : UserStart left
 unfolding sessions left entry machine

@@ -102,7 +102,7 @@ module _ (p q : List ℕ) where
       let a = first_agree s r x.0 y.0 t₀ u₀ x.1 y.1 i j l b g'.0.1 h'.0.1 in
       steps_agree ts us t₀.after u₀.after x.2 y.2 m.1 n.1 (agree_on t₀ u₀ a g'.0) (programs_later p q m.0 b) k t u e f g'.1 h'.1 c d
 
--- ---- demand 3
+-- ---- the theorem
 
 start_mode : (a : Session) → UserStart a → Mode (start_of a)
 start_mode a s =

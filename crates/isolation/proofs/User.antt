@@ -14,7 +14,7 @@ use Rattle.machine.proofs.Bits.{status_kept}
 use Rattle.machine.proofs.Lists.{at_set_other}
 use Rattle.effect.specs.Apply.{write_register, write_flags, words_on, next_pc, advance, advance_holding, jump_to, enable_interrupts, switch_width}
 
--- ---- the status in user mode: UM 1, both set bits 0
+-- ---- the status in user mode: UM 1, RSRD and RSWR 0
 
 pub user_bit : (q : ℕ) → q % 8 ≡ 1 → user_mode q ≡ true
 user_bit q h = let e : q / 2 ^ 0 % 2 ≡ 1 = omega arith in rw e

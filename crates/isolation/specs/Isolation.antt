@@ -1,4 +1,4 @@
--- The isolation of user mode (01, demand 3). Assumes nothing.
+-- The isolation of user mode (Manual 10). Assumes nothing.
 use Rattle.std.specs.Prelude.{◌≡◌, ◌≢◌, Bool, true, false, ◌||◌, List, [], ◌∷◌, ℕ, zero, suc, ◌+◌, ◌≤◌, length}
 use Rattle.std.proofs.Math.Option.{Option, none, some}
 use Rattle.std.proofs.Math.ListN.{get_elem?}
@@ -13,14 +13,14 @@ use Rattle.effect.specs.Apply.{Transition}
 use Rattle.emulator.specs.Run.{Call, state_with, transitions}
 use Rattle.effect.specs.Kind.{Kind, Ordinary, Interrupt, SystemCall, InterruptReturn, Exception, Reset, Stop}
 
--- ---- which transitions are compared (01: a transition is a turn)
+-- ---- which transitions are compared (Manual 10.1)
 
--- "numbered from 1 through the whole list"
+-- transition k of a list, numbered from 1 through all its calls
 unfoldable pub transition : List Transition → ℕ → Option Transition
 transition ts zero = none
 transition ts (suc k) = get_elem? ts k
 
--- "when it carries out scall (system call) or reti (interrupt return), enters an exception, or is a stop" (01: end)
+-- an exit carries out scall (system call) or reti (interrupt return), enters an exception, or is a stop
 unfoldable pub is_exit : Kind → Bool
 is_exit Ordinary = false
 is_exit Interrupt = false
@@ -30,7 +30,7 @@ is_exit (Exception c) = true
 is_exit Reset = false
 is_exit (Stop n) = true
 
--- "when it accepts an interrupt" (01: cut); "a turn whose clock resets the core is a cut" (02, wish 5), whatever its instruction was
+-- a preemption accepts an interrupt, or its clock resets the core, whatever its instruction was
 unfoldable pub is_preemption : Kind → Bool
 is_preemption Ordinary = false
 is_preemption Interrupt = true
@@ -40,7 +40,7 @@ is_preemption (Exception c) = false
 is_preemption Reset = true
 is_preemption (Stop n) = false
 
--- all transitions before the first exit or preemption (01: stretch)
+-- all transitions before the first exit or preemption
 unfoldable pub segment : List Transition → List Transition
 segment [] = []
 segment (t ∷ ts) =
@@ -71,21 +71,21 @@ start_of a = state_with a.machine a.memory
 abbrev pub transitions_of : Session → List Transition
 transitions_of a = transitions a.program a.image a.memory a.calls
 
--- "The first call gets an image for which 2 to 5 are all yes"; "UM is 1 in the first image's PSR"; "DMEM_BOUND_LO ≤ CCB_BASE and
--- CCB_BASE + 255 ≤ DMEM_BOUND_HI"
+-- the hypotheses H1 to H4, of the first call's image (Manual 10.2): questions 2 to 5 are all yes; UM is 1; and all 256 addresses of the control block
+-- are protected
 pub record UserStart (a : Session) : Type 0 where
   pub read : read_image a.image ≡ Accepted a.machine
   pub user : user_mode (psr a.machine) ≡ true
   pub block_low : control_at a.machine DMEM_BOUND_LO ≤ control_at a.machine CCB_BASE
   pub block_high : control_at a.machine CCB_BASE + 255 ≤ control_at a.machine DMEM_BOUND_HI
 
--- ---- first half: what is protected stays as it was
+-- ---- integrity: what is protected stays as it was (Manual 10.3)
 
--- the control registers that the claim excepts: "both counts besides the pending flags" (02, wish 5)
+-- the control registers that the claim excepts: the pending flags and both timers' counts
 abbrev pub EXCEPTED : List ℕ
 EXCEPTED = INT_PEND ∷ TMR0_CNT ∷ TMR1_CNT ∷ []
 
--- set 2 but the status, control registers but those excepted, the hardware stack, protected cells; and user mode stays
+-- set 2 but the status, control registers but those excepted, the interrupt stack, protected cells; and user mode stays
 pub record Kept (before after : State) : Type 0 where
   pub set2 : (n : ℕ) → n ≢ PSR → get_elem? after.machine.set2 n ≡ get_elem? before.machine.set2 n
   pub control : (n : ℕ) → is_among n EXCEPTED ≡ false → get_elem? after.machine.control n ≡ get_elem? before.machine.control n
@@ -97,9 +97,9 @@ unfoldable pub Integrity : Session → Type 0
 Integrity a =
     (k : ℕ) (t : Transition) → transition (transitions_of a) k ≡ some t → InSegment (transitions_of a) k → Kept (start_of a) t.after
 
--- ---- second half: what is protected does not show
+-- ---- confidentiality: what is protected does not show (Manual 10.4)
 
--- user registers, conditions, status, program position and unprotected cells are equal
+-- set 1, conditions, status, position and unprotected cells are equal
 pub record SameShown (s t : State) : Type 0 where
   pub set1 : s.machine.set1 ≡ t.machine.set1
   pub conditions : s.machine.conditions ≡ t.machine.conditions
@@ -108,7 +108,8 @@ pub record SameShown (s t : State) : Type 0 where
   pub cells : (a : ℕ) → protected_cell s.machine a ≡ false → get_elem? s.memory.cells a ≡ get_elem? t.memory.cells a
 
 -- two starts that differ in nothing but set 2 (the status apart), control registers (the bounds apart; the timers' counts among them), the
--- dividers, the entries of the hardware stack, protected cells and protected program bytes; of the stack, whether it is empty is equal, for reti asks it (stop 15)
+-- dividers, the entries of the interrupt stack, protected cells and protected program bytes; of the stack, whether it is empty is equal, for reti asks
+-- it (stop 15)
 pub record SameStart (a b : Session) : Type 0 where
   pub shown : SameShown (start_of a) (start_of b)
   pub nested : nested_by a.machine.stack ≡ nested_by b.machine.stack
@@ -120,7 +121,7 @@ pub record SameStart (a b : Session) : Type 0 where
   pub program_size : length a.program ≡ length b.program
   pub bytes : (n : ℕ) → protected_byte a.machine n ≡ false → get_elem? a.program n ≡ get_elem? b.program n
 
--- either transition k is in both segments, and what demand 3 says is shown is equal after it; or it is an exit in both, and the same: scall,
+-- either transition k is in both segments, and what is shown is equal after it; or it is an exit in both, and the same: scall,
 -- reti, an exception with the same code, or a stop with the same number
 pub data SameTransition (a b : Session) (k : ℕ) (t u : Transition) : Type 0 where
   both_go_on : InSegment (transitions_of a) k → InSegment (transitions_of b) k → SameShown t.after u.after → SameTransition a b k t u
@@ -133,7 +134,7 @@ Confidentiality a b =
     → EarlierInSegment (transitions_of a) k → EarlierInSegment (transitions_of b) k
     → is_preemption t.kind ≡ false → is_preemption u.kind ≡ false → SameTransition a b k t u
 
--- ---- demand 3: of every list of calls, refused ones anywhere in it, and of every two such lists
+-- ---- the claim: of every list of calls, refused ones anywhere in it, and of every two such lists
 
 unfoldable pub Isolation : Type 0
 Isolation =

@@ -1,3 +1,3 @@
--- The isolation of user mode: demand 3, as one claim over whole lists of run calls.
+-- The isolation of user mode, as one claim over whole lists of run calls (Manual 10).
 pub mod Isolation
 pub mod Computed

@@ -49,26 +49,28 @@ module _ (width : Width) (program : List ℕ) (start : ℕ) where
           left = ap (λ (n : ℕ). follow (successors width program) n 0 (visit start (blank (length program)))) (sub-zero (length program));
         }
 
-    module _ (head : ℕ) (s : Search) (g : Going head s) where
+    module _ (head : ℕ) (marks found : List ℕ) (g : Going head (record { marks = marks; found = found })) where
       -- no more are found than the program has bytes
-      pub few : length s.found ≤ length program
+      pub few : length found ≤ length program
       few = found_few (successors width program) (length program) start g.sound
 
-      module _ (h : head < length s.found) where
+      module _ (h : head < length found) where
         -- the next one is a word of the program
-        pub next_word : get_or s.found head 0 + word_bytes width ≤ length program
-        next_word = wholly width (length program) (get_or s.found head 0) (in_full_word width program start _ word (g.sound.reached _ (g.sound.listed head h)))
+        pub next_word : get_or found head 0 + word_bytes width ≤ length program
+        next_word = wholly width (length program) (get_or found head 0) (in_full_word width program start _ word (g.sound.reached _ (g.sound.listed head h)))
 
         -- what it leads to is found
-        pub more : Going (head + 1) (visit_all (successors width program (get_or s.found head 0)) s)
+        pub more : Going (head + 1) (visit_all (successors width program (get_or found head 0)) (record { marks = marks; found = found }))
         more =
+            let s : Search = record { marks = marks; found = found } in
             record {
               sound = expanded_sound (successors width program) (length program) start successors_inside s g.sound head h;
               left = sym (follow_more (successors width program) (length program) head s (omega (arith, few)) h) ∙ g.left;
             }
 
       -- nothing is left
-      pub ended : length s.found ≤ head → s.marks ≡ (searched (successors width program) (length program) start).marks
+      pub ended : length found ≤ head → marks ≡ (searched (successors width program) (length program) start).marks
       ended h =
-          ap (λ (s : Search). s.marks)
+          let s : Search = record { marks = marks; found = found } in
+          ap (λ (t : Search). t.marks)
           (sym (follow_end (successors width program) (length program) head s (length program - head) h) ∙ g.left)

@@ -38,6 +38,7 @@ fn visit_all(map: &mut [u8], queue: &mut Queue, words: [Option<u32>; 3])
 }
 
 /// Marks what is reached in full from a start address, in a map of zeros.
+#[tactic(auto, using(crate::proofs::ProgramSearch::few, crate::proofs::ProgramSearch::next_word, crate::proofs::ProgramSearch::ended))]
 pub fn search(code: Code<'_>, start: u32, map: &mut [u8])
     requires blank { map.old ≡ replicate (length code.program.now) 0 }
     requires word { is_word code.width (length code.program.now) start ≡ true }

@@ -1,6 +1,6 @@
-// The run program, on 01's worked example: three instructions and a limit of 3.
-
-// Runs the files of the folder that it is started in.
+//! The run program (Manual 15.1), on the worked example (Manual 16.2): three instructions and a limit of 3.
+//!
+//! Runs the files of the folder that it is started in.
 #![tactic(auto)]
 
 fn main(rt: HostRuntime) {

@@ -1,5 +1,5 @@
-// The run program on the files of other folders: limits, lengths, a watchdog, a missing nop, missing files. A line has the path of code.bin and what
-// the run program prints.
+//! The run program on the files of other folders: limits, lengths, a watchdog, a missing nop, missing files. A line has the path of code.bin and what
+//! the run program prints.
 #![tactic(auto)]
 
 use std::io::Print;
@@ -12,7 +12,7 @@ fn case(rt: &(impl Files + Print), code: &[u8], limit: &[u8]) {
     runner::run_paths(rt, code, limit);
 }
 
-// The folders one after the other. The program is that of 01's worked example where nothing else is said of it.
+// The folders one after the other. The program is that of the worked example (Manual 16.2) where nothing else is said of it.
 fn main(rt: HostRuntime) {
     // a newline after the limit
     case(&rt, b"newline/code.bin", b"newline/limit.txt");

@@ -20,7 +20,7 @@ over_whole front s h = ap (λ t. front ++ t) (drop_of_length-le s {i = length fr
 pub numbers_fill : (buffer : List ℕ) → length buffer ≡ LONGEST → over (numbers_of buffer) (replicate WORDS 0) ≡ numbers_of buffer
 numbers_fill buffer h = over_whole (numbers_of buffer) (replicate WORDS 0) (omega (arith, length_numbers_of buffer))
 
--- the image at reset has 528 bytes: no stack entries
+-- the image at reset has 528 bytes: no entries of the interrupt stack
 pub reset_length : length (write_image reset) ≡ SHORTEST
 unfolding reset
 reset_length = image_length (formed_counts reset_formed)

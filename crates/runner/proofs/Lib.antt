@@ -1,4 +1,4 @@
--- Laws of the run program: its buffers, its report, 01's example.
+-- Laws of the run program: its buffers, its report, its worked example.
 pub mod Buffers
 pub mod Reports
 pub mod Worked

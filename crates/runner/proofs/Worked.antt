@@ -1,4 +1,4 @@
--- 01's example of the run program, worked by antt: both sides compute. Assumes nothing.
+-- The worked example of the run program (Manual 16.2), worked by antt: both sides compute. Assumes nothing.
 use mathlib.Core.Path.{◌≡◌, refl, ◌∙◌}
 use lib.Dec.{lit≤}
 use Rattle.emulator.specs.Computed.{runs}

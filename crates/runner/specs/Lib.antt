@@ -1,4 +1,4 @@
--- The run program: what it prints (Report), case by case (Reports), and of 01's example (Worked).
+-- The run program: what it prints (Report), case by case (Reports), and of a worked example (Worked).
 pub mod Report
 pub mod Reports
 pub mod Worked

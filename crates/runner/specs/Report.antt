@@ -1,4 +1,4 @@
--- What the run program prints for its two files (01 "Worked by hand", the run program). Assumes nothing.
+-- What the run program prints for its two files (Manual 15.1). Assumes nothing.
 use Rattle.std.specs.Prelude.{List, [], ℕ, replicate}
 use Rattle.codec.specs.Number.{numbers_of}
 use Rattle.machine.specs.Machine.{Memory, memory_of}
@@ -12,20 +12,20 @@ use Rattle.console.specs.Line.{ran_text, refusal_text}
 unfoldable pub pc_of : (buffer : List ℕ) → ℕ
 pc_of buffer = (machine_in (numbers_of buffer)).position.pc
 
--- "prints steps, ending, PC in 8 hex digits ..": PC is that of the image which the call left; "A refusal prints its number alone and a newline"
+-- steps, ending and PC, in 8 hexadecimal digits, of the image that the call left, and a newline; of a refusal its number alone and a newline
 unfoldable pub answer_text : Reply → (buffer : List ℕ) → List ℕ
 answer_text (RefusedWith n) buffer = refusal_text n
 answer_text (RanFor steps ending) buffer = ran_text steps ending (pc_of buffer)
 
--- "4,096 zero cells"
+-- 4,096 cells of 0
 abbrev pub zero_memory : Memory
 zero_memory = memory_of (replicate 4096 0)
 
--- "runs without requests", with the limit that limit.txt says and a buffer that is long enough for every image
+-- no requests, the limit that limit.txt says, and a buffer that is long enough for every image
 unfoldable pub call_of : (text : List ℕ) → Call
 call_of text = record { requests = []; limit = limit_number text; buffer = replicate LONGEST 0 }
 
--- "starts from reset with 4,096 zero cells, reads code.bin and limit.txt (decimal), runs without requests"
+-- that call of the program in code.bin, from reset, with those cells
 unfoldable pub outcome_of : (code text : List ℕ) → Outcome
 outcome_of code text = run_call code (write_image reset) zero_memory (call_of text)
 

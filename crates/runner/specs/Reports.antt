@@ -1,4 +1,4 @@
--- What the run program prints, case by case (01 "Worked by hand", the run program). Assumes nothing.
+-- What the run program prints, case by case (Manual 15.1). Assumes nothing.
 use Rattle.std.specs.Prelude.{◌≡◌, List, [], ◌∷◌, ℕ, suc, ◌≤◌, ◌<◌, length, take}
 use Rattle.machine.specs.Machine.{MOST_MEMORY}
 use Rattle.machine.specs.Control.{reset}
@@ -16,7 +16,7 @@ ReportLong = (code text : List ℕ) → MOST_MEMORY < length code → report_of 
 unfoldable pub ReportUnlimited : Type 0
 ReportUnlimited = (code text : List ℕ) → length code ≤ MOST_MEMORY → MOST_STEPS < limit_number text → report_of code text ≡ 55 ∷ newline ∷ []
 
--- "prints steps, ending, PC": those of the run from reset, with no requests
+-- else steps, ending and PC: those of the run from reset, with no requests
 unfoldable pub ReportRan : Type 0
 ReportRan =
     (code text : List ℕ) → length code ≤ MOST_MEMORY → limit_number text ≤ MOST_STEPS

@@ -1,4 +1,4 @@
-// The run program: runs code.bin from reset for the steps that limit.txt says, and prints the answer.
+//! The run program: runs code.bin from reset for the steps that limit.txt says, and prints the answer (Manual 15.1).
 #![tactic(auto)]
 
 ghost use Rattle.std.specs.Prelude.{◌≡◌, length, replicate};
@@ -17,7 +17,7 @@ use std::rt::Files;
 
 // ---- the report
 
-// The machine image at reset, at the front of the longest image's bytes; the further bytes are 0.
+/// The machine image at reset, at the front of the longest image's 720 bytes; the bytes behind it are 0.
 pub fn reset_image() -> [u8; image::LONGEST]
     ensures { result ≡ over (write_image resetOf) (replicate LONGEST 0) }
 {
@@ -36,7 +36,7 @@ fn pc(buffer: &[u8]) -> u32
     machine::pc(&words)
 }
 
-// The line for an answer and the buffer that holds the new image.
+/// The line for an answer and the buffer that holds the new image: steps, ending and PC; of a refusal its number alone.
 pub fn line(answer: Answer, buffer: &[u8]) -> Line
     requires { length buffer.now ≡ LONGEST }
     ensures { result.bytes ≡ answer_text (reply_of answer) buffer.now }
@@ -47,7 +47,7 @@ pub fn line(answer: Answer, buffer: &[u8]) -> Line
     }
 }
 
-// The line that the run program prints for the bytes of code.bin and of limit.txt.
+/// The line that the run program prints for the bytes of code.bin and of limit.txt.
 pub fn report(code: &[u8], text: &[u8]) -> Line
     ensures { result.bytes ≡ report_of code.now text.now }
 {
@@ -86,7 +86,7 @@ fn read_full(file: &mut impl Read, buffer: &mut [u8]) -> usize
     done
 }
 
-// Puts a file's bytes at the front of a buffer, and answers how many; a file that cannot be opened counts as empty. A path is opened only as UTF-8.
+/// Puts a file's bytes at the front of a buffer, and answers how many; a file that cannot be opened counts as empty. A path is opened only as UTF-8.
 pub fn load(files: &impl Files, path: &[u8], buffer: &mut [u8]) -> usize
     ensures { IsPrefixLen result buffer.new }
 {
@@ -99,18 +99,18 @@ pub fn load(files: &impl Files, path: &[u8], buffer: &mut [u8]) -> usize
     read_full(&mut file, buffer)
 }
 
-// Writes bytes to standard output, and answers whether all were written. What is written, here and below, no contract can say.
+/// Writes bytes to standard output, and answers whether all were written. What is written, here and below, no contract can say.
 pub fn print_bytes(out: &impl Print, bytes: &[u8]) -> bool {
     out.write_all(bytes).is_ok()
 }
 
-// Writes a line's characters to standard output, and answers whether all were written.
+/// Writes a line's characters to standard output, and answers whether all were written.
 pub fn print(out: &impl Print, line: Line) -> bool {
     print_bytes(out, line.as_str().as_bytes())
 }
 
-// Reads two files, and prints the report of their bytes: a program, and the steps that it is run for. Of a longer file the bytes that are read say the
-// same (proofs/Reports: report_fronts). It lends nothing and has no result: the exit status says nothing.
+/// Reads two files, and prints the report of their bytes: a program, and the steps that it is run for. Of a longer file the bytes that are read say the
+/// same (proofs/Reports: report_fronts). It writes no memory of the caller's and has no result: the exit status says nothing.
 pub fn run_paths(rt: &(impl Files + Print), code_path: &[u8], limit_path: &[u8]) {
     let mut code = [0u8; machine::MOST_MEMORY + 1];
     let n = load(rt, code_path, &mut code);
@@ -119,7 +119,7 @@ pub fn run_paths(rt: &(impl Files + Print), code_path: &[u8], limit_path: &[u8])
     print(rt, report(&code[..n], &text[..m]));
 }
 
-// The run program: code.bin and limit.txt of the folder that it is started in.
+/// The run program: code.bin and limit.txt of the folder that it is started in.
 pub fn run_files(rt: &(impl Files + Print)) {
     run_paths(rt, b"code.bin", b"limit.txt");
 }

@@ -1,4 +1,5 @@
--- The order of the data tests decides user loads and stores at an address with overflow that is protected when wrapped, and no other step. Assumes nothing.
+-- The order of the data tests decides loads and stores in user mode at an address outside 32 bits that is protected when wrapped, and no other step.
+-- Assumes nothing.
 use mathlib.Core.Path.{◌≡◌, refl, sym, ◌∙◌}
 use mathlib.Core.Bool.{Bool, true, false, true≢false}
 use mathlib.Core.List.{List}
@@ -26,7 +27,7 @@ use Rattle.step.proofs.Accepted.{none_some}
 
 -- ---- an address
 
--- where it leads now and led before: to the same, or to the two exceptions
+-- where it leads by either order: to the same, or to the two exceptions
 data Places (s : State) (z : ℤ) : Type 0 where
   same : (Wrapped s z → ⊥) → place_at s z ≡ place_before s z → Places s z
   raised : Wrapped s z → place_at s z ≡ Raises 0x07 → place_before s z ≡ Raises 0x08 → Places s z

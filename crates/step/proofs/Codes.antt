@@ -1,4 +1,4 @@
--- The codes of exceptions: those of 01 but for 01h, and no other. Assumes nothing.
+-- The codes of exceptions: 00h, 02h to 09h and E0h to FFh, and no other. Assumes nothing.
 use mathlib.Core.Path.{◌≡◌, refl, sym}
 use mathlib.Core.Bool.{true, true≢false}
 use mathlib.Core.List.{List}

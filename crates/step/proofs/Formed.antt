@@ -42,7 +42,7 @@ use Rattle.formed.proofs.Parts.{second_of, second_set, set1_formed, set2_formed,
 
 -- ---- status: PSR
 
--- in super user mode any set bits are good, and in user mode those of set 1
+-- in super user mode any RSRD and RSWR are good, and in user mode 0 and 0
 status_formed : (user read write wide enabled : Bool) → (user ≡ true → bit_of read + bit_of write ≡ 0) → StatusOk (status_of user read write wide enabled)
 status_formed user read write wide enabled h =
     record {
@@ -53,7 +53,7 @@ status_formed user read write wide enabled h =
           status_low user read write wide enabled ∙ rw u (omega arith);
     }
 
--- IL and IE set anew: UM and the set bits are as before
+-- IL and IE set anew: UM, RSRD and RSWR are as before
 kept_formed : (q : ℕ) (wide enabled : Bool) → StatusOk q → StatusOk (status_of (user_mode q) (reads_set2 q) (writes_set2 q) wide enabled)
 kept_formed q wide enabled s =
     record {
@@ -223,7 +223,7 @@ pub service_status : (n : ℕ) (m : Machine) → StatusOk (service_psr n m)
 unfolding service_psr
 service_status n m = status_formed _ _ _ _ _ (λ e. rw e)
 
--- an accepted source goes on the stack
+-- an accepted source goes on the interrupt stack
 pub accepted_stacked : {m : Machine} {n : ℕ} → Accepted m n → WellFormed m → Stacked (entry_for n m ∷ m.stack)
 unfolding entry_for
 accepted_stacked a f = pushed record { source = a.below; address = f.position.address; status = f.status; c0 = f.conditions.range 0 } a.new f.stack

@@ -1,4 +1,4 @@
--- The nops that must follow: where they do a step is what it was, and where not the first word that is none decides. Assumes nothing.
+-- The nops that must follow: where they do a step is the same without the look at them, and where not the first word that is none decides. Assumes nothing.
 use mathlib.Core.Path.{◌≡◌, refl, sym, ap, ◌∙◌, subst}
 use mathlib.Core.List.{List}
 use mathlib.Core.Option.{Option, none, some}

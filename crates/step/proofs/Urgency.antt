@@ -1,4 +1,4 @@
--- The search for the source to accept: what one turn of it does, and that it finds the candidate of a well-formed machine. Assumes nothing.
+-- The search for the source to accept: what one iteration of it does, and that it finds the candidate of a well-formed machine. Assumes nothing.
 use mathlib.Core.Path.{◌≡◌, refl, sym, ap, ◌∙◌}
 use mathlib.Core.Bool.{Bool, true, false, ◌&&◌, and-true, and-false, and_assoc}
 use mathlib.Core.List.{List}
@@ -44,7 +44,7 @@ ltb_min p a b = go (ltb p a) refl (ltb p b) refl
     go true e false f = let k : b ≤ p = ltb-false p b f in le-ltb p (min a b) (omega arith)
     go false e t f = let h : a ≤ p = ltb-false p a e in le-ltb p (min a b) (omega arith)
 
--- ---- one turn
+-- ---- one iteration
 
 module _ (flags bound : ℕ) (m : Machine) (k : ℕ) where
   pub more_urgent : bit_at k flags ≡ true → priority m k < priority_or bound m (most_urgent flags bound m k) → most_urgent flags bound m (suc k) ≡ some k

@@ -1,5 +1,5 @@
--- An address both out of range and protected (02, wish 3): which steps differ from those that ask 08h before 07h, as 01 does. No definition of
--- the step rests on these. Assumes nothing.
+-- An address both out of range and protected (Manual 4.7): which steps differ from those of the other order of tests, 08h before 07h. No definition
+-- of the step rests on these. Assumes nothing.
 use Rattle.std.specs.Prelude.{◌≡◌, true, false, not, ◌&&◌, List, ℕ, ℤ, pos, ◌+ℤ◌}
 use Rattle.std.proofs.Math.Option.{Option, none, some}
 use Rattle.word.specs.Choice.{choose◌then◌else◌}
@@ -14,9 +14,9 @@ use Rattle.effect.specs.Apply.{Transition, apply}
 use Rattle.step.specs.Interrupt.{with_requests, accepted_source}
 use Rattle.step.specs.Step.{unclocked_seeing, with_clock, step}
 
--- ---- the step before
+-- ---- the step by the other order
 
--- "Data tests: address outside 32 bits (08h); user and protected (07h); neither block nor cell (stop 12)"
+-- the tests of a data address: outside 32 bits, 08h; user mode and protected, 07h; neither in the control block nor a cell, stop 12
 unfoldable pub place_before : State → (address : ℤ) → Attempt Location
 place_before s address =
     let a = word_of 32 address in
@@ -24,15 +24,15 @@ place_before s address =
     else choose user_mode (psr s.machine) && protected_cell s.machine a then Raises 0x07
     else found_at s a
 
--- what an instruction saw of a state: all that it sees now, but for where data addresses lead
+-- what an instruction sees of a state: all that a view shows, but for where data addresses lead
 abbrev pub view_before : (program : List ℕ) → State → View
 view_before program s = with_places (place_before s) (held_at s) (view program s)
 
--- one step by the order before
+-- one step by that order
 abbrev pub step_before : (program : List ℕ) → State → (requests : ℕ) → Transition
 step_before program s requests = with_clock (unclocked_seeing (view_before program) s requests)
 
--- ---- "The steps that change: user loads and stores with overflow whose wrapped address is protected, 08h before, 07h now"
+-- ---- the steps that differ: loads and stores in user mode at an address outside 32 bits that is protected when wrapped
 
 -- the exact address of the load (27) or store (28) that a fetched word is, if its condition is not false
 unfoldable pub access_of : View → Attempt ℕ → Option ℤ
@@ -44,7 +44,7 @@ access_of v (Found w) =
 access_of v (Raises c) = none
 access_of v (Stops n) = none
 
--- an address with overflow, protected when wrapped, in user mode
+-- an address outside 32 bits, protected when wrapped, in user mode
 pub record Wrapped (s : State) (address : ℤ) : Type 0 where
   pub user : user_mode (psr s.machine) ≡ true
   pub outside : is_address address ≡ false
@@ -57,14 +57,14 @@ pub record WrappedAccess (program : List ℕ) (s : State) : Type 0 where
   pub access : access_of (view program s) (view program s).fetched ≡ some address
   pub wrapped : Wrapped s address
 
--- how the step compares with the step before; r is the state with the requests added
+-- how the step compares with that by the other order; r is the state with the requests added
 pub data Compared (program : List ℕ) (s : State) (requests : ℕ) (r : State) : Type 0 where
-  -- "08h before, 07h now"
+  -- such a step is 07h, and by the other order 08h
   changed : WrappedAccess program r
       → step program s requests ≡ with_clock (apply (Raised 0x07) r)
       → step_before program s requests ≡ with_clock (apply (Raised 0x08) r)
       → Compared program s requests r
-  -- "Every other step from the same machine does what it did"
+  -- every other step is the same by both orders
   unchanged : (WrappedAccess program r → ⊥)
       → step program s requests ≡ step_before program s requests
       → Compared program s requests r

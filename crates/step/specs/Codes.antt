@@ -5,7 +5,7 @@ use Rattle.machine.specs.Machine.{State}
 use Rattle.effect.specs.Kind.{Exception}
 use Rattle.step.specs.Step.{step}
 
--- the codes of 01, but for 01h: 00h, 02h to 09h, and "trap n has code 224 + n"
+-- the codes of exceptions: 00h, 02h to 09h, and E0h + n for trap n (Manual 4.9)
 unfoldable pub is_code : ℕ → Bool
 is_code c = (eqb c 0x00 || between 0x02 0x09 c) || between 224 255 c
 
@@ -13,6 +13,6 @@ is_code c = (eqb c 0x00 || between 0x02 0x09 c) || between 224 255 c
 abbrev pub ExceptionCodes : Type 0
 ExceptionCodes = (program : List ℕ) (s : State) (requests c : ℕ) → (step program s requests).kind ≡ Exception c → is_code c ≡ true
 
--- "Code 01h no longer occurs" (02, wish 1)
+-- all 64 operations are known, so code 01h, of an unknown one, never occurs (Manual 4.4)
 abbrev pub Never01h : Type 0
 Never01h = (program : List ℕ) (s : State) (requests : ℕ) → (step program s requests).kind ≢ Exception 0x01

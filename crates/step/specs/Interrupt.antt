@@ -1,4 +1,4 @@
--- Requests, and the acceptance of an interrupt (01 "One step"). Assumes nothing.
+-- Requests, and the acceptance of an interrupt (Manual 4.1, 4.2). Assumes nothing.
 use Rattle.std.specs.Prelude.{Bool, true, false, not, ◌&&◌, List, [], ◌∷◌, ℕ, zero, suc, ◌+◌, ◌-◌, ◌*◌, ◌%◌, ◌^◌, get_or, ltb, eqb}
 use Rattle.std.proofs.Math.Option.{Option, none, some}
 use Rattle.word.specs.Choice.{choose◌then◌else◌}
@@ -54,7 +54,7 @@ candidate m (suc k) =
 
 -- ---- when one is accepted
 
--- the next word, with no 05h, 00h or stop 11 for it, is mulhi
+-- the next word passes the fetch tests, and is mulhi
 unfoldable pub is_mulhi : Width → Attempt ℕ → Bool
 is_mulhi width (Found w) = eqb (opcode_of width w) (properties Mulhi).number
 is_mulhi width (Raises c) = false
@@ -72,13 +72,13 @@ accepted_source v m = choose may_accept v then candidate m 12 else none
 
 -- ---- acceptance
 
--- IE 0; IL and UM by the mode registers (UM bit 1 is user); both set bits are 1 for super user, else 0
+-- IE 0; IL and UM by INT_MODE_IL and INT_MODE_UM (bit 1 is user mode); RSRD and RSWR are 1 for super user mode, else 0
 unfoldable pub service_psr : (source : ℕ) → Machine → ℕ
 service_psr n m =
     let user = bit_at n (control_at m INT_MODE_UM) in
     status_of user (not user) (not user) (bit_at n (control_at m INT_MODE_IL)) false
 
--- PC, PSR and C0 as they go on the stack
+-- PC, PSR and C0 as they go on the interrupt stack
 unfoldable pub entry_for : (source : ℕ) → Machine → Entry
 entry_for n m = record { source = n; address = m.position.pc; psr = psr m; c0 = get_or m.conditions 0 0 }
 

@@ -1,4 +1,6 @@
--- One step: interrupts (Interrupt), the step itself (Step), worked examples of 01 and 02 (Worked), what is proved (Theorems; Codes, of the codes of exceptions; AddressOrder, of the order of the data tests; Return, of a change of task; RequiredNops, of the nops that must follow), and the code's search for the source to accept (Search).
+-- One step: interrupts (Interrupt), the step itself (Step), worked examples (Worked), what is proved (Theorems; Codes, of the codes of
+-- exceptions; AddressOrder, of the order of the data tests; Return, of a change of task; RequiredNops, of the nops that must follow), and the code's
+-- search for the source to accept (Search).
 pub mod Interrupt
 pub mod Step
 pub mod Search

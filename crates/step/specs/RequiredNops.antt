@@ -1,5 +1,5 @@
--- The nops that must follow swm, scall, retu and reti (02, wish 8): how a step compares with one that does not look at them, as in 01. No definition
--- of the step rests on these. Assumes nothing.
+-- The nops that must follow swm, scall, retu and reti (Manual 4.6): how a step compares with one that does not look at them. No definition of the
+-- step rests on these. Assumes nothing.
 use Rattle.std.specs.Prelude.{◌≡◌, List, ℕ, ◌≤◌}
 use Rattle.std.proofs.Math.Option.{none}
 use Rattle.isa.specs.Operation.{operation_of, properties}
@@ -31,7 +31,7 @@ step_unchecked program s requests = with_clock (unclocked_unchecked program s re
 abbrev pub nops_of : View → (word : ℕ) → ℕ
 nops_of v w = (properties (operation_of (opcode_of (width_of v.status) w))).nops
 
--- ---- "A program that keeps 002's rule, its nops present and unprotected, runs as before": a step; emulator/RequiredNops has calls
+-- ---- where the nops are there and not protected, the look at them changes nothing: a step; emulator/RequiredNops has calls
 
 -- all nops that must follow the instruction, if one is fetched, are there, and not protected from the mode
 abbrev pub NopsFollow : (program : List ℕ) → State → (requests : ℕ) → Type 0
@@ -39,14 +39,13 @@ NopsFollow program s requests =
     let v = view program (with_requests requests s) in
     (w : ℕ) → v.fetched ≡ Found w → (k : ℕ) → 1 ≤ k → k ≤ nops_of v w → NopAt v k
 
--- then the step is what it was
+-- then the step is that without the look
 abbrev pub NopsKept : Type 0
 NopsKept = (program : List ℕ) (s : State) (requests : ℕ) → NopsFollow program s requests → step program s requests ≡ step_unchecked program s requests
 
 -- ---- every step
 
--- the step comes to the nops: no interrupt is accepted, and the instruction fetched is available, no control transfer in a slot, and its condition not
--- false
+-- the step comes to the nops: no interrupt is accepted, and the instruction fetched is available, no transfer in a slot, and its condition not false
 pub record ComesToNops (program : List ℕ) (s : State) (word : ℕ) : Type 0 where
   pub uninterrupted : accepted_source (view program s) s.machine ≡ none
   pub fetched : (view program s).fetched ≡ Found word
@@ -59,7 +58,7 @@ ComesOf (Found x) s r t = ⊥
 ComesOf (Raises code) s r t = t ≡ apply (Raised code) r
 ComesOf (Stops number) s r t = t ≡ record { kind = Stop number; after = s }
 
--- a step before its clock: what it was, and then the nops follow, if it comes to them; or what comes of the first word that is none
+-- a step before its clock: that without the look, and then the nops follow, if it comes to them; or what comes of the first word that is none
 pub data NopsCompared (program : List ℕ) (s : State) (requests : ℕ) (r : State) : Type 0 where
   same : ((w : ℕ) → ComesToNops program r w → (k : ℕ) → 1 ≤ k → k ≤ nops_of (view program r) w → NopAt (view program r) k)
       → unclocked program s requests ≡ unclocked_unchecked program s requests

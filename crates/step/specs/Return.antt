@@ -1,4 +1,4 @@
--- A change of task in a service routine (02, wish 6): what is proved of stores to the RETI_ registers, and of reti after them. Assumes nothing.
+-- A change of task in a service routine (Manual 6.3): what is proved of stores to the RETI_ registers, and of reti after them. Assumes nothing.
 use Rattle.std.specs.Prelude.{◌≡◌, true, List, [], ◌∷◌, ℕ, ◌%◌, ◌^◌, set}
 use Rattle.word.specs.Flags.{is_among, without_flag}
 use Rattle.machine.specs.Machine.{Machine, State, position_at, with_conditions, with_position, with_psr}
@@ -10,7 +10,7 @@ use Rattle.effect.specs.Effect.{Next, StoreControl, InterruptReturn}
 use Rattle.effect.specs.Kind as kind
 use Rattle.effect.specs.Apply.{machine_only, apply}
 
--- "with an empty stack they are ignored": such a store does what nop does
+-- with an empty interrupt stack such a store does what nop does (Manual 5.3)
 abbrev pub IgnoredWhenEmpty : Type 0
 IgnoredWhenEmpty = (offset x : ℕ) (s : State) → is_among offset RETURNS ≡ true → s.machine.stack ≡ [] → apply (StoreControl offset x) s ≡ apply Next s
 
@@ -25,8 +25,8 @@ after_stores a q c s =
 abbrev pub returned_to : (address status flags : ℕ) (rest : List Entry) → Machine → Machine
 returned_to a q c es m = with_position (position_at a) (with_psr q (with_conditions (set m.conditions 0 c) (with_stack es m)))
 
--- "Our weighing program must return to another task": after these, reti goes on at that address, with what is kept of that PSR and C0. All else is
--- as without the stores; the flag of the top's source in INT_SERV is cleared
+-- after these, reti goes on at that address, with what is kept of that PSR and C0. All else is as without the stores; the flag of the top's source in
+-- INT_SERV is cleared
 abbrev pub TaskSwitch : Type 0
 TaskSwitch =
     (address status flags : ℕ) (s : State) (e : Entry) (es : List Entry) → well_formed s.machine ≡ true → s.machine.stack ≡ e ∷ es

@@ -1,4 +1,5 @@
--- One step (01 "One step"): an interrupt accepted, an instruction, or an exception, and then a clock of the timers; or a stop, which is no step. Assumes nothing.
+-- One step (Manual 4): an interrupt accepted, an instruction, or an exception, and then a clock of the timers; or a stop, which is no step.
+-- Assumes nothing.
 use Rattle.std.specs.Prelude.{Bool, true, false, List, ℕ}
 use Rattle.std.proofs.Math.Option.{Option, none, some}
 use Rattle.word.specs.Choice.{choose◌then◌else◌}
@@ -32,7 +33,7 @@ unclocked_seeing see s requests =
     let t = interrupt_or v (accepted_source v r.machine) r in
     record { kind = t.kind; after = choose is_stop t.kind then s else t.after }
 
--- "one clock for each completed step, after the step's stores; a stop is no clock"; a reset leaves the memory: "data kept" (02, wish 5)
+-- a completed step is clocked once, after its stores (Manual 4.11); a stop is not; a reset by the watchdog leaves the memory (Manual 4.12)
 unfoldable pub with_clock : Transition → Transition
 with_clock t =
     let c = clock t.after.machine in

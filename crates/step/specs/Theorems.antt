@@ -1,4 +1,4 @@
--- What is proved of one step: the statements, each with the sentence of 01 or 02 that it says. Worked has its own. Assumes nothing.
+-- What is proved of one step: the statements. Worked has its own. Assumes nothing.
 use Rattle.std.specs.Prelude.{◌≡◌, true, false, List, ℕ, ◌<◌}
 use Rattle.std.proofs.Math.Option.{some}
 use Rattle.word.specs.Word.{bit_at}
@@ -14,7 +14,7 @@ use Rattle.effect.specs.Kind.{Reset}
 use Rattle.step.specs.Interrupt.{priority, below_all, candidate}
 use Rattle.step.specs.Step.{is_stop, unclocked, step}
 
--- "The source is pending, has INT_MASK 1, and a priority number below all in service", hence is none of those in service
+-- an accepted source is pending, has INT_MASK 1, and a priority number below all in service, hence is none of those in service (Manual 4.2)
 pub record Accepted (m : Machine) (n : ℕ) : Type 0 where
   pub below : n < SOURCES
   pub pending : bit_at n (control_at m INT_PEND) ≡ true
@@ -25,12 +25,12 @@ pub record Accepted (m : Machine) (n : ℕ) : Type 0 where
 abbrev pub CandidateAccepted : Type 0
 CandidateAccepted = (m : Machine) (n : ℕ) → candidate m SOURCES ≡ some n → Accepted m n
 
--- a step, in whatever mode, takes a machine for which 3 to 5 are all yes to such a machine; with it "The stack has as many entries as
--- INT_SERV has ones", and "RETI_ shows the stack's top, or 1, 9, 0 when empty", at every step
+-- a step, in whatever mode, takes a machine for which questions 3 to 5 are all yes to such a machine. So at every step the interrupt stack has as many
+-- entries as INT_SERV has ones, and the RETI_ registers show its top, or 1, 9, 0 when it is empty (Manual 5.3, 6.1)
 abbrev pub StaysFormed : Type 0
 StaysFormed = (program : List ℕ) (s : State) (requests : ℕ) → well_formed s.machine ≡ true → well_formed (step program s requests).after.machine ≡ true
 
--- ---- the clock (02, wish 5)
+-- ---- the clock (Manual 4.11, 4.12)
 
 -- with EN 0 in both timers and dividers 0 the clock changes nothing
 abbrev pub IdleStep : Type 0
@@ -39,11 +39,11 @@ IdleStep =
     enabled (configuration_of 0 t.after.machine) ≡ false → enabled (configuration_of 1 t.after.machine) ≡ false
     → t.after.machine.dividers ≡ ZEROS → step program s requests ≡ t
 
--- "a stop is no clock"
+-- a stop does not clock the timers
 abbrev pub StopUnclocked : Type 0
 StopUnclocked = (program : List ℕ) (s : State) (requests : ℕ) → is_stop (unclocked program s requests).kind ≡ true → step program s requests ≡ unclocked program s requests
 
--- a watchdog's reset leaves one machine, whatever the step was, and the memory with the step's own store: "data kept"
+-- a watchdog's reset leaves one machine, whatever the step was, and the memory with the step's own store
 abbrev pub ResetStep : Type 0
 ResetStep =
     (program : List ℕ) (s : State) (requests : ℕ) → let t = step program s requests in

@@ -1,5 +1,5 @@
--- The worked examples of 01 that are marked *, and those of 02's wish 3, as a table: one step from a start, what is shown of it, and what that
--- must be; a change of task, of 02's wish 6; and a table of the nops of 02's wish 8. Assumes nothing.
+-- Worked examples (Manual 16.1, 16.2): a table of single steps, each from a start, with what is shown of it and what that must be; a change of task;
+-- and a table of the nops that must follow. Assumes nothing.
 use Rattle.std.specs.Prelude.{◌≡◌, List, [], ◌∷◌, ◌++◌, map, ℕ, zero, suc, ◌+◌, ◌*◌, ◌^◌, get_or, set, replicate}
 use Rattle.isa.specs.declared.operation.Operation.{Operation}
 use Rattle.isa.specs.declared.operation.Operation.TheVariants.{Add, Sub, Subu, Muls, Mulu, Mulus, Ld, Jmp}
@@ -90,7 +90,7 @@ refused psr high w x code =
       expected = code ∷ 0 ∷ psr ∷ 0 ∷ replicate 32 77;
     }
 
--- 02, wish 3: FFFFFFFFh + 16, 17, 20 and 21 are 0Fh, 10h, 13h and 14h when wrapped, 0 − 1 is FFFFFFFFh
+-- addresses outside 32 bits (Manual 4.7): FFFFFFFFh + 16, 17, 20 and 21 are 0Fh, 10h, 13h and 14h when wrapped, 0 − 1 is FFFFFFFFh
 unfoldable pub wrapped_cases : List Case
 wrapped_cases =
     refused 0x09 0x13 0x6C00_0C30 0xFFFF_FFFF 0x08 ∷  -- ld R3, R1, 16
@@ -104,24 +104,24 @@ wrapped_cases =
 
 unfoldable pub cases : List Case
 cases =
-    -- "add 7FFFFFFFh + 0 passes; + 1 is 06h, C0 untouched"
+    -- add: 7FFFFFFFh + 0 passes, + 1 is 06h and leaves C0
     sum Add 0x7FFF_FFFF 0 Ordinary (0x7FFF_FFFF ∷ 0 ∷ []) ∷
     sum Add 0x7FFF_FFFF 1 (Exception 0x06) (0 ∷ 5 ∷ []) ∷
-    -- "sub 80000000h − 1 is 06h; subu gives 7FFFFFFFh"
+    -- sub: 80000000h − 1 is 06h; subu gives 7FFFFFFFh
     sum Sub 0x8000_0000 1 (Exception 0x06) (0 ∷ 5 ∷ []) ∷
     sum Subu 0x8000_0000 1 Ordinary (0x7FFF_FFFF ∷ 1 ∷ []) ∷
-    -- "mulu FFFFFFFFh by itself: low 1, high FFFFFFFEh; mulus: low 1, high FFFFFFFFh; muls: 1, 0"
+    -- FFFFFFFFh times itself: mulu has low half 1 and high half FFFFFFFEh, mulus 1 and FFFFFFFFh, muls 1 and 0
     product Mulu 0xFFFF_FFFF 0xFFFF_FFFF (1 ∷ 0xFFFF_FFFE ∷ []) ∷
     product Mulus 0xFFFF_FFFF 0xFFFF_FFFF (1 ∷ 0xFFFF_FFFF ∷ []) ∷
     product Muls 0xFFFF_FFFF 0xFFFF_FFFF (1 ∷ 0 ∷ []) ∷
-    -- "0C11h: R25 becomes R26 − R25", a 16-bit word
+    -- sub in a 16-bit word, 0C11h: R25 becomes R26 − R25
     record { psr = 0x01; high = 0x13; program = 0x0C ∷ 0x11 ∷ []; r1 = 0; r2 = 0; r25 = 3; r26 = 10; shown = λ s. get_or s.machine.set1 25 0 ∷ []; kind = Ordinary; expected = 7 ∷ [] } ∷
-    -- "at 0, jmp 1 is 03h, jmp 2 goes to 8"
+    -- at 0, jmp 1 is 03h, and jmp 2 goes to 8
     jump 1 (Exception 0x03) (0 ∷ 0 ∷ []) ∷
     jump 2 Ordinary (1 ∷ 8 ∷ []) ∷
-    -- "swm 0 (D8000000h) at 0: PC 12"; "the worked swm case now has its two nops" (02, wish 8)
+    -- swm 0 (D8000000h) at 0, with its two nops: PC 12
     wide (bytes_of (0xD800_0000 ∷ 0 ∷ 0 ∷ [])) 0 0 (λ s. s.machine.position.pc ∷ []) Ordinary (12 ∷ []) ∷
-    -- "user ld at LO−1 and HI+1, cells being there, passes; at LO and HI it is 07h"
+    -- ld in user mode, cells being there: one below DMEM_BOUND_LO and one above DMEM_BOUND_HI it passes; at either bound it is 07h
     load 0x0F Ordinary (77 ∷ []) ∷
     load 0x14 Ordinary (77 ∷ []) ∷
     load 0x10 (Exception 0x07) (0 ∷ []) ∷
@@ -146,16 +146,16 @@ wanted c = record { kind = c.kind; shown = c.expected }
 abbrev pub Worked : Type 0
 Worked = map given cases ≡ map wanted cases
 
--- before the wish each of its cases was 08h
+-- by the other order of tests (AddressOrder) each of the wrapped cases is 08h
 abbrev pub WorkedBefore : Type 0
 WorkedBefore = map (λ c. (step_before c.program (start c) 0).kind) wrapped_cases ≡ replicate 7 (Exception 0x08)
 
--- ---- a change of task (02, wish 6)
+-- ---- a change of task (Manual 6.3)
 
 abbrev entry : (source address psr c0 : ℕ) → Entry
 entry n a q c = record { source = n; address = a; psr = q; c0 = c }
 
--- reset but for a stack, PR0, which has CCB_BASE, and PR1 and PR2
+-- reset but for an interrupt stack, PR0, which has CCB_BASE, and PR1 and PR2
 unfoldable pub routine : List Entry → (pr1 pr2 : ℕ) → State
 routine stack x y =
     record {
@@ -197,7 +197,7 @@ WorkedReturn =
     ∷ (12 ∷ 0x0E ∷ 0 ∷ 0 ∷ 0 ∷ 1 ∷ 9 ∷ 0 ∷ [])
     ∷ []
 
--- ---- the nops that must follow (02, wish 8)
+-- ---- the nops that must follow (Manual 4.6)
 
 -- one step from an address, with this PSR, in a slot or not, program bytes from low to high protected, EXCEPTION_PC 99, PR31 77 and all else as at
 -- reset: what it was; PC, PR31 and EXCEPTION_PC after it

@@ -1,4 +1,4 @@
-// One step: requests, an interrupt accepted or an instruction, and the timers' clock.
+//! One step: requests, an interrupt accepted or an instruction, and the timers' clock (Manual 4).
 #![tactic(auto)]
 
 ghost use Rattle.std.specs.Prelude.{◌≡◌, true, false, ◌≤◌, ◌<◌, length};
@@ -21,7 +21,7 @@ const MULHI: u32 = 31;
 
 // ---- requests
 
-// The step's requests are added to INT_PEND.
+// The step's requests are added to INT_PEND (Manual 4.1).
 fn add_requests(w: &mut [u32], requests: u32)
     requires { MachineWords w.old × (well_formed (machine_of w.old) ≡ true) }
     ensures { Says w.new (add_requests requests (machine_of w.old)) }
@@ -32,7 +32,7 @@ fn add_requests(w: &mut [u32], requests: u32)
 
 // ---- which source is accepted
 
-// The priority number of a source.
+// The priority number of a source, 0 to 15.
 fn priority(w: &[u32], n: u32) -> u32
     requires { MachineWords w.now × (n < 12) }
     ensures { result ≡ priority (machine_of w.now) n }
@@ -83,7 +83,7 @@ fn waiting(w: &[u32]) -> u32
     machine::control(w, machine::INT_PEND) & machine::control(w, machine::INT_MASK)
 }
 
-// The source to accept: pending, INT_MASK 1, a priority number below all in service; smallest number first, ties to the lower source.
+// The source to accept: pending, INT_MASK 1, a priority number below all in service; smallest number first, ties to the lower source (Manual 4.2).
 fn candidate(w: &[u32]) -> u32
     requires { MachineWords w.now × (well_formed (machine_of w.now) ≡ true) }
     ensures { result ≡ source_number (candidate (machine_of w.now) 12) }
@@ -93,7 +93,7 @@ fn candidate(w: &[u32]) -> u32
 
 // ---- when one is accepted
 
-// The next word, with no 05h, 00h or stop 11 for it, is mulhi.
+// The next word passes the fetch tests, and is mulhi.
 fn next_is_mulhi(program: &[u8], w: &[u32]) -> bool
     requires { MachineWords w.now }
     ensures { (memory : Memory) → result ≡ is_mulhi (width_of (psr (machine_of w.now))) (view_of program.now w.now memory).fetched }
@@ -138,7 +138,7 @@ fn accepted_source(program: &[u8], w: &[u32]) -> u32
 
 // ---- acceptance
 
-// PSR of a service routine: IE 0; IL and UM by the mode registers; both set bits 1 for super user, else 0.
+// PSR of a service routine: IE 0; IL and UM by INT_MODE_IL and INT_MODE_UM; RSRD and RSWR 1 for super user mode, else 0.
 fn service_psr(w: &[u32], n: u32) -> u32
     requires { MachineWords w.now × (n < 12) }
     ensures { result ≡ service_psr n (machine_of w.now) }
@@ -148,7 +148,7 @@ fn service_psr(w: &[u32], n: u32) -> u32
     machine::status(user, !user, !user, wide, false)
 }
 
-// PC, PSR and C0 as they go on the stack.
+// PC, PSR and C0 as they go on the interrupt stack.
 fn entry_for(w: &[u32], n: u32) -> Entry
     requires { MachineWords w.now }
     ensures { result ≡ entry_for n (machine_of w.now) }
@@ -161,7 +161,7 @@ fn entry_for(w: &[u32], n: u32) -> Entry
     }
 }
 
-// Source n is accepted: its flag moves from pending to in service, PC, PSR and C0 go on the stack, PC takes the vector.
+// Source n is accepted: its flag moves from pending to in service, PC, PSR and C0 go on the interrupt stack, PC takes the vector.
 fn accept(w: &mut [u32], n: u32)
     requires machine_words { MachineWords w.old × (well_formed (machine_of w.old) ≡ true) }
     requires new { (n < 12) × (is_among n (sources_of (machine_of w.old).stack) ≡ false) }
@@ -208,7 +208,9 @@ fn transition(program: &[u8], w: &mut [u32], cells: &mut [u32], requests: u32) -
     stop
 }
 
-// One step with its requests, which gives 0; or a stop, which gives its number and leaves everything as before it.
+/// One step, or a stop: `requests` has bit s for source s, and `w` and `cells` take what the step leaves.
+///
+/// Answers 0 for a completed step; a stop answers its number (Manual 4.10) and leaves everything as before it, and the timers are not clocked.
 pub fn step(program: &[u8], w: &mut [u32], cells: &mut [u32], requests: u32) -> u32
     requires { MachineWords w.old × (length program.now ≤ MOST_MEMORY) × (well_formed (machine_of w.old) ≡ true) }
     ensures { report_by result w.new (memory_of cells.new) ≡ reported (step program.now (state_of w.old (memory_of cells.old)) requests) }

@@ -17,7 +17,6 @@ use Rattle.execute.proofs.access_word.Goals.{After-of_access-i, After-source-x}
 given : (c : goal.After-of_access-i) → Decoded c.args.w.now c.args.word c.args.op c.of_access-i.result
 given c = decoded _ _ _ _ _ c.width.ensures c.of_access-i.ensures c.requires.2
 
-
 pub condition_false-requires : goal.condition_false-requires
 condition_false-requires c = (search rules, (given c).range.creg)
 

@@ -25,7 +25,6 @@ unfolding applying
 returns-then-slot-eq1 c p memory =
     sym (jump_in_slot p _ memory (decoded_word c.args.w.now _ _ c.requires.2) (omega arith) (omega arith) (sym c.slot.ensures ∙ c.if-slot-eq1.true))
 
-
 pub branches-requires : goal.branches-requires
 branches-requires c =
     let d = given (goal.at.branches-requires c).After-of_jump-i in

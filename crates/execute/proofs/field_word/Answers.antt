@@ -23,7 +23,6 @@ returns-in-Some c p memory =
     c.raise.ensures memory
     ∙ sym (word_barred p _ memory (decoded_word c.args.w.now _ _ c.requires.2) _ (sym c.unavailable.ensures ∙ c.in-Some.is))
 
-
 pub condition_false-requires : goal.condition_false-requires
 condition_false-requires c = (search rules, (given c).range.creg)
 

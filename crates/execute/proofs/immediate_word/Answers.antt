@@ -10,7 +10,6 @@ use Rattle.execute.proofs.immediate_word.Goals.{After-of_immediate-i}
 given : (c : goal.After-of_immediate-i) → Decoded c.args.w.now c.args.word c.args.op c.of_immediate-i.result
 given c = decoded _ _ _ _ _ c.width.ensures c.of_immediate-i.ensures c.requires.1
 
-
 pub condition_false-requires : goal.condition_false-requires
 condition_false-requires c = (search rules, (given c).range.creg)
 

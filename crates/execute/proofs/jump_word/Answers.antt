@@ -25,7 +25,6 @@ unfolding applying
 returns-then-slot-eq1 c p memory =
     sym (jump_in_slot p _ memory (decoded_word c.args.w.now _ _ c.requires.2) (omega arith) (omega arith) (sym c.slot.ensures ∙ c.if-slot-eq1.true))
 
-
 pub condition_false-requires : goal.condition_false-requires
 condition_false-requires c = (search rules, (given c).range.creg)
 

@@ -10,7 +10,6 @@ use Rattle.execute.proofs.register_word.Goals.{After-of_registers-i}
 given : (c : goal.After-of_registers-i) → Decoded c.args.w.now c.args.word c.args.op c.of_registers-i.result
 given c = decoded _ _ _ _ _ c.width.ensures c.of_registers-i.ensures c.requires.1
 
-
 pub condition_false-requires : goal.condition_false-requires
 condition_false-requires c = (search rules, (given c).range.creg)
 

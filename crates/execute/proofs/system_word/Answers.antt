@@ -40,7 +40,6 @@ returns-then-is_transfer-slot c memory =
     sym (word_in_slot _ _ memory (decoded_word c.args.w.now _ _ c.requires.3) (sym c.unavailable.ensures ∙ c.in_default.is)
     (rw (← c.from_number.ensures, ← c.is_transfer.ensures, ← c.slot.ensures) c.if-is_transfer-slot.true))
 
-
 pub condition_false-requires : goal.condition_false-requires
 condition_false-requires c = (search rules, (given c).range.creg)
 

@@ -1,4 +1,4 @@
--- `most_urgent` meets its contract: after n turns the best of the sources below n, and its priority number; with no flags none. Assumes nothing.
+-- `most_urgent` meets its contract: after n iterations the best of the sources below n, and its priority number; with no flags none. Assumes nothing.
 use mathlib.Core.Path.{◌≡◌, refl, sym, ap, ◌∙◌}
 use mathlib.Core.Option.{Option, some}
 use Prim.Native.Nat.{ℕ, suc, ◌+◌, ◌≤◌, ◌<◌}
@@ -21,7 +21,7 @@ pub loop-n-init : goal.loop-n-init
 unfolding most_urgent source_number priority_or
 loop-n-init c = (omega arith, (refl, refl))
 
--- one turn more
+-- one iteration more
 next : (flags bound : ℕ) (m : Machine) (n best floor : ℕ) (o : Option ℕ) → n < 12 → most_urgent flags bound m (suc n) ≡ o → best ≡ source_number o → floor ≡ priority_or bound m o
     → let q = most_urgent flags bound m (n + 1) in (n + 1 ≤ 12) × ((best ≡ source_number q) × (floor ≡ priority_or bound m q))
 next flags bound m n best floor o l e b f = (omega arith, (rw (add-one n, e) b, rw (add-one n, e) f))

@@ -1,4 +1,4 @@
--- `most_urgent` meets its contract: after n turns the best of the sources below n, and its priority number; with no flags none. Assumes nothing.
+-- `most_urgent` meets its contract: after n iterations the best of the sources below n, and its priority number; with no flags none. Assumes nothing.
 use mathlib.Core.Path.{◌≡◌}
 use Prim.Native.Nat.{◌-◌, ◌≤◌}
 use Rattle.machine.specs.Words.{machine_of}
