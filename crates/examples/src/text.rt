@@ -1,0 +1,28 @@
+//! The parts of a text, and the numbers that it says. A text is bytes, which need not be UTF-8.
+ghost use Rattle.std.specs.Prelude.{◌<◌};
+
+/// Whether a character ends a line: a newline, or one below it.
+pub fn ends_line(character: &u8) -> bool {
+    *character <= b'\n'
+}
+
+/// Whether a character ends a word: a blank, or one below it.
+pub fn ends_word(character: &u8) -> bool {
+    *character <= b' '
+}
+
+/// The value of a hexadecimal digit, a small letter being none; 0 of any other character.
+fn digit(character: u8) -> u32
+    ensures { result < 16 }
+{
+    match character {
+        b'0'..=b'9' => u32::from(character - b'0'),
+        b'A'..=b'F' => u32::from(character - b'A') + 10,
+        _ => 0,
+    }
+}
+
+/// The number that hexadecimal digits say, of which the last eight count.
+pub fn number(digits: &[u8]) -> u32 {
+    digits.iter().fold(0, |value: u32, character| (value << 4) | digit(*character))
+}
