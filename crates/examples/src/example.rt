@@ -10,7 +10,7 @@ use std::io::Write;
 
 /// An example: its title, its program and the requests of its steps.
 #[derive(Drop)]
-pub struct Example<'a> {
+pub(crate) struct Example<'a> {
     title: &'a [u8],
     program: Program,
     requests: [u32; 16],
@@ -29,22 +29,15 @@ fn written(word: u32, width: Width) -> Result<u32, Refusal> {
         Some(role) => i.operand(role).cast_signed(),
         None => 0,
     };
-    let condition = if i.conditional {
-        Some(Guard {
+    let choice = Choice {
+        operation: i.opcode,
+        condition: i.conditional.then_some(Guard {
             creg: i.creg,
             condition: i.condition,
-        })
-    } else {
-        None
+        }),
+        operands: [0, 1, 2, 3].map(shown),
     };
-    encoder::encode(
-        width,
-        Choice {
-            operation: i.opcode,
-            condition,
-            operands: [shown(0), shown(1), shown(2), shown(3)],
-        },
-    )
+    encoder::encode(width, choice)
 }
 
 // Shows the number of a refusal.
@@ -54,7 +47,7 @@ fn show_refusal(out: &mut Vec<u8>, refusal: Refusal) -> io::Result<()> {
 
 impl<'a> Example<'a> {
     /// An example with an empty program and no requests.
-    pub fn new(title: &'a [u8]) -> Self {
+    pub(crate) fn new(title: &'a [u8]) -> Self {
         Example {
             title,
             program: Program::new(),
@@ -63,7 +56,12 @@ impl<'a> Example<'a> {
     }
 
     /// Reads a line, and shows what it asks for. Only memory can fail.
-    pub fn read(&mut self, line: &'a [u8], names: &[&[u8]], out: &mut Vec<u8>) -> io::Result<()> {
+    pub(crate) fn read(
+        &mut self,
+        line: &'a [u8],
+        names: &[&[u8]],
+        out: &mut Vec<u8>,
+    ) -> io::Result<()> {
         match line {
             [(b'a'..), ..] => self.begin(line),
             [b'>', ..] => self.show_run(line, names, out)?,

@@ -14,6 +14,12 @@ use std::io::Read;
 use std::rt::Files;
 use std::{fs, io};
 
+// Most bytes that are read of examples.txt.
+const MOST_TEXT: usize = 32768;
+
+// Most bytes that are read of image.txt.
+const MOST_NAMES: usize = 2048;
+
 // What a file begins with, at most so many bytes. A file that cannot be opened counts as empty, and one that cannot be read on ends there.
 fn load<R: Files + AllocGlobal>(rt: &R, path: &str, most: usize) -> Result<Vec<u8>, AllocError> {
     let mut bytes = Vec::with_capacity(rt.alloc(), most)?;
@@ -33,8 +39,8 @@ fn names(alloc: Global, text: &[u8]) -> Result<Vec<&[u8]>, AllocError> {
 
 // Reads the two files, and runs the examples. Only memory can fail.
 fn run_files<R: Files + AllocGlobal + Print>(rt: &R) -> io::Result<()> {
-    let text = load(rt, "examples.txt", 32768)?;
-    let image = load(rt, "image.txt", 2048)?;
+    let text = load(rt, "examples.txt", MOST_TEXT)?;
+    let image = load(rt, "image.txt", MOST_NAMES)?;
     let names = names(rt.alloc(), &image)?;
     let first = text.split(ends_line).next().unwrap_or(b"");
     let mut example = Example::new(first);

@@ -5,7 +5,7 @@ use crate::text::number;
 
 /// 256 bytes, of which those below `size` are the program. Words that stood behind it come back where it grows again.
 #[derive(Drop)]
-pub struct Program {
+pub(crate) struct Program {
     bytes: [u8; 256],
     size: usize,
     ghost fits: { size ≤ 256 },
@@ -13,7 +13,7 @@ pub struct Program {
 
 impl Program {
     /// The empty program.
-    pub fn new() -> Self {
+    pub(crate) fn new() -> Self {
         Program {
             bytes: [0; 256],
             size: 0,
@@ -21,12 +21,12 @@ impl Program {
     }
 
     /// The bytes of the program.
-    pub fn memory(&self) -> &[u8] {
+    pub(crate) fn memory(&self) -> &[u8] {
         &self.bytes[..self.size]
     }
 
     /// Puts the word of a line at its address. The program ends after it, and has no bytes where the line says no word within the 256 bytes.
-    pub fn put(&mut self, line: &[u8]) {
+    pub(crate) fn put(&mut self, line: &[u8]) {
         self.size = self.put_word(line).unwrap_or(0);
     }
 

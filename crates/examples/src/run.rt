@@ -3,14 +3,14 @@ use emulator::Answer;
 
 /// What a run answered, and the image that it left at the front of the longest image's bytes.
 #[derive(Drop)]
-pub struct Run {
+pub(crate) struct Run {
     answer: Answer,
     image: [u8; image::LONGEST],
 }
 
 impl Run {
     /// Runs a program from reset for at most `limit` steps, with sixteen zero cells.
-    pub fn from_reset(program: &[u8], requests: &[u32], limit: u32) -> Self {
+    pub(crate) fn from_reset(program: &[u8], requests: &[u32], limit: u32) -> Self {
         let reset = runner::reset_image();
         let mut cells = [0; 16];
         let mut image = [0; image::LONGEST];
@@ -26,7 +26,7 @@ impl Run {
     }
 
     /// What a name says of the image: a number of it, or whether it is that at reset. A name that is not known says nothing.
-    pub fn value(&self, name: &[u8], names: &[&[u8]]) -> Option<u32> {
+    pub(crate) fn value(&self, name: &[u8], names: &[&[u8]]) -> Option<u32> {
         match names.iter().position(|known| *known == name) {
             Some(entry) if entry < machine::WORDS => {
                 Some(codec::number_at(&self.image, 4 * entry))
@@ -43,7 +43,7 @@ impl Run {
     }
 
     /// The line that the run program would print.
-    pub fn line(&self) -> console::Line {
+    pub(crate) fn line(&self) -> console::Line {
         runner::line(self.answer, &self.image)
     }
 }

@@ -1,13 +1,17 @@
 //! The parts of a text, and the numbers that it says. A text is bytes, which need not be UTF-8.
-ghost use Rattle.std.specs.Prelude.{◌<◌};
+ghost use Rattle.std.specs.Prelude.{◌≤◌, ◌<◌, ◌↔◌, IsTrue};
 
 /// Whether a character ends a line: a newline, or one below it.
-pub fn ends_line(character: &u8) -> bool {
+pub(crate) fn ends_line(character: &u8) -> bool
+    ensures { IsTrue result ↔ (character.now ≤ 10) }
+{
     *character <= b'\n'
 }
 
 /// Whether a character ends a word: a blank, or one below it.
-pub fn ends_word(character: &u8) -> bool {
+pub(crate) fn ends_word(character: &u8) -> bool
+    ensures { IsTrue result ↔ (character.now ≤ 32) }
+{
     *character <= b' '
 }
 
@@ -23,6 +27,6 @@ fn digit(character: u8) -> u32
 }
 
 /// The number that hexadecimal digits say, of which the last eight count.
-pub fn number(digits: &[u8]) -> u32 {
+pub(crate) fn number(digits: &[u8]) -> u32 {
     digits.iter().fold(0, |value: u32, character| (value << 4) | digit(*character))
 }
