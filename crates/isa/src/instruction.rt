@@ -76,6 +76,7 @@ impl Operands {
 
 impl Instruction {
     /// The instruction of a 16-bit word with these operands: nothing is conditional, and only C0 is used.
+    #[inline(always)]
     fn narrow(word: u32, o: Operands) -> Self
         requires { o ≡ operands_of Narrow (properties (operation_of (opcode_of Narrow word))).form word }
         ensures { result ≡ decode Narrow word }
@@ -93,6 +94,7 @@ impl Instruction {
     }
 
     /// The instruction of a 32-bit word with these operands, whose operation may be conditional or may not.
+    #[inline(always)]
     fn wide(word: u32, optional: bool, o: Operands) -> Self
         requires { (optional ≡ (properties (operation_of (opcode_of Wide word))).conditional) × (o ≡ operands_of Wide (properties (operation_of (opcode_of Wide word))).form word) }
         ensures { result ≡ decode Wide word }
@@ -110,9 +112,11 @@ impl Instruction {
     }
 
     // A function for each group of operations: who knows a word's group decodes it by the group's few forms, which takes a step fewer instructions.
+    // They are to be made a part of a step, whoever else calls them.
     // In a group an arm for each range of numbers. Equal arms stand apart: of `18 | 22` the check finds no proof.
 
     /// Operations 1 to 17, add to sext: a target and two sources; in 16-bit words the second source is the target.
+    #[inline(always)]
     pub fn of_registers(word: u32, width: Width) -> Self
         requires { (1 ≤ opcode_of width word) × (opcode_of width word ≤ 17) }
         ensures { result ≡ decode width word }
@@ -131,6 +135,7 @@ impl Instruction {
     }
 
     /// Operations 18 to 26, addi to sexti: a target, a source and an immediate; in 16-bit words the source is the target.
+    #[inline(always)]
     pub fn of_immediate(word: u32, width: Width) -> Self
         requires { (18 ≤ opcode_of width word) × (opcode_of width word ≤ 26) }
         ensures { result ≡ decode width word }
@@ -162,6 +167,7 @@ impl Instruction {
     }
 
     /// Operations 27 and 28, ld and st: a register, the register of the address, and a signed offset.
+    #[inline(always)]
     pub fn of_access(word: u32, width: Width) -> Self
         requires { (27 ≤ opcode_of width word) × (opcode_of width word ≤ 28) }
         ensures { result ≡ decode width word }
@@ -181,6 +187,7 @@ impl Instruction {
     }
 
     /// Operations 29 to 35: mov, not, mulhi, cmp, cmpi, lli, lui; the last two have no operands in 16-bit words.
+    #[inline(always)]
     pub fn of_move(word: u32, width: Width) -> Self
         requires { (29 ≤ opcode_of width word) × (opcode_of width word ≤ 35) }
         ensures { result ≡ decode width word }
@@ -217,6 +224,7 @@ impl Instruction {
     }
 
     /// Operations 36 to 47: jmp and jal with an immediate, jmpr and jalr with a register, and the branches.
+    #[inline(always)]
     pub fn of_jump(word: u32, width: Width) -> Self
         requires { (36 ≤ opcode_of width word) × (opcode_of width word ≤ 47) }
         ensures { result ≡ decode width word }
@@ -243,6 +251,7 @@ impl Instruction {
     }
 
     /// Operations 48 to 57: scall to rcon.
+    #[inline(always)]
     pub fn of_system(word: u32, width: Width) -> Self
         requires { (48 ≤ opcode_of width word) × (opcode_of width word ≤ 57) }
         ensures { result ≡ decode width word }
@@ -273,6 +282,7 @@ impl Instruction {
 
     /// Operations 58 to 63, conb to exbfi. The immediate of exbfi is length × 32 + position, what exbf has in its second source; in 16-bit
     /// words it has no operands.
+    #[inline(always)]
     pub fn of_field(word: u32, width: Width) -> Self
         requires { (58 ≤ opcode_of width word) × (opcode_of width word ≤ 63) }
         ensures { result ≡ decode width word }
@@ -311,6 +321,7 @@ impl Instruction {
     }
 
     /// The instruction of a word, for callers that do not know the group of its operation.
+    #[inline(never)]
     pub fn decode(word: u32, width: Width) -> Self
         ensures { result ≡ decode width word }
     {

@@ -273,6 +273,7 @@ impl Operation {
     }
 
     /// How many nops must follow it.
+    #[inline(always)]
     pub fn nops_after(self) -> u32
         ensures { result ≡ (properties self).nops }
     {
