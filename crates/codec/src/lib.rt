@@ -5,6 +5,7 @@ ghost use Rattle.std.specs.Prelude.{◌≡◌, ◌+◌, ◌*◌, ◌/◌, ◌≤
 ghost use Rattle.codec.specs.Number.{number_at, bytes_of_number, numbers_of, bytes_of, put_at, over};
 
 /// The number in the four bytes from a place on.
+// A slice and a place: four bytes would have to be cut out at each call.
 pub fn number_at(bytes: &[u8], at: usize) -> u32
     requires { at + 4 ≤ length bytes.now }
     ensures { result ≡ number_at bytes.now at }

@@ -44,6 +44,7 @@ pub fn limit_of(text: &[u8]) -> Option<u32>
 // ---- numbers
 
 // The character of a digit below 16.
+// Hexadecimal without a heap: `write!` can fail.
 #[tactic(auto, unfolding(crate::specs::Digits::digit_of))]
 fn digit(d: u32) -> u8
     requires { d < 16 }
@@ -61,6 +62,7 @@ pub fn places(n: u32) -> usize
 }
 
 /// Writes the `count` lowest digits of a number in a base of at most 16, from a place of the line on, the highest first.
+// The line is the caller's, and the base any of at most 16.
 #[tactic(auto, using(crate::proofs::Digits::digit_more, crate::proofs::Digits::digits_done))]
 pub fn put_digits(line: &mut [u8], at: usize, base: u32, count: usize, n: u32)
     requires { ((1 ≤ base) × (base ≤ 16)) × (at + count ≤ length line.old) }

@@ -16,7 +16,7 @@ pub mod theorems;
 use isa::{OperandField, Operation, Reading, Width};
 use machine::Refusal;
 
-/// A condition, as in `egt C7`: the numbers of its register and of the condition.
+/// A condition, as in `egt C7`: the numbers of its register and of the condition. Any may be asked for, and 8 and above is refused.
 #[derive(Clone, Copy)]
 pub struct Guard {
     pub creg: u32,
@@ -26,7 +26,7 @@ pub struct Guard {
 /// What a word is to be made from: what a listing shows of it.
 #[derive(Clone, Copy)]
 pub struct Choice {
-    /// The operation, by its number.
+    /// The operation, by its number: any may be asked for, and 64 and above is refused.
     pub operation: u32,
     pub condition: Option<Guard>,
     /// The operands in the order in which they are shown, 0 for each that there is not.
@@ -54,6 +54,7 @@ fn is_one_of(n: i64, bits: u32) -> bool
 }
 
 /// Whether a number is one of those that the bits of a field stand for.
+// That a field can be placed in a word is what `Operation::fields` makes; two functions ask it.
 fn operand_fits(field: OperandField, n: i32) -> bool
     requires { Placeable field }
     ensures { result ≡ field_fits field n }
@@ -106,6 +107,7 @@ impl Guard {
     }
 }
 
+// Operation and width stay two parameters: the operation's methods take the width.
 impl Choice {
     /// Whether its operands fit the fields that its operation has for them.
     // The four are written out, here and below: of a loop over `zip` the check did not find the proof.

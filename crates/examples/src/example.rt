@@ -62,6 +62,7 @@ impl<'a> Example<'a> {
         names: &[&[u8]],
         out: &mut Vec<u8>,
     ) -> io::Result<()> {
+        // The first character says what a line is, in examples.txt.
         match line {
             [(b'a'..), ..] => self.begin(line),
             [b'>', ..] => self.show_run(line, names, out)?,

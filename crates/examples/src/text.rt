@@ -15,7 +15,7 @@ pub(crate) fn ends_word(character: &u8) -> bool
     *character <= b' '
 }
 
-/// The value of a hexadecimal digit, a small letter being none; 0 of any other character.
+/// The value of a hexadecimal digit, a small letter being none, which `to_digit` takes for one; 0 of any other character.
 fn digit(character: u8) -> u32
     ensures { result < 16 }
 {

@@ -19,6 +19,7 @@ pub enum Condition {
 
 impl Condition {
     /// The condition of a number, for those who know it below 8, as a field's is; above 7 it is the last.
+    // The one table from numbers.
     pub fn from_number(number: u32) -> Self
         ensures { result ≡ condition_of number }
     {

@@ -9,7 +9,7 @@ ghost use Rattle.isa.specs.Decode.{opcode_of, operands_of, decode};
 
 use crate::width::Width;
 
-/// The operands of an instruction; one that it does not have is 0.
+/// The operands of an instruction; one that it does not have is 0, as `decode` says.
 #[derive(Clone, Copy)]
 pub struct Operands {
     pub dreg: u32,

@@ -27,7 +27,7 @@ pub struct BitRange {
 /// Where an operand stands in a word, in at most two pieces, and how its bits are read.
 #[derive(Clone, Copy)]
 pub struct OperandField {
-    /// The piece with the operand's lowest bits; an operand that is absent has no bits.
+    /// The piece with the operand's lowest bits; an operand that is absent has no bits, so that only 0 fits it.
     pub low: BitRange,
     /// The piece with the bits above them; not every operand has one.
     pub high: BitRange,

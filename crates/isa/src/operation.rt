@@ -101,6 +101,7 @@ impl TryFrom<u32> for Operation {
 
 impl Operation {
     /// The operation of a number, for those who know it below 64, as a word's is; above 63 it is the last.
+    // The one table from numbers.
     pub fn from_number(number: u32) -> Self
         ensures { result ≡ operation_of number }
     {
@@ -253,6 +254,7 @@ impl Operation {
     }
 
     /// Whether it may be conditional; where it may not, bit 25 of its 32-bit words is ignored.
+    // By ranges of numbers, here and below, as the rule says it.
     pub fn is_conditional(self) -> bool
         ensures { result ≡ (properties self).conditional }
     {

@@ -23,6 +23,7 @@ impl From<bool> for Width {
     }
 }
 
+// An arm for each length, here and where words are read: they are two formats, and the width is known only when a program runs.
 impl Width {
     /// The length of an instruction word in bytes.
     pub fn bytes(self) -> u32
@@ -40,6 +41,7 @@ impl Width {
         ensures { result ≡ word_at self program.now at }
     {
         match self {
+            // The definition's line.
             Width::Narrow => u32::from(program[at]) * 256 + u32::from(program[at + 1]),
             Width::Wide => codec::number_at(program, at),
         }

@@ -25,7 +25,7 @@ use machine::Refusal;
 /// Bytes of a line: 47 characters and a newline.
 pub const LINE: usize = 48;
 
-// Columns in which parts of a line begin; the address begins in column 0.
+// Columns in which parts of a line begin; the address begins in column 0. Names are constant byte strings, copied to fixed columns.
 const WORD: usize = 9;
 
 const CONDITION: usize = 18;
@@ -38,6 +38,7 @@ const OPERANDS: usize = 34;
 type OperandText = ArrayString<14>;
 
 // Copies a part into a text, from a place on.
+// A place in memory of the caller's, or in one line.
 fn put(text: &mut [u8], at: usize, part: &[u8])
     requires { at + length part.now ≤ length text.old }
     ensures { text.new ≡ put_at text.old at part.now }
@@ -48,6 +49,7 @@ fn put(text: &mut [u8], at: usize, part: &[u8])
 // ---- parts of a line
 
 // The name of an operation: its mnemonic, or `?` where words of the width have no such form.
+// Operation and width stay two parameters: the operation's methods take the width.
 #[tactic(auto, unfolding(crate::specs::Line::name_text, isa::specs::Text::bytes))]
 fn name(operation: Operation, width: Width) -> &'static [u8]
     ensures { result.now ≡ name_text width operation }
@@ -83,6 +85,7 @@ fn push_operand(text: &mut OperandText, i: Instruction, role: Role)
 }
 
 // Writes the condition of an instruction, if it is conditional: its name, and the condition register.
+// `creg` is a field of the instruction, below 8 where it was decoded.
 #[tactic(auto, using(crate::proofs::Texts::creg_small, crate::proofs::Texts::condition_short, crate::proofs::Texts::length_creg, crate::proofs::Texts::condition_written, crate::proofs::Texts::condition_none))]
 fn put_condition(line: &mut [u8; LINE], i: Instruction)
     requires { i.creg < 8 }
@@ -154,6 +157,7 @@ fn put_lines(program: &[u8], width: Width, text: &mut [u8])
 /// Writes the listing of a program, in words of a width, to the front of a text: `LINE` bytes for each word. The text is left as it was
 /// where the program is longer than 65,536 bytes (`MemoryTooLong`), is not made of whole words (`PartOfWord`), or has more words than the
 /// text has room for (`TextTooShort`); the first of these is answered.
+// Program and width apart: any bytes may be given.
 #[tactic(auto, using(isa::proofs::Decoded::bytes_positive), unfolding(crate::specs::Listing::listing_call))]
 pub fn list(program: &[u8], width: Width, text: &mut [u8]) -> Result<(), Refusal>
     ensures { listed (refused_by result) text.new ≡ listing_call width program.now text.old }

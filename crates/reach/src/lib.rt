@@ -21,6 +21,7 @@ use isa::Width;
 use machine::Refusal;
 
 /// Marks what is reached from a start address, in full and as a slot, and nothing else.
+// The map stays beside the code: a struct that holds the loan needs a clause more at each method.
 #[tactic(auto, using(crate::proofs::ProgramSearch::sound, crate::proofs::ProgramSearch::marks_words), unfolding(crate::specs::Call::reached_map))]
 fn mark_reached(code: Code<'_>, start: u32, map: &mut [u8])
     requires sized { length map.old ≡ length code.program.now }
@@ -37,6 +38,7 @@ fn mark_reached(code: Code<'_>, start: u32, map: &mut [u8])
 ///
 /// Refused, in this order, and with the map as it was: `MemoryTooLong` for a program of more than 65,536 bytes, `MapTooShort` for a map
 /// shorter than the program, `StartUnfit` for a start that is misaligned or whose word is not wholly in the program.
+// Program and width apart: any bytes may be given.
 #[tactic(auto, using(crate::proofs::Calls::map_length, crate::proofs::Words::aligned, crate::proofs::Words::wholly, crate::proofs::Theorems::marked), unfolding(word::specs::Choice::choices, crate::specs::Call::reach_call))]
 pub fn reach(program: &[u8], width: Width, start: u32, map: &mut [u8]) -> Result<(), Refusal>
     ensures exact { mapped (refused_by result) map.new ≡ reach_call width program.now start map.old }

@@ -10,6 +10,7 @@ use crate::code::Code;
 use crate::queue::Queue;
 
 /// Marks an address that is not marked yet, and queues it.
+// Two functions say that the map fits: a type for it would be longer.
 fn visit(map: &mut [u8], queue: &mut Queue, b: u32)
     requires there { b < length map.old }
     requires fits { length map.old ≤ MOST_MEMORY }

@@ -21,6 +21,7 @@ fn mark(map: &mut [u8], width: Width, b: u32)
 }
 
 /// Marks the next words after an address, `count` of them, where they are words.
+// The count is below 4 by `slot_words`.
 #[tactic(auto, using(isa::proofs::Decoded::bytes_most, crate::proofs::Marks::next_marked, crate::proofs::Marks::none_left))]
 fn mark_next(map: &mut [u8], width: Width, a: u32, count: u32)
     requires near { a ≤ MOST_MEMORY }

@@ -54,6 +54,7 @@ pub fn report(code: &[u8], text: &[u8]) -> Line
     let start = reset_image();
     let mut cells = [0u32; 4096];
     let requests = [0u32; 0];
+    // The call takes a number, and refuses this one.
     let limit = console::limit_of(text).unwrap_or(u32::MAX);
     let mut buffer = [0u8; image::LONGEST];
     let answer = emulator::run(
