@@ -33,6 +33,7 @@ fn load<R: Files + AllocGlobal>(rt: &R, path: &str, most: usize) -> Result<Vec<u
 fn names(alloc: Global, text: &[u8]) -> Result<Vec<&[u8]>, AllocError> {
     let words = text.splitn(2, ends_line).nth(1).unwrap_or(b"");
     let mut names: Vec<&[u8]> = words.split(ends_word).collect(alloc)?;
+    // After the text's last blank or newline there is no further name.
     names.pop_if(|last| last.is_empty());
     Ok(names)
 }
@@ -42,6 +43,7 @@ fn run_files<R: Files + AllocGlobal + Print>(rt: &R) -> io::Result<()> {
     let text = load(rt, "examples.txt", MOST_TEXT)?;
     let image = load(rt, "image.txt", MOST_NAMES)?;
     let names = names(rt.alloc(), &image)?;
+    // Until a title comes, the first line is one.
     let first = text.split(ends_line).next().unwrap_or(b"");
     let mut example = Example::new(first);
     for line in text.split(ends_line) {
