@@ -7,8 +7,8 @@ use native.Mathlib.Nat.{div-div-eq-div-mul, mod-lt}
 use lib.Dec.{eqb, lit<}
 use Rattle.word.specs.Choice.{choose◌then◌else◌}
 use Rattle.word.specs.Word.{bit_of}
-use Rattle.word.proofs.Tests.{if_true, if_false, if_holds}
-use Rattle.machine.specs.Machine.{user_mode, reads_set2, writes_set2, wide_words, interrupts_enabled, status_of}
+use Rattle.word.proofs.Tests.{if_holds}
+use Rattle.machine.specs.Machine.{user_mode, reads_set2, writes_set2, status_of}
 use Rattle.machine.specs.Stack.{kept_status}
 use Rattle.machine.specs.Theorems.{SuperIs, KeptStatusFits, WorkedStatus}
 
@@ -68,16 +68,6 @@ status_kept q wide enabled =
 
 low_user : (x : ℕ) → user_mode (x % 32) ≡ user_mode x
 low_user x = let e : x % 32 / 2 ^ 0 % 2 ≡ x / 2 ^ 0 % 2 = omega arith in rw e
-
--- with UM 1, and with UM 0
-module _ (x : ℕ) where
-  pub kept_user : user_mode x ≡ true → kept_status x ≡ status_of true false false (wide_words x) (interrupts_enabled x)
-  unfolding kept_status
-  kept_user u = if_true (user_mode x) _ _ u
-
-  pub kept_super : user_mode x ≡ false → kept_status x ≡ x % 32
-  unfolding kept_status
-  kept_super u = if_false (user_mode x) _ _ u
 
 pub kept_status_fits : KeptStatusFits
 unfolding kept_status

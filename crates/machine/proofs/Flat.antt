@@ -1,25 +1,16 @@
--- Reads and stores of the flat words, said of the machine that they hold. What holds of a section is stated once, by its start and its count.
--- Assumes nothing.
+-- Flat words and the machine that they say: its sections, stated once by start and count, and its stack. Assumes nothing.
 use mathlib.Core.Path.{◌≡◌, refl, sym, ap, ◌∙◌}
-use mathlib.Core.Logic.{◌≢◌}
 use mathlib.Core.Bool.{Bool, true, false, ◌||◌}
 use mathlib.Core.List.{List, [], ◌∷◌, ◌++◌, reverse, reverse-append, append_assoc}
 use Prim.Native.Nat.{ℕ, zero, suc, ◌+◌, ◌-◌, ◌*◌, ◌≤◌, ◌<◌}
 use native.Mathlib.Omega.{arith}
-use native.Mathlib.Nat.{add-zero}
-use native.Mathlib.Numerals.{add-one}
 use lib.Dec.{leb, lit<}
-use lib.ListN.{length, get_or, set, take, drop, length-drop, length-reverse, get_or-eq_default}
-use lib.Seq.{drop-set-add, drop-set-lt, take-set-lt, take-set-le, get_or-set_same, get_or-set_other, get_or-take, get_or-drop, drop-drop, length-take-le, sets, sets-eq, length-sets, take_at, drop_at}
-use borrow.Author.Tests.{leb-true, eq-eqb, ne_eqb}
-use Rattle.word.specs.Choice.{choose◌then◌else◌}
-use Rattle.machine.specs.Machine.{Machine, PSR, with_set1, with_set2, with_conditions, with_control, with_position, with_dividers, set_by, with_register, written}
-use Rattle.machine.specs.Control.{control_at, INT_SERV, RETI_ADDR, RETI_PSR, RETI_CR0}
-use Rattle.machine.specs.Stack.{popped, service_flags, shown_top, show_top, show_stack, with_stack}
-use Rattle.machine.specs.Words.{SET1, SET2, CONDITIONS, CONTROL, POSITION, SOURCES, TIMERS, DEPTH, ENTRIES, DIVIDERS, WORDS, start_by, section, position_of, entry_of, words_of, entries_of, machine_of}
-use Rattle.machine.specs.declared.Position.{Position}
-use Rattle.machine.specs.declared.Entry.{Entry}
-use Rattle.machine.proofs.Lists.{pair_set}
+use lib.ListN.{length, get_or, set, take, drop, length-drop, length-reverse}
+use lib.Seq.{drop-set-add, drop-set-lt, take-set-le, get_or-set_other, get_or-take, get_or-drop, drop-drop, length-take-le, sets, sets-eq, take_at, drop_at}
+use borrow.Author.Tests.{leb-true}
+use Rattle.machine.specs.Machine.{Machine, with_dividers}
+use Rattle.machine.specs.Words.{SOURCES, TIMERS, DEPTH, ENTRIES, DIVIDERS, WORDS, section, entry_of, words_of, entries_of, machine_of}
+use Rattle.machine.specs.declared.stack.Entry.{Entry}
 
 -- ---- one section
 
@@ -51,11 +42,8 @@ split_apart {A} start count m n e f g = go (leb (start + count) m) (leb (m + n) 
     go false true p q e = g (leb-true _ _ q)
     go false false p q e = absurd (let z : ◌≡◌ {A = ℕ} 0 1 = cc in omega arith)
 
--- a store at element j of a section changes that element, and leaves each section apart
+-- a store at element j of a section leaves each section apart
 module _ (w : List ℕ) (v start count j : ℕ) (h : j < count) where
-  pub store_in : section start count (set w (start + j) v) ≡ set (section start count w) j v
-  store_in = ap (take count) (drop-set-add start w j v) ∙ take-set-lt count (drop start w) j v h
-
   pub store_apart : (m n : ℕ) → apart start count m n ≡ true → section m n (set w (start + j) v) ≡ section m n w
   store_apart m n e =
       split_apart start count m n e (λ l. store_short w m n (start + j) v (omega arith)) (λ l. store_past w m n (start + j) v (omega arith))
@@ -82,85 +70,17 @@ fill_apart w start vs m n e = split_apart start (length vs) m n e (fill_short w 
 
 -- its sections are whole
 module _ (w : List ℕ) (h : length w ≡ WORDS) where
-  pub conditions_length : length (machine_of w).conditions ≡ 8
-  unfolding machine_of
-  conditions_length = section_length w CONDITIONS 8 (omega arith)
-
-  pub control_length : length (machine_of w).control ≡ 45
-  unfolding machine_of
-  control_length = section_length w CONTROL 45 (omega arith)
-
   pub dividers_length : length (machine_of w).dividers ≡ TIMERS
   unfolding machine_of
   dividers_length = section_length w DIVIDERS TIMERS (omega arith)
 
 -- stores below the stack's count leave the stack
-stack_below : (w : List ℕ) (i : ℕ) (vs : List ℕ) → i + length vs ≤ DEPTH → (machine_of (sets w i vs)).stack ≡ (machine_of w).stack
+pub stack_below : (w : List ℕ) (i : ℕ) (vs : List ℕ) → i + length vs ≤ DEPTH → (machine_of (sets w i vs)).stack ≡ (machine_of w).stack
 unfolding machine_of
 stack_below w i [] h = refl
 stack_below w i (v ∷ vs) h =
     stack_below (set w i v) (suc i) vs (omega arith)
     ∙ rw (get_or-set_other w i DEPTH v 0 (λ e. omega arith), drop-set-lt ENTRIES w i v (omega arith))
-
-module _ (w : List ℕ) (v j : ℕ) where
-  pub set1_stored : j < 32 → machine_of (set w (SET1 + j) v) ≡ with_set1 (set (machine_of w).set1 j v) (machine_of w)
-  unfolding machine_of with_set1
-  set1_stored h = simp (store_in w v SET1 32 j h, store_apart w v SET1 32 j h, stack_below w (SET1 + j) (v ∷ []) (omega arith))
-
-  pub set2_stored : j < 32 → machine_of (set w (SET2 + j) v) ≡ with_set2 (set (machine_of w).set2 j v) (machine_of w)
-  unfolding machine_of with_set2
-  set2_stored h = simp (store_in w v SET2 32 j h, store_apart w v SET2 32 j h, stack_below w (SET2 + j) (v ∷ []) (omega arith))
-
-  pub condition_stored : j < 8 → machine_of (set w (CONDITIONS + j) v) ≡ with_conditions (set (machine_of w).conditions j v) (machine_of w)
-  unfolding machine_of with_conditions
-  condition_stored h = simp (store_in w v CONDITIONS 8 j h, store_apart w v CONDITIONS 8 j h, stack_below w (CONDITIONS + j) (v ∷ []) (omega arith))
-
-  pub control_stored : j < 45 → machine_of (set w (CONTROL + j) v) ≡ with_control (set (machine_of w).control j v) (machine_of w)
-  unfolding machine_of with_control
-  control_stored h = simp (store_in w v CONTROL 45 j h, store_apart w v CONTROL 45 j h, stack_below w (CONTROL + j) (v ∷ []) (omega arith))
-
--- ---- the set that a bit of PSR names
-
-pub start_small : (second : Bool) → start_by second ≤ SET2
-start_small true = omega arith
-start_small false = omega arith
-
-pub register_at_law : (w : List ℕ) (second : Bool) (n : ℕ) → n < 32 → get_or (set_by second (machine_of w)) n 0 ≡ get_or w (start_by second + n) 0
-unfolding set_by machine_of
-register_at_law w true n h = section_at w SET2 32 n h
-register_at_law w false n h = section_at w SET1 32 n h
-
-pub register_stored : (w : List ℕ) (v n : ℕ) (second : Bool) → n < 32 → machine_of (set w (start_by second + n) v) ≡ with_register second n v (machine_of w)
-unfolding with_register
-register_stored w v n true h = set2_stored w v n h
-register_stored w v n false h = set1_stored w v n h
-
--- a write to any place but PSR's replaces the register, and one to PSR's is ignored
-pub register_written : (m : Machine) (v n : ℕ) (second : Bool) → start_by second + n ≢ SET2 + PSR → written second n v m ≡ with_register second n v m
-unfolding written choose◌then◌else◌
-register_written m v n true h = rw (ne_eqb n PSR (λ e. h (ap (λ k. SET2 + k) e)))
-register_written m v n false h = refl
-
-pub psr_spared : (m : Machine) (v n : ℕ) (second : Bool) → n < 32 → start_by second + n ≡ SET2 + PSR → written second n v m ≡ m
-unfolding written choose◌then◌else◌
-psr_spared m v n true h e = rw (eq-eqb n PSR (omega arith))
-psr_spared m v n false h e = absurd (omega arith)
-
--- ---- the control block
-
--- a load beyond its registers
-pub control_beyond : (w : List ℕ) (n : ℕ) → length w ≡ WORDS → 45 ≤ n → control_at (machine_of w) n ≡ 0
-control_beyond w n h l = get_or-eq_default (machine_of w).control 0 (rw (control_length w h) l)
-
--- ---- the position
-
--- the six numbers in their order
-pub position_filled : (w : List ℕ) (p : Position) → length w ≡ WORDS
-    → machine_of (sets w POSITION (p.pc ∷ p.slot ∷ p.target ∷ p.held ∷ p.high ∷ p.low ∷ [])) ≡ with_position p (machine_of w)
-unfolding machine_of with_position position_of
-position_filled w p h =
-    let vs = p.pc ∷ p.slot ∷ p.target ∷ p.held ∷ p.high ∷ p.low ∷ [] in
-    simp (fill_in w POSITION vs (omega arith), fill_apart w POSITION vs, stack_below w POSITION vs (omega arith))
 
 -- ---- entries of the stack
 
@@ -185,7 +105,7 @@ entries_front (suc n) l =
     go (a ∷ b ∷ c ∷ d ∷ l) h = ap (λ es. record { source = a; address = b; psr = c; c0 = d } ∷ es) h
 
 -- one more entry is the last
-entries_more : (n : ℕ) (l : List ℕ) → entries_of (suc n) l ≡ entries_of n l ++ (entry_of (drop (4 * n) l) ∷ [])
+pub entries_more : (n : ℕ) (l : List ℕ) → entries_of (suc n) l ≡ entries_of n l ++ (entry_of (drop (4 * n) l) ∷ [])
 unfolding entries_of
 entries_more zero l = refl
 entries_more (suc n) l =
@@ -199,7 +119,7 @@ entry_front (a ∷ b ∷ []) = refl
 entry_front (a ∷ b ∷ c ∷ []) = refl
 entry_front (a ∷ b ∷ c ∷ d ∷ l) = refl
 
--- ---- the stack: its count, and a section of entries
+-- ---- the stack of so many entries
 
 -- the stack of n entries
 abbrev pub stack_of : (n : ℕ) (words : List ℕ) → List Entry
@@ -221,43 +141,15 @@ unfolding machine_of
 depth_is w = length-reverse (entries_of (get_or w DEPTH 0) (drop ENTRIES w)) ∙ length_entries (get_or w DEPTH 0) (drop ENTRIES w)
 
 module _ (w : List ℕ) where
-  stack_as : (n : ℕ) → get_or w DEPTH 0 ≡ n → (machine_of w).stack ≡ stack_of n w
+  pub stack_as : (n : ℕ) → get_or w DEPTH 0 ≡ n → (machine_of w).stack ≡ stack_of n w
   unfolding machine_of
   stack_as n e = rw e
 
-  pub stack_none : get_or w DEPTH 0 ≡ 0 → (machine_of w).stack ≡ []
-  unfolding entries_of
-  stack_none = stack_as 0
+-- ---- stores past the stack's count
 
-  -- the top's four words
-  pub stack_some : (n : ℕ) → get_or w DEPTH 0 ≡ suc n → (machine_of w).stack ≡ entry_of (section (ENTRIES + 4 * n) 4 w) ∷ stack_of n w
-  stack_some n e = stack_as (suc n) e ∙ stack_top_law n w
-
-  pub entry_read : (at : ℕ) → entry_of (section at 4 w) ≡ record { source = get_or w at 0; address = get_or w (at + 1) 0; psr = get_or w (at + 2) 0; c0 = get_or w (at + 3) 0 }
-  entry_read at = simp (section_at w at 4 0 (lit< tt), section_at w at 4 1 (lit< tt), section_at w at 4 2 (lit< tt), section_at w at 4 3 (lit< tt), add-zero)
-
--- ---- stores to the stack
-
--- the machine with another stack, its control block left
-abbrev pub with_entries : List Entry → Machine → Machine
-with_entries es m = record { set1 = m.set1; set2 = m.set2; conditions = m.conditions; control = m.control; position = m.position; stack = es; dividers = m.dividers }
-
-pub depth_stored : (w : List ℕ) (n : ℕ) → length w ≡ WORDS → machine_of (set w DEPTH n) ≡ with_entries (stack_of n w) (machine_of w)
-unfolding machine_of
-depth_stored w n h = simp (store_apart w n DEPTH 1 0 (lit< tt), get_or-set_same w DEPTH n 0 (omega arith), drop-set-lt ENTRIES w DEPTH n (lit< tt))
-
--- stores past the stack's count and before the dividers leave all but the stack
-fill_high : (w : List ℕ) (i : ℕ) (vs : List ℕ) → ENTRIES ≤ i → (m n : ℕ) → leb (m + n) ENTRIES ≡ true → section m n (sets w i vs) ≡ section m n w
-fill_high w i vs h m n e = let l : m + n ≤ ENTRIES = leb-true _ _ e in fill_past w m n i vs (omega arith)
-
-depth_past : (w : List ℕ) (i : ℕ) (vs : List ℕ) → ENTRIES ≤ i → get_or (sets w i vs) DEPTH 0 ≡ get_or w DEPTH 0
+pub depth_past : (w : List ℕ) (i : ℕ) (vs : List ℕ) → ENTRIES ≤ i → get_or (sets w i vs) DEPTH 0 ≡ get_or w DEPTH 0
 depth_past w i vs h =
     sym (section_at (sets w i vs) DEPTH 1 0 (lit< tt)) ∙ ap (λ (s : List ℕ). get_or s 0 0) (fill_past w DEPTH 1 i vs (omega arith)) ∙ section_at w DEPTH 1 0 (lit< tt)
-
-fill_entries : (w : List ℕ) (i : ℕ) (vs : List ℕ) (es : List Entry) → ENTRIES ≤ i → i + length vs ≤ DIVIDERS
-    → with_entries es (machine_of (sets w i vs)) ≡ with_entries es (machine_of w)
-unfolding machine_of
-fill_entries w i vs es h k = simp (fill_high w i vs h, fill_short w DIVIDERS TIMERS i vs k)
 
 pub in_row : (w : List ℕ) (i a b c d : ℕ) → set (set (set (set w i a) (i + 1) b) (i + 2) c) (i + 3) d ≡ sets w i (a ∷ b ∷ c ∷ d ∷ [])
 in_row w i a b c d =
@@ -266,83 +158,27 @@ in_row w i a b c d =
     let r : i + 3 ≡ suc (suc (suc i)) = omega arith in
     rw (p, q, r)
 
--- the four words of an entry
+-- the four words of an entry past n others are the top
 module _ (w : List ℕ) (n : ℕ) (e : Entry) (h : length w ≡ WORDS) (room : n < 12) where
   abbrev after : List ℕ
   after = sets w (ENTRIES + 4 * n) (words_of e)
 
-  stack_filled : stack_of (suc n) after ≡ e ∷ stack_of n w
+  pub stack_filled : stack_of (suc n) after ≡ e ∷ stack_of n w
   stack_filled =
       rw (stack_top_law n after, fill_in w (ENTRIES + 4 * n) (words_of e) (omega arith))
       (ap (λ es. e ∷ es) (stack_by n w after (fill_past w ENTRIES (4 * n) (ENTRIES + 4 * n) (words_of e) (omega arith))))
 
-  -- past the last entry, and with a count one above, they push it
-  pub pushed_to : get_or w DEPTH 0 ≡ n → machine_of (set after DEPTH (n + 1)) ≡ with_entries (e ∷ (machine_of w).stack) (machine_of w)
-  pushed_to q =
-      rw (add-one n)
-      (depth_stored after (suc n) (length-sets w (ENTRIES + 4 * n) (words_of e) ∙ h)
-      ∙ ap (λ es. with_entries es (machine_of after)) (stack_filled ∙ ap (λ es. e ∷ es) (sym (stack_as w n q)))
-      ∙ fill_entries w (ENTRIES + 4 * n) (words_of e) (e ∷ (machine_of w).stack) (omega arith) (omega arith))
-
-  -- in place of the last entry they replace it
-  pub replaced_to : get_or w DEPTH 0 ≡ suc n → machine_of after ≡ with_entries (e ∷ popped (machine_of w).stack) (machine_of w)
-  unfolding popped
-  replaced_to q =
-      ap (λ es. with_entries es (machine_of after)) (stack_as after (suc n) (depth_past w (ENTRIES + 4 * n) (words_of e) (omega arith) ∙ q) ∙ stack_filled)
-      ∙ fill_entries w (ENTRIES + 4 * n) (words_of e) (e ∷ stack_of n w) (omega arith) (omega arith)
-      ∙ ap (λ es. with_entries (e ∷ popped es) (machine_of w)) (sym (stack_some w n q))
-
--- a count one below pops an entry
-pub popped_to : (w : List ℕ) (n : ℕ) → length w ≡ WORDS → get_or w DEPTH 0 ≡ suc n → machine_of (set w DEPTH n) ≡ with_entries (popped (machine_of w).stack) (machine_of w)
-unfolding popped
-popped_to w n h q = rw (stack_some w n q) (depth_stored w n h)
-
--- ---- the dividers
-
 -- stores past the last entry leave the stack
-stack_past : (w : List ℕ) (i : ℕ) (vs : List ℕ) → length (machine_of w).stack ≤ SOURCES → DIVIDERS ≤ i → (machine_of (sets w i vs)).stack ≡ (machine_of w).stack
+pub stack_past : (w : List ℕ) (i : ℕ) (vs : List ℕ) → length (machine_of w).stack ≤ SOURCES → DIVIDERS ≤ i → (machine_of (sets w i vs)).stack ≡ (machine_of w).stack
 unfolding machine_of
 stack_past w i vs h l =
     let n = get_or w DEPTH 0 in
     let k : n ≤ SOURCES = rw (depth_is w) at h in
     stack_as (sets w i vs) n (depth_past w i vs (omega arith)) ∙ stack_by n w (sets w i vs) (fill_past w ENTRIES (4 * n) i vs (omega arith)) ∙ sym (stack_as w n refl)
 
-pub divider_stored : (w : List ℕ) → length (machine_of w).stack ≤ SOURCES → (v j : ℕ) → j < TIMERS
-    → machine_of (set w (DIVIDERS + j) v) ≡ with_dividers (set (machine_of w).dividers j v) (machine_of w)
-unfolding machine_of with_dividers
-divider_stored w h v j l =
-    simp (store_in w v DIVIDERS TIMERS j l, store_apart w v DIVIDERS TIMERS j l, stack_past w (DIVIDERS + j) (v ∷ []) h (omega arith))
-
--- both, one after the other
-pub dividers_stored : (m n last : Machine) (a b : ℕ) → length m.dividers ≡ TIMERS → n ≡ with_dividers (set m.dividers 0 a) m → last ≡ with_dividers (set n.dividers 1 b) n
-    → last ≡ with_dividers (a ∷ b ∷ []) m
-unfolding with_dividers
-dividers_stored m n last a b h e f = rw (f, e) (ap (λ (l : List ℕ). with_dividers l m) (pair_set m.dividers a b h))
+-- ---- the dividers
 
 -- those that a machine has
 pub same_dividers : (m : Machine) (l : List ℕ) → m.dividers ≡ l → with_dividers l m ≡ m
 unfolding with_dividers
 same_dividers m l e = λ i. record { set1 = m.set1; set2 = m.set2; conditions = m.conditions; control = m.control; position = m.position; stack = m.stack; dividers = sym e i }
-
--- ---- INT_SERV and the RETI_ registers
-
-pub shown_stored : (w : List ℕ) (flags : ℕ) (top : Entry)
-    → machine_of (set (set (set (set w (CONTROL + INT_SERV) flags) (CONTROL + RETI_ADDR) top.address) (CONTROL + RETI_PSR) top.psr) (CONTROL + RETI_CR0) top.c0)
-    ≡ with_control (show_top flags top (machine_of w).control) (machine_of w)
-unfolding with_control
-shown_stored w flags top =
-    let a = set w (CONTROL + INT_SERV) flags in
-    let b = set a (CONTROL + RETI_ADDR) top.address in
-    let c = set b (CONTROL + RETI_PSR) top.psr in
-    rw (control_stored c top.c0 RETI_CR0 (lit< tt), control_stored b top.psr RETI_PSR (lit< tt))
-    (rw (control_stored a top.address RETI_ADDR (lit< tt), control_stored w flags INT_SERV (lit< tt)))
-
-pub service_flags_law : (w : List ℕ) → get_or w (CONTROL + INT_SERV) 0 ≡ control_at (machine_of w) INT_SERV
-unfolding machine_of
-service_flags_law w = sym (section_at w CONTROL 45 INT_SERV (lit< tt))
-
--- a stack stored, and then shown
-pub stored_shown : (m k last : Machine) (es : List Entry) (flags : ℕ) (top : Entry) → k ≡ with_entries es m → flags ≡ service_flags es → top ≡ shown_top es
-    → last ≡ with_control (show_top flags top k.control) k → last ≡ with_stack es m
-unfolding with_control with_stack show_stack
-stored_shown m k last es flags top a b c d = rw (d, a, b, c)

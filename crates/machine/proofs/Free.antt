@@ -14,8 +14,8 @@ use Rattle.word.proofs.Tests.{either, and_parts, or_parts}
 use Rattle.machine.specs.Machine.{Machine}
 use Rattle.machine.specs.Words.{SET1, SET2, CONDITIONS, CONTROL, POSITION, TIMERS, DEPTH, ENTRIES, DIVIDERS, WORDS, section, position_of, entry_of, entries_of, machine_of, COUNTS, is_free}
 use Rattle.machine.specs.Theorems.{FreePlaces}
-use Rattle.machine.specs.declared.Position.{Position}
-use Rattle.machine.specs.declared.Entry.{Entry}
+use Rattle.machine.specs.declared.position.Position.{Position}
+use Rattle.machine.specs.declared.stack.Entry.{Entry}
 use Rattle.machine.proofs.Flat.{section_at, apart, split_apart, entries_front, stack_by, depth_is}
 
 -- ---- places

@@ -1,9 +1,23 @@
--- Laws of the machine: its lists, its control registers, its stack, and the flat words that hold it.
+-- Laws of the machine: its lists, its control registers, its stack, and the flat words that say it.
 pub mod Lists
-pub mod Registers
-pub mod Stack
+pub mod Table
+pub mod Shown
 pub mod Flat
+pub mod Filled
 pub mod Free
 pub mod Widths
 pub mod Bits
-pub mod Service
+pub mod Entries
+pub mod Statuses
+pub mod Pushed
+pub mod Written
+pub mod Onward
+pub mod Unpacked
+pub mod Codes
+pub mod Tests
+pub mod Formed
+pub mod Parts
+pub mod Stored
+pub mod Distinct
+pub mod Asked
+pub mod Flagged

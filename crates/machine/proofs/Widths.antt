@@ -106,9 +106,13 @@ not_constant n x h = holds_at (λ n. holds_as (register_at n).access (register_a
 
 -- ---- stores
 
-pub mask_kept : (r : Register) (x : ℕ) → bit_and x (largest r) / 2 ^ r.zeros * 2 ^ r.zeros ≡ kept_by r x
+mask_kept : (r : Register) (x : ℕ) → bit_and x (largest r) / 2 ^ r.zeros * 2 ^ r.zeros ≡ kept_by r x
 unfolding largest kept_by
 mask_kept r x = ap (λ y. y / 2 ^ r.zeros * 2 ^ r.zeros) (and_mask x r.width)
+
+pub mask_base : (n x : ℕ) → n ≡ 0 → bit_and x (largest (register_at n)) / 256 * 256 ≡ kept_by (register_at n) x
+unfolding registers register_at
+mask_base n x h = rw h (mask_kept (register_at 0) x)
 
 pub mask_whole : (r : Register) (x : ℕ) → r.zeros ≡ 0 → bit_and x (largest r) ≡ kept_by r x
 mask_whole r x z = sym (sym (mask_kept r x) ∙ rw z (omega arith))

@@ -4,7 +4,9 @@ use Rattle.machine.specs.Machine.{states}
 use Rattle.machine.specs.Control.{controls}
 use Rattle.machine.specs.Stack.{stacks}
 use Rattle.machine.specs.Words.{layout}
+use Rattle.machine.specs.Apply.{applying}
+use Rattle.machine.specs.Questions.{questions}
 
 unfoldable pub machines : Unit {0}
-unfolding instructions states controls stacks layout
+unfolding instructions states controls stacks layout applying questions
 machines = tt

@@ -1,8 +1,19 @@
--- The machine: its registers, its control block, its stack, and the words that hold it.
+-- The machine: its registers, its control block, its stack, and the flat words that say it.
+pub mod RegisterSet
+pub mod Position
 pub mod Machine
+pub mod Status
 pub mod Control
 pub mod Stack
+pub mod Top
 pub mod Words
+pub mod Update
+pub mod Effect
+pub mod Kind
+pub mod Fault
+pub mod Apply
+pub mod Questions
+pub mod EntryTests
 pub mod Refusal
 pub mod Theorems
 pub mod Computed

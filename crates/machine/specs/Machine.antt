@@ -4,8 +4,8 @@ use Rattle.word.specs.Choice.{choose◌then◌else◌}
 use Rattle.word.specs.Word.{bit_at, bit_of}
 use Rattle.isa.specs.declared.width.Width.{Width}
 use Rattle.isa.specs.Operation.{width_by}
-use Rattle.machine.specs.declared.Position.{Position}
-use Rattle.machine.specs.declared.Entry.{Entry}
+use Rattle.machine.specs.declared.position.Position.{Position}
+use Rattle.machine.specs.declared.stack.Entry.{Entry}
 
 -- ---- the state
 
@@ -33,6 +33,9 @@ memory_of cells = record { cells = cells }
 pub record State : Type 0 where
   pub machine : Machine
   pub memory : Memory
+
+abbrev pub state_of : Machine → Memory → State
+state_of m memory = record { machine = m; memory = memory }
 
 -- a position with no slot and no product
 unfoldable pub position_at : (pc : ℕ) → Position

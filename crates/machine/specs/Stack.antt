@@ -6,7 +6,7 @@ use Rattle.word.specs.Flags.{flags_at, distinct_below}
 use Rattle.machine.specs.Machine.{Machine, user_mode, wide_words, interrupts_enabled, status_of}
 use Rattle.machine.specs.Words.{SOURCES}
 use Rattle.machine.specs.Control.{register_at, replaces_top, store_register, INT_SERV, RETI_ADDR, RETI_PSR, RETI_CR0}
-use Rattle.machine.specs.declared.Entry.{Entry}
+use Rattle.machine.specs.declared.stack.Entry.{Entry}
 
 -- the stack without its top
 unfoldable pub popped : List Entry → List Entry

@@ -5,7 +5,7 @@ use Rattle.machine.specs.Machine.{Machine, SUPER, user_mode}
 use Rattle.machine.specs.Control.{Register, registers, can_hold, kept_by, is_writable, store_register, RETURNS}
 use Rattle.machine.specs.Stack.{sources_of, service_flags, kept_status, store_control}
 use Rattle.machine.specs.Words.{OFFSETS, SOURCES, DEPTH, MachineWords, machine_of, is_free, Says}
-use Rattle.machine.specs.declared.Entry.{Entry}
+use Rattle.machine.specs.declared.stack.Entry.{Entry}
 
 -- free places may hold anything, and no other: two lists of words say the same machine exactly where they agree at each place that is not free, the
 -- count of stack entries among these

@@ -1,9 +1,9 @@
--- The running machine as one list of words at fixed places; what an image's numbers say is image/Image: machine_in. Assumes nothing.
-use Rattle.std.specs.Prelude.{◌≡◌, Bool, true, false, ◌&&◌, ◌||◌, List, [], ◌∷◌, reverse, ℕ, zero, suc, ◌+◌, ◌*◌, length, get_or, take, drop, leb, ltb}
+-- A machine as one list of words at fixed places, in the order of an image (Manual 8.1); what an image's numbers say is image/Image: machine_in. Assumes nothing.
+use Rattle.std.specs.Prelude.{◌≡◌, Bool, ◌&&◌, ◌||◌, List, [], ◌∷◌, reverse, ℕ, zero, suc, ◌+◌, ◌*◌, length, get_or, take, drop, leb, ltb}
 use Rattle.word.specs.Flags.{is_among}
-use Rattle.machine.specs.Machine.{Machine, Memory, State}
-use Rattle.machine.specs.declared.Position.{Position}
-use Rattle.machine.specs.declared.Entry.{Entry}
+use Rattle.machine.specs.Machine.{Machine}
+use Rattle.machine.specs.declared.position.Position.{Position}
+use Rattle.machine.specs.declared.stack.Entry.{Entry}
 
 -- how many numbers each section has: a register set, the conditions, the control block, the position
 abbrev pub REGISTERS : ℕ
@@ -65,11 +65,6 @@ WORDS = DIVIDERS + TIMERS
 abbrev pub MachineWords : (words : List ℕ) → Type 0
 MachineWords ws = length ws ≡ WORDS
 
--- where the registers begin of set 2 if a bit of PSR is 1, else of set 1
-abbrev pub start_by : Bool → ℕ
-start_by true = SET2
-start_by false = SET1
-
 abbrev pub section : (start count : ℕ) (words : List ℕ) → List ℕ
 section start count ws = take count (drop start ws)
 
@@ -112,10 +107,6 @@ is_free depth n = is_among n COUNTS || (leb (ENTRIES + 4 * depth) n && ltb n DIV
 -- words say a machine; the places that are free (is_free) may hold any numbers, and nothing else may differ (Theorems: FreePlaces)
 abbrev pub Says : (words : List ℕ) → Machine → Type 0
 Says words m = machine_of words ≡ m
-
--- the state that words and a memory hold; of the words, the places that are free (is_free) may hold any numbers
-abbrev pub state_of : (words : List ℕ) → Memory → State
-state_of words memory = record { machine = machine_of words; memory = memory }
 
 -- to unfold `layout` is to unfold all definitions of this file
 unfoldable pub layout : Unit {0}

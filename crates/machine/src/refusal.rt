@@ -4,7 +4,7 @@
 ghost use Rattle.std.specs.Prelude.{◌≡◌};
 ghost use Rattle.machine.specs.Refusal.{number_of};
 
-/// The first question of a call that is answered no (Manual 9).
+/// The first question of a call that is answered no (Manual 9.2).
 #[derive(Clone, Copy, Debug, PartialEq, Eq)]
 pub enum Refusal {
     /// A program of more than 65,536 bytes, or a data memory of more than 65,536 cells.

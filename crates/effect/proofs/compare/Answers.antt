@@ -1,8 +1,0 @@
--- `effect::compare` meets its contract. Assumes nothing.
-use Rattle.effect.specs.Apply.{applying}
-use Rattle.effect.proofs.compare.Goals as goal
-
-pub returns : goal.returns
-unfolding applying
-returns c memory =
-    rw (c.advance.ensures, c.write_flags.ensures)

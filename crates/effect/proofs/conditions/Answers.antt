@@ -1,8 +1,0 @@
--- `effect::conditions` meets its contract. Assumes nothing.
-use Rattle.effect.specs.Apply.{applying}
-use Rattle.effect.proofs.conditions.Goals as goal
-
-pub returns : goal.returns
-unfolding applying
-returns c memory =
-    rw (c.advance.ensures, c.unpack.ensures)

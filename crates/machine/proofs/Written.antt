@@ -1,0 +1,31 @@
+-- A register written: in the set that RSWR names, and never PSR. Assumes nothing.
+use Rattle.std.proofs.Common.{◌≡◌, ℕ, ◌%◌, ◌^◌, Bool, true, false, eqb, sym, refl, get_or-set_other}
+use borrow.Author.Tests.{eqb-false}
+use Rattle.word.specs.Choice.{choose◌then◌else◌}
+use Rattle.word.proofs.Tests.{if_holds}
+use Rattle.machine.specs.Machine.{Machine, PSR, psr, writes_set2, with_set1, with_set2, with_register, written}
+use Rattle.machine.specs.Apply.{write_register}
+
+module _ (m : Machine) (n x : ℕ) where
+  -- PSR stays
+  psr_kept : (second : Bool) → psr (written second n x m) ≡ psr m
+  unfolding written with_register choose◌then◌else◌ psr with_set1 with_set2
+  psr_kept false = refl
+  psr_kept true =
+      if_holds (λ (k : Machine). psr k ≡ psr m) (eqb n PSR) (λ _. refl) (λ e. get_or-set_other m.set2 n PSR x 0 (λ q. eqb-false n PSR e (sym q)))
+
+  -- and so does the position
+  position_kept : (second : Bool) → (written second n x m).position ≡ m.position
+  unfolding written with_register choose◌then◌else◌ with_set1 with_set2
+  position_kept false = refl
+  position_kept true = if_holds (λ (k : Machine). k.position ≡ m.position) (eqb n PSR) (λ _. refl) (λ _. refl)
+
+module _ (m : Machine) (d x : ℕ) where
+  -- a write leaves PSR and the position
+  pub write_psr : psr (write_register d x m) ≡ psr m
+  unfolding write_register
+  write_psr = psr_kept m (d % 32) (x % 2 ^ 32) (writes_set2 (psr m))
+
+  pub write_position : (write_register d x m).position ≡ m.position
+  unfolding write_register
+  write_position = position_kept m (d % 32) (x % 2 ^ 32) (writes_set2 (psr m))

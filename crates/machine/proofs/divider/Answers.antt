@@ -1,9 +1,0 @@
--- `machine::divider` meets its contract: it reads an element of a section. Assumes nothing.
-use mathlib.Core.Path.{sym}
-use Rattle.machine.specs.Words.{TIMERS, DIVIDERS, machine_of}
-use Rattle.machine.proofs.Flat.{section_at}
-use Rattle.machine.proofs.divider.Goals as goal
-
-pub returns : goal.returns
-unfolding machine_of
-returns c = sym (section_at c.args.w.now DIVIDERS TIMERS c.args.k c.requires.1)

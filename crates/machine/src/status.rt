@@ -1,0 +1,80 @@
+//! The program status register by its bits.
+#![tactic(auto, unfolding(crate::specs::Machine::states, isa::specs::Operation::width_by, word::specs::Choice::choices))]
+
+ghost use Rattle.std.specs.Prelude.{◌≡◌, true, false};
+ghost use Rattle.machine.specs.Machine.{SUPER, status_of, user_mode, wide_words, interrupts_enabled};
+ghost use Rattle.machine.specs.Status.{is_wide, status_in, psr_of};
+
+use isa::Width;
+
+/// What the program status register says (Manual 1.4).
+#[derive(Clone, Copy, Debug, PartialEq, Eq)]
+pub struct Status {
+    /// UM: user mode.
+    pub user: bool,
+    /// RSRD: registers are read from set 2.
+    pub reads_set2: bool,
+    /// RSWR: registers are written in set 2.
+    pub writes_set2: bool,
+    /// IL: the length of instruction words.
+    pub width: Width,
+    /// IE: interrupts are enabled.
+    pub enabled: bool,
+}
+
+impl Status {
+    /// The status of scall and of exceptions, 0Eh: super user, set 2, 32-bit words, interrupts disabled (Manual 3.2 and 4.9).
+    pub fn super_user() -> Self
+        ensures { psr_of result ≡ SUPER }
+    {
+        Status {
+            user: false,
+            reads_set2: true,
+            writes_set2: true,
+            width: Width::Wide,
+            enabled: false,
+        }
+    }
+
+    /// The status of user mode, which has set 1 (Manual 1.4).
+    pub fn user(width: Width, enabled: bool) -> Self
+        ensures { psr_of result ≡ status_of true false false (is_wide width) enabled }
+    {
+        Status {
+            user: true,
+            reads_set2: false,
+            writes_set2: false,
+            width,
+            enabled,
+        }
+    }
+}
+
+impl From<u32> for Status {
+    ghost from_gives = { λ psr status. status ≡ status_in psr };
+
+    /// The status by its bits.
+    fn from(psr: u32) -> Self {
+        Status {
+            user: psr % 2 == 1,
+            reads_set2: psr / 2 % 2 == 1,
+            writes_set2: psr / 4 % 2 == 1,
+            width: Width::from(psr / 8 % 2 == 1),
+            enabled: psr / 16 % 2 == 1,
+        }
+    }
+}
+
+impl From<Status> for u32 {
+    ghost from_gives = { λ status psr. psr ≡ psr_of status };
+
+    /// The bits of a status.
+    fn from(status: Status) -> Self {
+        let wide = status.width == Width::Wide;
+        u32::from(status.user)
+            + 2 * u32::from(status.reads_set2)
+            + 4 * u32::from(status.writes_set2)
+            + 8 * u32::from(wide)
+            + 16 * u32::from(status.enabled)
+    }
+}
