@@ -1,14 +1,10 @@
--- One clock of a timer and of a machine, by its cases. Assumes nothing.
-use Rattle.std.proofs.Common.{◌≡◌, ℕ, ◌+◌, ◌*◌, ◌/◌, ◌%◌, ◌^◌, ◌<◌, ◌≤◌, Bool, true, false, eqb, get_or, set, refl, mod-lt, arith, lit<, ltb-true, le-ltb, lt-ltb, eq-eqb, ne_eqb}
+-- One clock of a timer, by its cases, and how large its numbers stay. Assumes nothing.
+use Rattle.std.proofs.Common.{◌≡◌, ℕ, ◌+◌, ◌/◌, ◌%◌, ◌^◌, ◌<◌, ◌≤◌, Bool, true, false, eqb, refl, mod-lt, arith, lit<, ltb-true, le-ltb, lt-ltb, eq-eqb, ne_eqb}
 use Rattle.word.specs.Choice.{choose◌then◌else◌}
 use Rattle.word.specs.Word.{field_of}
-use Rattle.word.specs.Flags.{with_flag}
 use Rattle.word.proofs.Tests.{if_holds}
-use Rattle.machine.specs.Machine.{Machine, with_control, with_dividers}
-use Rattle.machine.specs.Control.{control_at, with_pending, reset, INT_PEND, TMR0_CNT, TMR0_MAX_CNT}
 use Rattle.machine.specs.Words.{SOURCES}
-use Rattle.timer.specs.Timer.{enabled, continuous, interrupts, watchdog, source_of, divisor, next_count, reaches, timer_of, ticked_to, clock_timer}
-use Rattle.timer.specs.Clock.{configuration_of, with_timer, counted, leaving, notified, Clocked, clock_one, clock}
+use Rattle.timer.specs.Timer.{enabled, continuous, source_of, divisor, next_count, reaches, timer_of, ticked_to, clock_timer}
 use Rattle.timer.specs.declared.Timer.{Timer}
 use Rattle.timer.specs.declared.Ticked.{Ticked}
 
@@ -80,44 +76,3 @@ timer_ok c t k =
     if_holds P _ (λ _. record { count = k.count; divider = lit< tt }) (λ _.
     if_holds P _ (λ e. record { count = k.count; divider = omega (arith, ltb-true t.divider (divisor c) e, divisor_small c) })
     (λ _. record { count = count_small (continuous c) t.maximum t.count k.count; divider = lit< tt }))
-
--- ---- the machine's clock, by its cases
-
--- a timer's count and divider stored
-pub counted_stored : (m n last : Machine) (k c : ℕ) {x : Ticked} {a b d : ℕ} → a ≡ control_at m (TMR0_CNT + 2 * k) → b ≡ control_at m (TMR0_MAX_CNT + 2 * k) → d ≡ get_or m.dividers k 0
-    → x ≡ clock_timer c (timer_of a b d) → n ≡ with_control (set m.control (TMR0_CNT + 2 * k) x.timer.count) m → last ≡ with_dividers (set n.dividers k x.timer.divider) n
-    → record { machine = last; reached = x.reached } ≡ counted k c m
-unfolding counted with_timer with_control
-counted_stored m n last k c e f g h i j = rw (j, i, h, e, f, g)
-
-module _ (c : ℕ) (m : Machine) where
-  pub notified_reset : watchdog c ≡ true → leaving m true ≡ notified c m
-  unfolding notified leaving choose◌then◌else◌
-  notified_reset e = rw e
-
-  module _ (w : watchdog c ≡ false) where
-    pub notified_request : interrupts c ≡ true → leaving (with_pending (with_flag (source_of c) (control_at m INT_PEND)) m) false ≡ notified c m
-    unfolding notified leaving choose◌then◌else◌
-    notified_request e = rw (w, e)
-
-    pub notified_nothing : interrupts c ≡ false → leaving m false ≡ notified c m
-    unfolding notified leaving choose◌then◌else◌
-    notified_nothing e = rw (w, e)
-
-module _ (k c : ℕ) (m n : Machine) (e : c ≡ configuration_of k m) where
-  pub one_reached : record { machine = n; reached = true } ≡ counted k c m → notified c n ≡ clock_one k m
-  unfolding clock_one choose◌then◌else◌
-  one_reached h = rw (← e, ← h)
-
-  pub one_goes_on : record { machine = n; reached = false } ≡ counted k c m → leaving n false ≡ clock_one k m
-  unfolding clock_one leaving choose◌then◌else◌
-  one_goes_on h = rw (← e, ← h)
-
-module _ (m n : Machine) where
-  pub clock_reset : leaving n true ≡ clock_one 0 m → reset ≡ (clock m).machine
-  unfolding clock leaving choose◌then◌else◌
-  clock_reset h = rw (← h)
-
-  pub clock_both : leaving n false ≡ clock_one 0 m → {r : Clocked} → r ≡ clock_one 1 n → r.machine ≡ (clock m).machine
-  unfolding clock leaving choose◌then◌else◌
-  clock_both h e = rw (← h, ← e)

@@ -1,5 +1,5 @@
 -- What holds of timers and of the clock. Assumes nothing.
-use Rattle.std.proofs.Common.{◌≡◌, ℕ, zero, suc, ◌+◌, ◌*◌, ◌/◌, ◌%◌, ◌^◌, ◌<◌, ◌≤◌, Bool, true, false, eqb, ◌≢◌, List, length, set, sym, refl, ap, ◌∙◌, true≢false, add-one, arith, lit<, eq-eqb, ne_eqb}
+use Rattle.std.proofs.Common.{◌≡◌, ℕ, zero, suc, ◌+◌, ◌*◌, ◌/◌, ◌%◌, ◌^◌, ◌<◌, ◌≤◌, Bool, true, false, eqb, ◌≢◌, List, set, sym, refl, ap, ◌∙◌, true≢false, add-one, arith, lit<, eq-eqb, ne_eqb}
 use native.Mathlib.Nat.{div-div-eq-div-mul}
 use lib.Seq.{set-get_or}
 use Rattle.word.specs.Choice.{choose◌then◌else◌}
@@ -9,10 +9,10 @@ use Rattle.word.proofs.Tests.{if_holds}
 use Rattle.word.proofs.Flags.{apart_among}
 use Rattle.machine.specs.Machine.{Machine, with_control, with_dividers}
 use Rattle.machine.specs.Control.{control_at, with_pending, reset, INT_PEND, TMR0_CNT, TMR_CONF}
-use Rattle.machine.specs.Words.{SOURCES, TIMERS}
+use Rattle.machine.specs.Words.{TIMERS}
 use Rattle.machine.proofs.Lists.{at_set_other, pair_set}
 use Rattle.timer.specs.Timer.{enabled, continuous, interrupts, watchdog, source_of, divisor, next_count, timer_of, ticked_to, clock_timer}
-use Rattle.timer.specs.Clock.{configuration_of, timer_in, with_timer, counted, leaving, notified, Clocked, goes_on, was_reset, clock_one, clock}
+use Rattle.timer.specs.Clock.{configuration_of, timer_in, with_timer, counted, notified, Clocked, goes_on, was_reset, clock_one, clock}
 use Rattle.timer.specs.Theorems.{Disabled, MaximumKept, clocks_of, FirstTick, Ticks, IdleClock, ResetClock, CLOCKED, ClockKept, ClockKeeps}
 use Rattle.timer.specs.declared.Timer.{Timer}
 use Rattle.timer.specs.declared.Ticked.{Ticked}
@@ -132,15 +132,6 @@ one_kept k m h =
     (λ _ e. kept_then (timer_kept k t.timer m h) (notified_kept c n e))
     (λ _ e. timer_kept k t.timer m h)
 
--- the stack stays
-pub one_deep : (m n : Machine) → leaving n false ≡ clock_one 0 m → length m.stack ≤ SOURCES → length n.stack ≤ SOURCES
-unfolding leaving choose◌then◌else◌
-one_deep m n e h =
-    let stack : n.stack ≡ m.stack =
-    ap (λ (x : Clocked). x.machine.stack) e ∙ (one_kept 0 m (lit< tt) (sym (ap (λ (x : Clocked). x.resets) e))).stack
-    in
-    rw stack h
-
 -- ---- the clock
 
 pub clock_keeps : ClockKeeps
@@ -164,12 +155,14 @@ unfolding clock
 reset_clock m =
     if_holds (λ (x : Clocked). x.resets ≡ true → x.machine ≡ reset) (clock_one 0 m).resets (λ _. one_resets 0 m) (λ _. one_resets 1 (clock_one 0 m).machine)
 
--- both dividers go to 0
-pub idle_clock : IdleClock
+-- both dividers go to 0, one after the other
+idle_both : (m : Machine) → enabled (configuration_of 0 m) ≡ false → enabled (configuration_of 1 m) ≡ false
+    → clock m ≡ goes_on (with_dividers (set (set m.dividers 0 0) 1 0) m)
 unfolding clock with_dividers choose◌then◌else◌
-idle_clock m n e f =
-    rw (one_idle 0 m e, one_idle 1 (with_dividers (set m.dividers 0 0) m) f)
-    (ap (λ (l : List ℕ). goes_on (with_dividers l m)) (pair_set m.dividers 0 0 n))
+idle_both m e f = rw (one_idle 0 m e, one_idle 1 (with_dividers (set m.dividers 0 0) m) f) refl
+
+pub idle_clock : IdleClock
+idle_clock m n e f = idle_both m e f ∙ ap (λ (l : List ℕ). goes_on (with_dividers l m)) (pair_set m.dividers 0 0 n)
 
 -- bit 15 of each half of TMR_CONF
 module _ (m : Machine) where
@@ -187,3 +180,8 @@ module _ (m : Machine) where
       let half : (y : ℕ) → y % 65536 / 32768 % 2 ≡ y / 32768 % 2 = λ y. omega arith in
       let high : x / 65536 % 65536 / 32768 % 2 ≡ x / 2147483648 % 2 = half (x / 65536) ∙ ap (λ (y : ℕ). y % 2) (div-div-eq-div-mul x 65536 32768) in
       ap (λ (b : ℕ). eqb b 1) high ∙ e
+
+  -- with both 0
+  pub idle_by_bits : bit_at 15 (control_at m TMR_CONF) ≡ false → bit_at 31 (control_at m TMR_CONF) ≡ false
+      → with_dividers (set (set m.dividers 0 0) 1 0) m ≡ (clock m).machine
+  idle_by_bits e f = sym (ap (λ (x : Clocked). x.machine) (idle_both m (low_disabled e) (high_disabled f)))
