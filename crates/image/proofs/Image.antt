@@ -18,16 +18,16 @@ use Rattle.word.proofs.Tests.{and_parts, and_both}
 use Rattle.machine.specs.Machine.{Machine}
 use Rattle.machine.specs.Control.{reset}
 use Rattle.machine.specs.Words.{SOURCES, TIMERS, ZEROS, section}
-use Rattle.machine.specs.declared.Position.{Position}
-use Rattle.machine.specs.declared.Entry.{Entry}
+use Rattle.machine.specs.declared.position.Position.{Position}
+use Rattle.machine.specs.declared.stack.Entry.{Entry}
 use Rattle.machine.proofs.Flat.{section_length, same_dividers}
-use Rattle.formed.specs.Questions.{all, all_below, question3, Accepted}
+use Rattle.machine.specs.Questions.{all, all_below, question3, Accepted}
 use Rattle.image.specs.Image.{position_numbers, entry_numbers, section_numbers, image_numbers, write_image, STACK_AT, count_of, dividers_at, machine_with, machine_in, bytes_to_stack, LAST, image_bytes, LONGEST, section_tests, fits_to_stack, question2, read_where, read_image}
 use Rattle.image.specs.Earlier.{earlier_in, earlier2, read_earlier, extended, EarlierAsked, EarlierReadBack, EarlierExtended, LayoutsApart}
 use Rattle.image.specs.RoundTrip.{ImageLength, ImageSizes, ReadBack, WrittenBack}
-use Rattle.formed.proofs.Tests.{Passed, no_more, ◌also◌, all_passed, passed_all}
-use Rattle.formed.proofs.Asked.{ask_machine_formed, machine_asked}
-use Rattle.formed.proofs.Formed.{Placed, Stacked, empty, pushed, stacked_depth, Counts, WellFormed, registers_below, formed_counts, true_formed, reset_formed}
+use Rattle.machine.proofs.Tests.{Passed, no_more, ◌also◌, all_passed, passed_all}
+use Rattle.machine.proofs.Asked.{ask_machine_formed, machine_asked}
+use Rattle.machine.proofs.Formed.{Placed, Stacked, empty, pushed, stacked_depth, Counts, WellFormed, registers_below, formed_counts, true_formed, reset_formed}
 use Rattle.image.proofs.Sections.{Counted, append_section_numbers, counted_numbers, depth_numbers, last_count, machine_with_numbers, machine_in_image_numbers, length_section_numbers, length_image_numbers, counts_machine_with, all_words, image_numbers_machine_in}
 
 -- ---- the numbers of a well-formed machine have 32 bits

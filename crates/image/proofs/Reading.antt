@@ -7,17 +7,17 @@ use native.Mathlib.Omega.{arith}
 use native.Mathlib.Nat.{add-zero}
 use native.Mathlib.Numerals.{add-one}
 use lib.Dec.{eqb, lit<}
-use lib.ListN.{length, get_or, drop}
+use lib.ListN.{length, get_or, set, drop, length-append, length-drop}
 use borrow.Author.Tests.{le-leb, lt-leb, ne_eqb}
 use Rattle.word.specs.Choice.{choose◌then◌else◌}
 use Rattle.word.proofs.Tests.{and_parts}
 use Rattle.codec.specs.Number.{number_at, numbers_of, over}
 use Rattle.codec.proofs.Laws.{get_d_numbers_of, length_numbers_of}
 use Rattle.machine.specs.Machine.{Machine, with_dividers}
-use Rattle.machine.specs.Words.{SOURCES, TIMERS, ZEROS, WORDS, section, machine_of}
+use Rattle.machine.specs.Words.{DIVIDERS, DEPTH, SOURCES, TIMERS, ZEROS, WORDS, section, machine_of}
 use Rattle.machine.proofs.Lists.{pair}
-use Rattle.machine.proofs.Flat.{section_at, section_length}
-use Rattle.formed.specs.Questions.{all, ask_machine}
+use Rattle.machine.proofs.Flat.{depth_is, fill_in, fill_apart, stack_past, section_at, section_length}
+use Rattle.machine.specs.Questions.{all, ask_machine}
 use Rattle.image.specs.Image.{section_numbers, STACK_AT, count_of, dividers_at, machine_with, machine_in, bytes_to_stack, LAST, section_tests, fits_to_stack, ToStack, question2, read_where}
 use Rattle.image.specs.Earlier.{earlier2}
 use Rattle.image.proofs.Sections.{depth_machine_with, counts_machine_with, machine_with_numbers, all_words}
@@ -52,6 +52,9 @@ module _ (behind : ℕ) (s : List ℕ) where
       )
 
 module _ (s : List ℕ) where
+  pub sections_long : fits_to_stack LAST s ≡ true → 528 ≤ length s
+  sections_long e = omega (arith, (sectioned LAST s e).exact)
+
   pub sections_last : fits_to_stack LAST s ≡ true → eqb (number_at s (length s - LAST)) TIMERS ≡ question2 s
   unfolding question2
   sections_last e =
@@ -74,6 +77,20 @@ pub earlier2_stack : (s : List ℕ) → earlier2 s ≡ true → ToStack s
 unfolding earlier2
 earlier2_stack s e = record { behind = 0; most = omega arith; fits = e }
 
+pub question2_long : (s : List ℕ) → question2 s ≡ true → 528 ≤ length s
+question2_long s e = omega (arith, (all_sections s e).0.exact)
+
+pub few_numbers : (s : List ℕ) → ToStack s → length s / 4 ≤ WORDS
+few_numbers s t = let z = sectioned t.behind s t.fits in omega (arith, t.most, z.exact, z.deep)
+
+-- both dividers stored in words
+dividers_stored : (w : List ℕ) (a b : ℕ) → length w ≡ WORDS → length (machine_of w).stack ≤ SOURCES
+    → machine_of (set (set w DIVIDERS a) (DIVIDERS + 1) b) ≡ with_dividers (a ∷ b ∷ []) (machine_of w)
+unfolding machine_of with_dividers
+dividers_stored w a b h few =
+    let ds = a ∷ b ∷ [] in
+    simp (fill_in w DIVIDERS ds (omega arith), fill_apart w DIVIDERS ds, stack_past w DIVIDERS ds few (omega arith))
+
 -- its numbers, laid over the words
 module _ (s w : List ℕ) (t : ToStack s) (h : length w ≡ WORDS) where
   abbrev ns : List ℕ
@@ -82,8 +99,8 @@ module _ (s w : List ℕ) (t : ToStack s) (h : length w ≡ WORDS) where
   fits : Sectioned t.behind s
   fits = sectioned t.behind s t.fits
 
-  pub read_fits : length s / 4 ≤ length w
-  read_fits = omega (arith, t.most, fits.exact, fits.deep)
+  over_long : length (over ns w) ≡ WORDS
+  over_long = rw (length-append, length-drop) (omega (arith, length_numbers_of s, few_numbers s t))
 
   -- the machine with any dividers is the one that the image's numbers say
   read_front : (ds : List ℕ) → length ds ≡ TIMERS → machine_with ds (over ns w) ≡ machine_with ds ns
@@ -98,16 +115,29 @@ module _ (s w : List ℕ) (t : ToStack s) (h : length w ≡ WORDS) where
       in
       ap (machine_with ds) whole ∙ machine_with_numbers m (counts_machine_with ds ns e (omega arith)) (rest ++ drop (length ns) w) ds
 
-  -- and so are the words with any two stored
-  pub read_words : (a b : ℕ) → with_dividers (a ∷ b ∷ []) (machine_of (over ns w)) ≡ machine_with (a ∷ b ∷ []) ns
+  -- and so are the words with any two
+  with_words : (ds : List ℕ) → length ds ≡ TIMERS → with_dividers ds (machine_of (over ns w)) ≡ machine_with ds ns
   unfolding with_dividers machine_of machine_with
-  read_words a b = read_front (a ∷ b ∷ []) refl
+  with_words ds e = read_front ds e
 
-  pub read_deep : length (machine_of (over ns w)).stack ≤ SOURCES
+  stack_few : length (machine_of (over ns w)).stack ≤ SOURCES
   unfolding with_dividers
-  read_deep =
-      let same = ap (λ (m : Machine). length m.stack) (read_words 0 0) in
+  stack_few =
+      let same = ap (λ (m : Machine). length m.stack) (with_words ZEROS refl) in
       omega (arith, same, depth_machine_with ZEROS ns, fits.deep)
+
+  module _ (a b : ℕ) where
+    -- the words with two dividers stored
+    abbrev stored : List ℕ
+    stored = set (set (over ns w) DIVIDERS a) (DIVIDERS + 1) b
+
+    pub read_words : machine_of stored ≡ machine_with (a ∷ b ∷ []) ns
+    read_words = dividers_stored (over ns w) a b over_long stack_few ∙ with_words (a ∷ b ∷ []) refl
+
+    pub read_deep : get_or stored DEPTH 0 ≤ SOURCES
+    read_deep =
+        let same = ap (λ (m : Machine). length m.stack) read_words in
+        omega (arith, depth_is stored, same, depth_machine_with (a ∷ b ∷ []) ns, fits.deep)
 
 -- the last section's two numbers
 pub read_dividers : (s : List ℕ) → question2 s ≡ true → machine_with (number_at s (length s - 8) ∷ number_at s (length s - 4) ∷ []) (numbers_of s) ≡ machine_in (numbers_of s)

@@ -9,10 +9,10 @@ use lib.ListN.{length, get_or, take, drop, length-append, length-reverse, length
 use lib.Seq.{drop-length, take_at, drop_at, take-add, take-take, drop-drop, drop-cons, get_or-drop}
 use Rattle.machine.specs.Machine.{Machine, with_dividers}
 use Rattle.machine.specs.Words.{REGISTERS, FLAGS, OFFSETS, PLACES, TIMERS, DIVIDERS, section, position_of, entries_of, machine_of}
-use Rattle.machine.specs.declared.Entry.{Entry}
+use Rattle.machine.specs.declared.stack.Entry.{Entry}
 use Rattle.machine.proofs.Flat.{section_length, depth_is}
 use Rattle.image.specs.Image.{position_numbers, entry_numbers, section_numbers, image_numbers, SET1_AT, SET2_AT, CONDITIONS_AT, CONTROL_AT, POSITION_AT, STACK_AT, count_of, dividers_at, machine_with, machine_in}
-use Rattle.formed.proofs.Formed.{Counts}
+use Rattle.machine.proofs.Formed.{Counts}
 
 -- words whose sections have their counts
 pub record Counted (ws : List ℕ) : Type 0 where
@@ -22,7 +22,7 @@ pub record Counted (ws : List ℕ) : Type 0 where
   pub control : count_of CONTROL_AT ws ≡ OFFSETS
   pub position : count_of POSITION_AT ws ≡ PLACES
 
--- the running words have the order of an image's numbers up to the stack
+-- the words of a machine have the order of an image's numbers up to the stack
 pub same_order : (ns : List ℕ) → machine_of ns ≡ machine_with (section DIVIDERS TIMERS ns) ns
 unfolding machine_with machine_of
 same_order ns = refl

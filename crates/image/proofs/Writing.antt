@@ -1,4 +1,4 @@
--- The image as the code writes it: a copy of the words with the five counts in their places and the last section behind the entries. Assumes nothing.
+-- The image as the code writes it: the machine's words with the five counts in their places and the last section behind the entries. Assumes nothing.
 use mathlib.Core.Path.{◌≡◌, refl, sym, ap, ◌∙◌}
 use mathlib.Core.Bool.{true}
 use mathlib.Core.List.{List, [], ◌∷◌, ◌++◌}
@@ -8,11 +8,12 @@ use lib.Dec.{lit<}
 use lib.ListN.{length, get_or, set, take, drop, length-append, length-set}
 use lib.Seq.{length-take-le, take_at, get_or-set_other, drop-set-lt, sets-eq}
 use Rattle.codec.specs.Number.{bytes_of, over}
+use Rattle.machine.specs.Machine.{Machine}
 use Rattle.machine.specs.Words.{SET1, SET2, CONDITIONS, CONTROL, POSITION, SOURCES, TIMERS, DEPTH, ENTRIES, DIVIDERS, WORDS, section, machine_of}
 use Rattle.machine.proofs.Lists.{get_same, get_other, pair}
 use Rattle.machine.proofs.Flat.{apart, store_apart, dividers_length, depth_is, section_length}
-use Rattle.formed.proofs.Formed.{Counts}
-use Rattle.image.specs.Image.{section_numbers, image_numbers, write_image, machine_with, image_bytes}
+use Rattle.machine.proofs.Formed.{Counts}
+use Rattle.image.specs.Image.{section_numbers, image_numbers, write_image, machine_with}
 use Rattle.image.proofs.Sections.{Counted, same_order, length_section_numbers, counts_machine_with, all_words}
 
 -- ---- the counts
@@ -86,22 +87,8 @@ module _ (w : List ℕ) (h : length w ≡ WORDS) (l : length (machine_of w).stac
       ∙ take_at (take size c ++ last) (drop (size + 3) c) (size + 3) n
       ∙ rw (counted_sections, ← pair ds (dividers_length w h))
 
-  -- by the depth as it was read
-  module _ (depth : ℕ) (deep : depth ≡ length (machine_of w).stack) where
-    -- an image has no more numbers than there are words
-    pub image_inside : ENTRIES + 4 * depth + 3 ≤ length w
-    image_inside = omega arith
-
-    -- those of a list as long as the words, and the room for them
-    module _ (numbers : List ℕ) (many : length numbers ≡ length w) where
-      pub image_count : ENTRIES + 4 * depth + 3 ≡ length (take (ENTRIES + 4 * depth + 3) numbers)
-      image_count = sym (length-take-le (ENTRIES + 4 * depth + 3) numbers (rw many image_inside))
-
-      pub image_room : (s : List ℕ) → image_bytes (length (machine_of w).stack) ≤ length s → 4 * length (take (ENTRIES + 4 * depth + 3) numbers) ≤ length s
-      image_room s r = rw (← image_count) (omega arith)
-
-    -- stored into a copy of the words they are the image's
-    pub image_written : (v : List ℕ) (first second : ℕ) → v ≡ w → first ≡ get_or (machine_of w).dividers 0 0 → second ≡ get_or (machine_of w).dividers 1 0
-        → (s b : List ℕ) → b ≡ over (bytes_of (take (ENTRIES + 4 * depth + 3) (laid v (ENTRIES + 4 * depth) first second))) s → b ≡ over (write_image (machine_of w)) s
-    unfolding write_image
-    image_written v first second same e f s b g = g ∙ rw (same, deep, e, f) (ap (λ (l : List ℕ). over (bytes_of l) s) image_numbers_law)
+-- words that say a machine, with the counts and the last section stored, are its image's numbers
+pub image_written : (m : Machine) (w s : List ℕ) → machine_of w ≡ m → length w ≡ WORDS → length m.stack ≤ SOURCES
+    → over (bytes_of (take (ENTRIES + 4 * length m.stack + 3) (laid w (ENTRIES + 4 * length m.stack) (get_or m.dividers 0 0) (get_or m.dividers 1 0)))) s ≡ over (write_image m) s
+unfolding write_image
+image_written m w s e h l = rw (← e) (ap (λ (n : List ℕ). over (bytes_of n) s) (image_numbers_law w h (rw e l)))

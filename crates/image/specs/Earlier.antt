@@ -3,7 +3,7 @@ use Rattle.std.specs.Prelude.{◌≡◌, Bool, true, List, ◌∷◌, ◌++◌, 
 use Rattle.codec.specs.Number.{numbers_of, bytes_of}
 use Rattle.machine.specs.Machine.{Machine}
 use Rattle.machine.specs.Words.{TIMERS, ZEROS}
-use Rattle.formed.specs.Questions.{all, number_tests, question3, well_formed, Read, Refused, Accepted}
+use Rattle.machine.specs.Questions.{all, number_tests, question3, well_formed, Read, Refused, Accepted}
 use Rattle.image.specs.Image.{section_numbers, machine_with, fits_to_stack, question2, write_image, read_where, read_image}
 
 -- the machine that such an image's numbers say, with dividers 0

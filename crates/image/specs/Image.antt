@@ -4,9 +4,9 @@ use Rattle.word.specs.Choice.{choose◌then◌else◌}
 use Rattle.codec.specs.Number.{numbers_of, bytes_of}
 use Rattle.machine.specs.Machine.{Machine}
 use Rattle.machine.specs.Words.{REGISTERS, FLAGS, OFFSETS, PLACES, SOURCES, TIMERS, section, position_of, entries_of}
-use Rattle.formed.specs.Questions.{all, Read, Refused, ask_machine}
-use Rattle.machine.specs.declared.Position.{Position}
-use Rattle.machine.specs.declared.Entry.{Entry}
+use Rattle.machine.specs.Questions.{all, Read, Refused, ask_machine}
+use Rattle.machine.specs.declared.position.Position.{Position}
+use Rattle.machine.specs.declared.stack.Entry.{Entry}
 
 -- ---- writing
 
@@ -77,7 +77,7 @@ machine_with ds ns =
       dividers = ds;
     }
 
--- the machine that an image's numbers say, in the order of `image_numbers`; the running words have an order of their own (machine/Words: `machine_of`)
+-- the machine that an image's numbers say, in the order of `image_numbers`; a machine's words have an order of their own (machine/Words: `machine_of`)
 unfoldable pub machine_in : (numbers : List ℕ) → Machine
 machine_in ns = machine_with (section (dividers_at ns) TIMERS ns) ns
 

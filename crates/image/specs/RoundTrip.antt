@@ -1,7 +1,7 @@
 -- What an image is to its machine: its length, and that reading and writing undo each other (Manual 8). Assumes nothing.
 use Rattle.std.specs.Prelude.{◌≡◌, true, List, ℕ, ◌+◌, ◌*◌, ◌<◌, length, get_or}
 use Rattle.machine.specs.Machine.{Machine}
-use Rattle.formed.specs.Questions.{well_formed, Accepted}
+use Rattle.machine.specs.Questions.{well_formed, Accepted}
 use Rattle.image.specs.Image.{write_image, image_bytes, SHORTEST, LONGEST, read_image}
 
 -- an image's length: 516 bytes, 16 for each entry, and 12 for the dividers' section
