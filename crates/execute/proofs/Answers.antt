@@ -10,9 +10,9 @@ use Rattle.word.proofs.Tests.{if_holds}
 use Rattle.isa.specs.declared.width.Width.{Width}
 use Rattle.isa.specs.Theorems.{between}
 use Rattle.machine.specs.Machine.{State}
-use Rattle.view.specs.View.{Attempt, Found, Raises, Stops, map_found, found_then, fetch_at, found_at, place_at, View, view, nops_from}
-use Rattle.view.proofs.Bytes.{Read, word, closed, missing, word_read}
-use Rattle.effect.specs.Kind.{STOPS}
+use Rattle.execute.specs.View.{Attempt, Found, Raises, Stops, map_found, found_then, fetch_at, found_at, place_at, View, view, nops_from}
+use Rattle.execute.proofs.Bytes.{Read, word, closed, missing, word_read}
+use Rattle.machine.specs.Kind.{STOPS}
 
 -- a code of an exception: of a test of an instruction, or E0h + n of trap n (Manual 4.9)
 pub data Code (c : ℕ) : Type 0 where

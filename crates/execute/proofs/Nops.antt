@@ -16,10 +16,10 @@ use Rattle.isa.specs.declared.instruction.Instruction.{Instruction}
 use Rattle.isa.proofs.Table.{values, agree}
 use Rattle.isa.proofs.Decoded.{in_range}
 use Rattle.machine.specs.Machine.{user_mode, width_of}
-use Rattle.view.specs.View.{Attempt, Found, Raises, Stops, found_then, View, with_following, condition_false, nops_from, nops_after}
-use Rattle.view.specs.Theorems.{NopAt, NotNopAt, protected, absent, other, FirstOther, Checked, all_nops, not_all}
-use Rattle.effect.specs.Effect.{Effect, Stopped, Raised}
-use Rattle.operation.specs.Execute.{on_found, after_this, target_by, jumped, branch, execute}
+use Rattle.execute.specs.View.{Attempt, Found, Raises, Stops, found_then, View, with_following, condition_false, nops_from, nops_after}
+use Rattle.execute.specs.Theorems.{NopAt, NotNopAt, protected, absent, other, FirstOther, Checked, all_nops, not_all}
+use Rattle.machine.specs.Effect.{Effect, Stopped, Raised}
+use Rattle.execute.specs.Execute.{on_found, after_this, target_by, jumped, branch, execute}
 use Rattle.execute.specs.Decide.{perform, if_available, instruction, fetched_then, Passes}
 
 -- words 0 are nops

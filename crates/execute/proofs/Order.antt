@@ -1,6 +1,6 @@
 -- The order of an instruction's tests, by what each gives. Assumes nothing.
 use mathlib.Core.Path.{◌≡◌, refl, ◌∙◌}
-use Rattle.std.specs.Prelude.{Option, None, Some}
+use Rattle.std.specs.Prelude.{Option, None}
 use mathlib.Core.Bool.{Bool, true, false, ◌&&◌}
 use Prim.Native.Nat.{ℕ}
 use lib.Dec.{eqb}
@@ -9,9 +9,9 @@ use Rattle.isa.specs.Operation.{operation_of, unavailable, properties}
 use Rattle.isa.specs.Decode.{decode}
 use Rattle.isa.specs.declared.instruction.Instruction.{Instruction}
 use Rattle.machine.specs.Machine.{user_mode, width_of}
-use Rattle.view.specs.View.{Attempt, Found, Raises, Stops, View, condition_false, nops_from, nops_after}
-use Rattle.operation.specs.Execute.{on_found}
-use Rattle.effect.specs.Effect.{Stopped, Raised, Next}
+use Rattle.execute.specs.View.{Attempt, Found, Raises, Stops, View, condition_false, nops_from}
+use Rattle.execute.specs.Execute.{on_found}
+use Rattle.machine.specs.Effect.{Next}
 use Rattle.execute.specs.Decide.{perform, if_available, instruction, fetched_then}
 
 -- ---- what was fetched
@@ -39,20 +39,10 @@ module _ (v : View) (i : Instruction) where
   abbrev pub transfer_in_slot : Bool
   transfer_in_slot = (properties (operation_of i.opcode)).transfer && eqb v.position.slot 1
 
-  -- it may not be used
-  pub barred : (code : ℕ) → code_for ≡ Some code → instruction v i ≡ Raised code
-  unfolding instruction if_available
-  barred code e = rw e
-
   module _ (usable : code_for ≡ None) where
     free : instruction v i ≡ if_available v i (operation_of i.opcode) None
     unfolding instruction
     free = rw usable
-
-    -- stop 13
-    pub in_slot : transfer_in_slot ≡ true → instruction v i ≡ Stopped 13
-    unfolding if_available choose◌then◌else◌
-    in_slot t = free ∙ rw t
 
     module _ (t : transfer_in_slot ≡ false) where
       -- its condition is false
@@ -60,13 +50,7 @@ module _ (v : View) (i : Instruction) where
       unfolding if_available choose◌then◌else◌
       skipped c = free ∙ rw (t, c)
 
-      -- by the nops that must follow
-      pub nops_decide : condition_false v i ≡ false → (a : Attempt (Unit {0})) → a ≡ nops_after v (properties (operation_of i.opcode)).nops
-          → instruction v i ≡ on_found (λ _. perform v i (operation_of i.opcode)) a
-      unfolding if_available choose◌then◌else◌
-      nops_decide c a e = free ∙ rw (t, c, ← e)
-
       -- its own effect, where there are none
       pub performed : condition_false v i ≡ false → (properties (operation_of i.opcode)).nops ≡ 0 → instruction v i ≡ perform v i (operation_of i.opcode)
-      unfolding nops_from on_found
-      performed c n = nops_decide c (Found tt) (rw n)
+      unfolding if_available choose◌then◌else◌ nops_from on_found
+      performed c n = free ∙ rw (t, c, n) refl

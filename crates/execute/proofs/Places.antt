@@ -15,9 +15,10 @@ use Rattle.isa.specs.Theorems.{between}
 use Rattle.isa.specs.declared.instruction.Instruction.{Instruction}
 use Rattle.isa.proofs.Table.{values, agree}
 use Rattle.isa.proofs.Groups.{usable_low, no_transfer, no_nops}
-use Rattle.view.specs.View.{Attempt, Raises, map_found, Location, View, with_places, condition_false, nops_after}
-use Rattle.effect.specs.Effect.{Effect, Stopped, Raised, Next}
-use Rattle.operation.specs.Execute.{on_found, after_this, target_by, jumped, branch, execute}
+use Rattle.execute.specs.View.{Attempt, Raises, map_found, View, with_places, condition_false, nops_after}
+use Rattle.execute.specs.declared.data.Location.{Location}
+use Rattle.machine.specs.Effect.{Effect, Stopped, Raised, Next}
+use Rattle.execute.specs.Execute.{on_found, after_this, target_by, jumped, branch, execute}
 use Rattle.execute.specs.Decide.{perform, if_available, instruction}
 use Rattle.execute.proofs.Order.{code_for, transfer_in_slot, skipped, performed}
 

@@ -19,17 +19,19 @@ use Rattle.isa.specs.declared.condition.Condition.{Condition}
 use Rattle.isa.specs.Decode.{decode}
 use Rattle.isa.specs.declared.instruction.Instruction.{Instruction}
 use Rattle.machine.specs.Machine.{State, user_mode, width_of}
-use Rattle.view.specs.View.{Attempt, Found, Raises, Stops, Location, Block, Cell, View, view}
-use Rattle.view.proofs.Addresses.{Reached}
+use Rattle.execute.specs.View.{Attempt, Found, Raises, Stops, View, view}
+use Rattle.execute.specs.declared.data.Location.{Location}
+use Rattle.execute.specs.declared.data.Location.TheVariants.{Block, Cell}
+use Rattle.execute.proofs.Addresses.{Reached}
 use Rattle.execute.proofs.Answers.{Code, tests, traps, Numbered, AnswersNumbered, view_numbered, nops_numbered}
 use Rattle.word.proofs.Tests.{if_holds}
 use Rattle.word.proofs.Bounds.{word_below}
-use Rattle.operation.specs.Execute.{checked, wrapped, product, on_found, stored, target_by, jumped, branch, execute}
+use Rattle.execute.specs.Execute.{checked, wrapped, product, on_found, stored, target_by, jumped, branch, execute}
 use Rattle.execute.specs.Decide.{perform, if_available, instruction, fetched_then, decide}
-use Rattle.effect.specs.Update.{Update}
-use Rattle.effect.specs.Update as update
-use Rattle.effect.specs.Kind.{STOPS}
-use Rattle.effect.specs.Effect.{Effect, Stopped, Raised, SystemCall, InterruptReturn, StoreCell, Updates, Jump, JumpLink}
+use Rattle.machine.specs.Update.{Update}
+use Rattle.machine.specs.Update as update
+use Rattle.machine.specs.Kind.{STOPS}
+use Rattle.machine.specs.Effect.{Effect, Stopped, Raised, SystemCall, InterruptReturn, StoreCell, Updates, Jump, JumpLink}
 
 -- what a view allows of the plain updates: a store to a register of the block that passed the data tests, and what is super user's in that mode
 abbrev pub SafeUpdate : View → Update → Type 0

@@ -7,9 +7,9 @@ use Rattle.isa.specs.Operation.{operation_of, properties, unavailable}
 use Rattle.isa.specs.Decode.{decode}
 use Rattle.isa.specs.declared.instruction.Instruction.{Instruction}
 use Rattle.machine.specs.Machine.{user_mode, width_of}
-use Rattle.view.specs.View.{Attempt, View, condition_false, nops_after}
-use Rattle.operation.specs.Execute.{on_found, execute}
-use Rattle.effect.specs.Effect.{Effect, Stopped, Raised, Next}
+use Rattle.execute.specs.View.{Attempt, View, condition_false, nops_after}
+use Rattle.execute.specs.Execute.{on_found, execute}
+use Rattle.machine.specs.Effect.{Effect, Stopped, Raised, Next}
 
 -- its own effect, on its two sources
 unfoldable pub perform : View → Instruction → Operation → Effect
