@@ -16,11 +16,11 @@ use Rattle.codec.specs.Number.{bytes_of}
 use Rattle.machine.specs.Machine.{Machine, PSR, position_at, memory_of}
 use Rattle.machine.specs.Control.{reset, within, CCB_BASE, INT_VECTORS, INT_PEND, TMR0_CNT, TMR_CONF, DMEM_BOUND_LO, DMEM_BOUND_HI, IMEM_BOUND_LO, IMEM_BOUND_HI}
 use Rattle.machine.specs.Stack.{show_stack}
-use Rattle.machine.specs.declared.Entry.{Entry}
+use Rattle.machine.specs.declared.stack.Entry.{Entry}
 use Rattle.machine.proofs.Lists.{at_set_other}
 use Rattle.image.specs.Image.{write_image}
-use Rattle.effect.specs.Apply.{Transition}
-use Rattle.effect.specs.Kind.{Kind, Ordinary, Exception, Reset}
+use Rattle.machine.specs.Apply.{Transition}
+use Rattle.machine.specs.Kind.{Kind, Ordinary, Exception, Reset}
 use Rattle.emulator.specs.Run.{Call}
 use Rattle.isolation.specs.Isolation.{transition, is_preemption, segment, Session, start_of, transitions_of, UserStart, Integrity, SameStart, SameTransition, Confidentiality, Isolation}
 use Rattle.isolation.specs.Computed.{sessions}

@@ -8,20 +8,20 @@ use native.Mathlib.Omega.{arith}
 use native.Mathlib.Nat.{le_of_suc-le-suc}
 use lib.Dec.{lit<}
 use lib.ListN.{length, get_elem?}
+use Rattle.std.proofs.Math.Option.{none-ne-some}
 use Rattle.word.specs.Choice.{choose◌then◌else◌}
 use Rattle.word.specs.Flags.{is_among}
 use Rattle.word.proofs.Tests.{or_parts, if_holds}
 use Rattle.machine.specs.Machine.{State}
 use Rattle.machine.specs.Control.{control_at, IMEM_BOUND_LO, IMEM_BOUND_HI}
 use Rattle.image.proofs.Image.{accepted_formed}
-use Rattle.effect.specs.Apply.{Transition}
+use Rattle.machine.specs.Apply.{Transition}
 use Rattle.step.specs.Step.{step}
 use Rattle.emulator.specs.Closure.{Steps, Continuity}
 use Rattle.isolation.specs.Isolation.{transition, is_exit, is_preemption, segment, InSegment, Session, start_of, transitions_of, UserStart, Kept, Integrity, SameStart, SameTransition, both_go_on, both_exit, Confidentiality, Isolation}
 use Rattle.isolation.proofs.States.{Mode, Low, kept_control, kept_trans}
 use Rattle.isolation.proofs.Views.{SameBytes}
 use Rattle.isolation.proofs.Unwinding.{On, Agree, go_on, exit, step_kept, step_agree}
-use Rattle.step.proofs.Accepted.{none_some}
 use Rattle.emulator.proofs.Closed.{continuity}
 
 -- ---- the segment
@@ -40,7 +40,7 @@ segment_on t ts on = rw (on.0, on.1)
 
 -- a transition that goes on after some that are in the segment is in it
 in_segment : (ts : List Transition) (k : ℕ) (t : Transition) → get_elem? ts k ≡ some t → On t → InSegment ts k → InSegment ts (suc k)
-in_segment [] k t e on h = absurd (none_some e)
+in_segment [] k t e on h = absurd (none-ne-some _ e)
 in_segment (u ∷ ts) zero t e on h =
     let x : u ≡ t = cc in
     rw (x, segment_on t ts on) (suc-le-suc zero-le)
@@ -56,7 +56,7 @@ first_kept p s q t e i on = rw e (step_kept p s q i (rw e at on))
 steps_kept : (p : List ℕ) (ts : List Transition) (s : State) → Steps p s ts → Mode s → (k : ℕ) (t : Transition) → get_elem? ts k ≡ some t
     → InSegment ts (suc k) → Kept s t.after
 unfolding Steps
-steps_kept p [] s c i k t e h = absurd (none_some e)
+steps_kept p [] s c i k t e h = absurd (none-ne-some _ e)
 steps_kept p (u ∷ ts) s c i zero t e h =
     let x : u ≡ t = cc in
     rw (← x) (first_kept p s c.0 u c.1 i (first_on u ts zero h).0).0
@@ -88,8 +88,8 @@ module _ (p q : List ℕ) where
       → (k : ℕ) (t u : Transition) → get_elem? ts k ≡ some t → get_elem? us k ≡ some u → InSegment ts k → InSegment us k
       → is_preemption t.kind ≡ false → is_preemption u.kind ≡ false → Agree t u
   unfolding Steps
-  steps_agree [] us s r x y i j l b k t u e f g h c d = absurd (none_some e)
-  steps_agree (t₀ ∷ ts) [] s r x y i j l b k t u e f g h c d = absurd (none_some f)
+  steps_agree [] us s r x y i j l b k t u e f g h c d = absurd (none-ne-some _ e)
+  steps_agree (t₀ ∷ ts) [] s r x y i j l b k t u e f g h c d = absurd (none-ne-some _ f)
   steps_agree (t₀ ∷ ts) (u₀ ∷ us) s r x y i j l b zero t u e f g h c d =
       let v : t ≡ step p s x.0 = cc (x.1, e) in
       let w : u ≡ step q r y.0 = cc (y.1, f) in
@@ -119,7 +119,7 @@ session_steps a s = continuity a.program a.image a.memory a.calls a.machine s.re
 
 first_half : (a : Session) → UserStart a → Integrity a
 unfolding Integrity transition
-first_half a s zero t e h = absurd (none_some e)
+first_half a s zero t e h = absurd (none-ne-some _ e)
 first_half a s (suc k) t e h = steps_kept a.program (transitions_of a) (start_of a) (session_steps a s) (start_mode a s) k t e h
 
 start_low : (a b : Session) → SameStart a b → Low (start_of a) (start_of b)
@@ -143,7 +143,7 @@ same_transition a b k t u e f g h c d (exit x z) = both_exit x (ap is_exit (sym 
 
 second_half : (a b : Session) → UserStart a → UserStart b → SameStart a b → Confidentiality a b
 unfolding Confidentiality transition SameBytes
-second_half a b s r same zero t u e f g h c d = absurd (none_some e)
+second_half a b s r same zero t u e f g h c d = absurd (none-ne-some _ e)
 second_half a b s r same (suc k) t u e f g h c d =
     let g' = le_of_suc-le-suc g in
     let h' = le_of_suc-le-suc h in

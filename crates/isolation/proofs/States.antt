@@ -10,7 +10,7 @@ use Rattle.machine.specs.Machine.{Machine, State, PSR, psr, user_mode, with_cont
 use Rattle.machine.specs.Control.{control_at, protected_cell, CCB_BASE, INT_PEND, DMEM_BOUND_LO, DMEM_BOUND_HI, IMEM_BOUND_LO, IMEM_BOUND_HI, with_pending}
 use Rattle.machine.proofs.Lists.{at_set_other, same_get_d}
 use Rattle.timer.specs.Theorems.{ClockKept}
-use Rattle.view.specs.View.{nested_by}
+use Rattle.execute.specs.View.{nested_by}
 use Rattle.step.specs.Interrupt.{with_requests}
 use Rattle.isolation.specs.Isolation.{EXCEPTED, Kept, SameShown}
 use Rattle.isolation.proofs.User.{User, Alike, Guarded, user_bit}

@@ -2,9 +2,9 @@
 use mathlib.Core.Path.{◌≡◌, refl, sym, ap, ◌∙◌}
 use mathlib.Core.Bool.{true, false, true≢false}
 use mathlib.Core.List.{List}
-use mathlib.Core.Option.{Option, none, some}
 use Prim.Native.Nat.{ℕ, ◌%◌, ◌^◌}
 use lib.ListN.{length, get_elem?, length-set}
+use Rattle.std.specs.Prelude.{Option, None, Some}
 use Rattle.word.specs.Choice.{choose◌then◌else◌}
 use Rattle.word.specs.Flags.{is_among}
 use Rattle.word.proofs.Tests.{if_false}
@@ -13,16 +13,16 @@ use Rattle.machine.specs.Control.{control_at, within, protected_cell, DMEM_BOUND
 use Rattle.machine.proofs.Lists.{at_set_other, at_set_same}
 use Rattle.timer.specs.Theorems.{ClockKept}
 use Rattle.timer.proofs.Theorems.{kept_refl, clock_keeps}
-use Rattle.view.specs.View.{View, view}
+use Rattle.execute.specs.View.{View, view}
 use Rattle.execute.specs.Decide.{decide}
-use Rattle.effect.specs.Update.{Update}
-use Rattle.effect.specs.Update as update
-use Rattle.effect.specs.Effect.{Effect, Stopped, Raised, SystemCall, InterruptReturn, StoreCell, Updates}
+use Rattle.machine.specs.Update.{Update}
+use Rattle.machine.specs.Update as update
+use Rattle.machine.specs.Effect.{Effect, Stopped, Raised, SystemCall, InterruptReturn, StoreCell, Updates}
 use Rattle.execute.proofs.Safe.{SafeUpdate, Safe, decide_safe}
-use Rattle.view.proofs.Addresses.{reached_cell, reached_block}
-use Rattle.effect.specs.Apply.{words_on, Transition, machine_only, store_cell, updated, apply, unpacked}
-use Rattle.effect.specs.Kind.{Kind}
-use Rattle.effect.specs.Kind as kind
+use Rattle.execute.proofs.Addresses.{reached_cell, reached_block}
+use Rattle.machine.specs.Apply.{words_on, Transition, machine_only, store_cell, updated, apply, unpacked}
+use Rattle.machine.specs.Kind.{Kind}
+use Rattle.machine.specs.Kind as kind
 use Rattle.step.specs.Interrupt.{with_requests, accepted_source}
 use Rattle.step.specs.Step.{is_stop, interrupt_or, with_clock, unclocked, step}
 use Rattle.step.proofs.Clocks.{clock_holds}
@@ -156,8 +156,8 @@ settled_agree s r t u (exit a e) = exit (ap is_exit (settled_kind s t) ∙ a) (s
 
 unpreempted : (v : View) (o : Option ℕ) (s : State) → is_preemption (interrupt_or v o s).kind ≡ false → interrupt_or v o s ≡ apply (decide v) s
 unfolding interrupt_or is_preemption machine_only
-unpreempted v none s e = refl
-unpreempted v (some n) s e = absurd (true≢false e)
+unpreempted v None s e = refl
+unpreempted v (Some n) s e = absurd (true≢false e)
 
 abbrev instructed : (p : List ℕ) (s : State) → Transition
 instructed p s = apply (decide (view p s)) s

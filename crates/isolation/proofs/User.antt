@@ -8,11 +8,11 @@ use native.Mathlib.Omega.{arith}
 use lib.ListN.{length, set, get_elem?, length-set}
 use lib.Seq.{get_or-set_same}
 use Rattle.machine.specs.Machine.{Machine, PSR, psr, user_mode, reads_set2, writes_set2, wide_words, interrupts_enabled, status_of, with_register, written, position_at, with_set1, with_set2, with_conditions, with_position, with_psr}
-use Rattle.machine.specs.declared.Position.{Position}
+use Rattle.machine.specs.declared.position.Position.{Position}
 use Rattle.word.specs.Choice.{choose◌then◌else◌}
 use Rattle.machine.proofs.Bits.{status_kept}
 use Rattle.machine.proofs.Lists.{at_set_other}
-use Rattle.effect.specs.Apply.{write_register, write_flags, words_on, next_pc, advance, advance_holding, jump_to, enable_interrupts, switch_width}
+use Rattle.machine.specs.Apply.{write_register, write_flags, words_on, next_pc, advance, advance_holding, jump_to, enable_interrupts, switch_width}
 
 -- ---- the status in user mode: UM 1, RSRD and RSWR 0
 

@@ -15,8 +15,10 @@ use Rattle.isa.specs.Decode.{word_bytes}
 use Rattle.machine.specs.Machine.{Machine, State, psr, user_mode, width_of, set_by}
 use Rattle.machine.specs.Control.{control_at, within, protected_cell, CCB_BASE, DMEM_BOUND_LO, DMEM_BOUND_HI, IMEM_BOUND_LO, IMEM_BOUND_HI}
 use Rattle.machine.proofs.Lists.{same_get_d}
-use Rattle.view.specs.View.{Attempt, Found, Raises, Stops, map_found, any_within, byte_then, bytes_at, read_at, fetch_at, Location, Block, Cell, in_block, found_at, place_at, held_at, view}
-use Rattle.view.proofs.Addresses.{place_cell, place_block}
+use Rattle.execute.specs.View.{Attempt, Found, Raises, Stops, map_found, any_within, byte_then, bytes_at, read_at, fetch_at, in_block, found_at, place_at, held_at, view}
+use Rattle.execute.specs.declared.data.Location.{Location}
+use Rattle.execute.specs.declared.data.Location.TheVariants.{Block, Cell}
+use Rattle.execute.proofs.Addresses.{place_cell, place_block}
 use Rattle.isolation.proofs.User.{read_bit, write_bit}
 use Rattle.isolation.proofs.States.{Mode, Low, mode_user}
 

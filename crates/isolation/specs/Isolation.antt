@@ -6,12 +6,12 @@ use Rattle.word.specs.Choice.{choose◌then◌else◌}
 use Rattle.word.specs.Flags.{is_among}
 use Rattle.machine.specs.Machine.{Machine, Memory, State, PSR, psr, user_mode}
 use Rattle.machine.specs.Control.{control_at, protected_cell, protected_byte, CCB_BASE, INT_PEND, TMR0_CNT, TMR1_CNT, DMEM_BOUND_LO, DMEM_BOUND_HI, IMEM_BOUND_LO, IMEM_BOUND_HI}
-use Rattle.formed.specs.Questions.{Accepted}
+use Rattle.machine.specs.Questions.{Accepted}
 use Rattle.image.specs.Image.{read_image}
-use Rattle.view.specs.View.{nested_by}
-use Rattle.effect.specs.Apply.{Transition}
+use Rattle.execute.specs.View.{nested_by}
+use Rattle.machine.specs.Apply.{Transition}
 use Rattle.emulator.specs.Run.{Call, state_with, transitions}
-use Rattle.effect.specs.Kind.{Kind, Ordinary, Interrupt, SystemCall, InterruptReturn, Exception, Reset, Stop}
+use Rattle.machine.specs.Kind.{Kind, Ordinary, Interrupt, SystemCall, InterruptReturn, Exception, Reset, Stop}
 
 -- ---- which transitions are compared (Manual 10.1)
 

@@ -1,14 +1,13 @@
 -- The clock after a step. Assumes nothing.
-use mathlib.Core.Path.{◌≡◌, sym, ap, ◌∙◌}
+use mathlib.Core.Path.{◌≡◌, sym}
 use mathlib.Core.Bool.{true, false, true≢false}
 use Rattle.word.specs.Choice.{choose◌then◌else◌}
 use Rattle.word.proofs.Tests.{either, if_true}
-use Rattle.machine.specs.Machine.{State}
 use Rattle.machine.specs.Control.{reset}
 use Rattle.timer.specs.Clock.{Clocked, clock}
 use Rattle.timer.proofs.Theorems.{reset_clock}
-use Rattle.effect.specs.Kind.{Reset}
-use Rattle.effect.specs.Apply.{Transition, stop_number, Report, reported}
+use Rattle.machine.specs.Kind.{Reset}
+use Rattle.machine.specs.Apply.{Transition}
 use Rattle.step.specs.Step.{is_stop, with_clock}
 
 module _ (t : Transition) where
@@ -41,21 +40,3 @@ module _ (t : Transition) where
   stop_kind =
       clock_holds (λ (x : Transition). is_stop x.kind ≡ true → is_stop t.kind ≡ true)
       (λ e _. e) (λ _ _ e. absurd (true≢false (sym e))) (λ _ _ e. e)
-
-  -- what the code reports: the number of a stop, or 0 and the machine after the clock
-  module _ (r : Report) (e : r ≡ reported t) where
-    pub stop_reported : is_stop t.kind ≡ true → r ≡ reported (with_clock t)
-    stop_reported s = e ∙ ap reported (sym (stop_alone s))
-
-    pub step_reported : is_stop t.kind ≡ false → r.stop ≡ 0
-        → record { stop = 0; after = record { machine = (clock r.after.machine).machine; memory = r.after.memory } } ≡ reported (with_clock t)
-    unfolding reported stop_number
-    step_reported s z =
-        let number : stop_number t.kind ≡ 0 = ap (λ (x : Report). x.stop) (sym e) ∙ z in
-        let after : r.after ≡ t.after = ap (λ (x : Report). x.after) e in
-        let now : Report = record { stop = 0; after = record { machine = c.machine; memory = t.after.memory } } in
-        ap (λ (x : State). record { stop = 0; after = record { machine = (clock x.machine).machine; memory = x.memory } }) after
-        ∙ clock_holds (λ (x : Transition). now ≡ reported x)
-        (λ y. absurd (true≢false (sym y ∙ s)))
-        (λ _ r. rw (reset_clock t.after.machine r))
-        (λ _ _. rw number)

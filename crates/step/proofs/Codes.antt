@@ -6,14 +6,14 @@ use Prim.Native.Nat.{ℕ}
 use native.Mathlib.Omega.{arith}
 use Rattle.isa.proofs.Table.{values, agree}
 use Rattle.machine.specs.Machine.{State}
-use Rattle.view.specs.View.{View, view}
+use Rattle.execute.specs.View.{View, view}
 use Rattle.execute.proofs.Answers.{Code, tests, traps}
 use Rattle.execute.specs.Decide.{decide}
 use Rattle.execute.proofs.Safe.{Safe, decide_safe}
-use Rattle.effect.specs.Effect.{Effect, Stopped, Raised, SystemCall, InterruptReturn, StoreCell, Updates}
-use Rattle.effect.specs.Apply.{machine_only, store_cell, apply}
-use Rattle.effect.specs.Kind.{Kind}
-use Rattle.effect.specs.Kind as kind
+use Rattle.machine.specs.Effect.{Effect, Stopped, Raised, SystemCall, InterruptReturn, StoreCell, Updates}
+use Rattle.machine.specs.Apply.{machine_only, store_cell, apply}
+use Rattle.machine.specs.Kind.{Kind}
+use Rattle.machine.specs.Kind as kind
 use Rattle.step.specs.Step.{step}
 use Rattle.step.specs.Codes.{is_code, ExceptionCodes, Never01h}
 use Rattle.step.proofs.StepKinds.{step_kind}

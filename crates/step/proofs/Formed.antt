@@ -1,44 +1,45 @@
 -- Closure: a step, in whatever mode, takes a well-formed machine to a well-formed one. Assumes nothing.
 use mathlib.Core.Path.{◌≡◌, refl, sym, ap, ◌∙◌}
 use mathlib.Core.Bool.{Bool, true, false, true≢false}
-use mathlib.Core.List.{List, ◌∷◌}
-use mathlib.Core.Option.{Option, none, some}
+use mathlib.Core.List.{List, [], ◌∷◌}
 use Prim.Native.Nat.{ℕ, zero, suc, ◌+◌, ◌*◌, ◌/◌, ◌%◌, ◌^◌, ◌<◌}
 use native.Mathlib.Omega.{arith}
 use native.Mathlib.Nat.{mod-lt}
 use lib.ListN.{length, set}
 use lib.Dec.{eqb, lit<}
 use borrow.Author.Tests.{eqb-false}
+use Rattle.std.specs.Prelude.{Option, None, Some}
 use Rattle.word.specs.Choice.{choose◌then◌else◌}
 use Rattle.word.specs.Word.{bit_of}
 use Rattle.word.specs.Flags.{is_among}
 use Rattle.word.proofs.Flags.{with_below, without_below}
 use Rattle.codec.proofs.Laws.{Below}
-use Rattle.machine.specs.Machine.{Machine, State, PSR, SPSR, LINK, SUPER, psr, user_mode, reads_set2, writes_set2, wide_words, interrupts_enabled, status_of, with_control, with_register, written}
+use Rattle.machine.specs.Machine.{Machine, State, state_of, memory_of, PSR, SPSR, LINK, SUPER, psr, user_mode, reads_set2, writes_set2, wide_words, interrupts_enabled, status_of, with_control, with_register, written}
 use Rattle.machine.specs.Control.{control_at, registers, register_at, holds_as, INT_VECTORS, INT_PEND, SYSTEM_ADDR, EXCEP_ADDR, EXCEPTION_CS, EXCEPTION_PC, EXCEPTION_PSR, TMR0_CNT, TMR1_CNT, with_pending}
 use Rattle.machine.specs.Words.{TIMERS}
+use Rattle.machine.specs.Questions.{well_formed}
 use Rattle.machine.proofs.Bits.{status_small, status_low, status_user, status_kept}
-use Rattle.machine.proofs.Registers.{holds_small}
-use Rattle.formed.proofs.Formed.{sized_set, StatusOk, registers_below, Stacked, pushed, WellFormed, true_formed, formed_true, reset_formed}
+use Rattle.machine.proofs.Table.{holds_small}
+use Rattle.machine.proofs.Formed.{sized_set, StatusOk, registers_below, Stacked, pushed, WellFormed, true_formed, formed_true, reset_formed}
 use Rattle.timer.specs.Timer.{source_of, clock_timer}
 use Rattle.timer.specs.Clock.{configuration_of, timer_in, with_timer, counted, notified, Clocked, clock_one, clock}
 use Rattle.timer.proofs.Laws.{source_small, TimerOk, timer_ok}
 use Rattle.timer.specs.declared.Timer.{Timer}
-use Rattle.view.specs.View.{View, view}
-use Rattle.effect.specs.Apply.{write_register, write_flags, unpacked, words_on, next_pc, advance, advance_holding, jump_to, raise, system_call, user_return, interrupt_return, enable_interrupts, switch_width, select_sets, Transition, machine_only, store_cell, updated, apply}
+use Rattle.execute.specs.View.{View, view}
+use Rattle.machine.specs.Apply.{write_register, write_flags, unpacked, words_on, next_pc, advance, advance_holding, jump_to, raise, system_call, user_return, interrupt_return, enable_interrupts, switch_width, select_sets, Transition, machine_only, store_cell, updated, apply}
 use Rattle.execute.specs.Decide.{decide}
-use Rattle.step.specs.Interrupt.{with_requests, accepted_source, service_psr, entry_for, accept}
+use Rattle.step.specs.Interrupt.{add_requests, with_requests, accepted_source, service_psr, entry_for, accept}
 use Rattle.step.specs.Step.{interrupt_or, unclocked, step}
-use Rattle.effect.specs.Update.{Update}
-use Rattle.effect.specs.Update as update
-use Rattle.effect.specs.Effect.{Effect, Stopped, Raised, SystemCall, InterruptReturn, StoreCell, Updates}
+use Rattle.machine.specs.Update.{Update}
+use Rattle.machine.specs.Update as update
+use Rattle.machine.specs.Effect.{Effect, Stopped, Raised, SystemCall, InterruptReturn, StoreCell, Updates}
 use Rattle.execute.proofs.Safe.{SafeUpdate, Safe, decide_safe}
 use Rattle.word.proofs.Tests.{if_holds}
-use Rattle.formed.proofs.Stored.{control_of, control_put, top_shown, rest_stacked}
+use Rattle.machine.proofs.Stored.{control_of, control_put, top_shown, rest_stacked}
 use Rattle.step.specs.Theorems.{Accepted, StaysFormed}
 use Rattle.step.proofs.Accepted.{source_accepted}
 use Rattle.step.proofs.Clocks.{clock_holds}
-use Rattle.formed.proofs.Parts.{second_of, second_set, set1_formed, set2_formed, psr_formed, conditions_formed, control_formed, stored_formed, position_formed, stack_formed, dividers_formed, moved_formed}
+use Rattle.machine.proofs.Parts.{second_of, second_set, set1_formed, set2_formed, psr_formed, conditions_formed, control_formed, stored_formed, position_formed, stack_formed, dividers_formed, moved_formed}
 
 -- ---- status: PSR
 
@@ -218,6 +219,11 @@ pub requests_formed : (s : State) (requests : ℕ) → WellFormed s.machine → 
 unfolding with_requests
 requests_formed s requests f = pending_formed (mod-lt _ (lit< tt)) f
 
+-- the same by the questions that a well-formed machine passes
+pub requested_formed : (m : Machine) (requests : ℕ) → well_formed m ≡ true → well_formed (add_requests requests m) ≡ true
+unfolding with_requests
+requested_formed m requests w = formed_true (requests_formed (state_of m (memory_of [])) requests (true_formed m w))
+
 -- PSR of a service routine
 pub service_status : (n : ℕ) (m : Machine) → StatusOk (service_psr n m)
 unfolding service_psr
@@ -289,8 +295,8 @@ module _ (P : State → Type 0) (program : List ℕ) (s : State) (requests : ℕ
       v = view program r
 
       taken : (o : Option ℕ) → accepted_source v r.machine ≡ o → P (interrupt_or v o r).after
-      taken none e = decided
-      taken (some n) e = accepted n (source_accepted v r.machine n e)
+      taken None e = decided
+      taken (Some n) e = accepted n (source_accepted v r.machine n e)
 
 pub unclocked_formed : (program : List ℕ) (s : State) (requests : ℕ) → WellFormed s.machine → WellFormed (unclocked program s requests).after.machine
 unclocked_formed p s q f =

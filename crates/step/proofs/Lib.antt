@@ -14,3 +14,4 @@ pub mod Codes
 pub mod AddressOrder
 pub mod Return
 pub mod RequiredNops
+pub mod Waits

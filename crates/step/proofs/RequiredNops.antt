@@ -1,23 +1,23 @@
 -- The nops that must follow: where they do a step is the same without the look at them, and where not the first word that is none decides. Assumes nothing.
 use mathlib.Core.Path.{◌≡◌, refl, sym, ap, ◌∙◌, subst}
 use mathlib.Core.List.{List}
-use mathlib.Core.Option.{Option, none, some}
 use Prim.Native.Nat.{ℕ, ◌≤◌}
 use native.Mathlib.Omega.{arith}
+use Rattle.std.proofs.lemmas.Option.{none-some}
+use Rattle.std.specs.Prelude.{Option, None, Some}
 use Rattle.word.specs.Choice.{choose◌then◌else◌}
 use Rattle.isa.specs.Decode.{decode}
 use Rattle.machine.specs.Machine.{State, width_of}
-use Rattle.view.specs.View.{Attempt, Found, Raises, Stops, View, view, with_following}
-use Rattle.view.specs.Theorems.{NopAt, NotNopAt, protected, absent, other}
-use Rattle.view.proofs.Nops.{checked_in_order}
+use Rattle.execute.specs.View.{Attempt, Found, Raises, Stops, View, view, with_following}
+use Rattle.execute.specs.Theorems.{NopAt, NotNopAt, protected, absent, other}
+use Rattle.execute.proofs.NopChecks.{checked_in_order}
 use Rattle.execute.specs.Decide.{fetched_then, decide, Passes}
 use Rattle.execute.proofs.Order.{fetched_same}
 use Rattle.execute.proofs.Nops.{Refuses, Effects, alike, denied, word_effects}
-use Rattle.effect.specs.Apply.{machine_only, apply}
+use Rattle.machine.specs.Apply.{machine_only, apply}
 use Rattle.step.specs.Interrupt.{with_requests, accepted_source, may_accept}
 use Rattle.step.specs.Step.{is_stop, interrupt_or, with_clock, unclocked, step}
 use Rattle.step.specs.RequiredNops.{view_unchecked, step_unchecked, nops_of, NopsKept, ComesToNops, ComesOf, NopsCompared, same, refused, NopsChecked}
-use Rattle.step.proofs.Accepted.{none_some}
 
 -- no word is a nop and none
 not_both : (v : View) (k : ℕ) (a : Attempt (Unit {0})) → NopAt v k → NotNopAt v k a → ⊥
@@ -54,7 +54,7 @@ module _ (program : List ℕ) (s : State) (q : ℕ) where
   Follow = (w : ℕ) → ComesToNops program r w → (k : ℕ) → 1 ≤ k → k ≤ nops_of v w → NopAt v k
 
   -- the instruction, where no interrupt is accepted
-  module _ (e : accepted_source v r.machine ≡ none) where
+  module _ (e : accepted_source v r.machine ≡ None) where
     alike_step : Follow → decide v ≡ decide u → NopsCompared program s q r
     unfolding unclocked interrupt_or
     alike_step f d = same f (rw (e, accepted_same, e, d))
@@ -88,8 +88,8 @@ module _ (program : List ℕ) (s : State) (q : ℕ) where
 
   by_source : (o : Option ℕ) → accepted_source v r.machine ≡ o → NopsCompared program s q r
   unfolding unclocked interrupt_or
-  by_source none e = by_fetch e _ refl
-  by_source (some n) e = same (λ w c k from to. absurd (none_some (sym c.uninterrupted ∙ e))) (rw (e, accepted_same, e))
+  by_source None e = by_fetch e _ refl
+  by_source (Some n) e = same (λ w c k from to. absurd (none-some _ (sym c.uninterrupted ∙ e))) (rw (e, accepted_same, e))
 
 pub nops_checked : NopsChecked
 nops_checked program s q = by_source program s q _ refl

@@ -8,13 +8,13 @@ use Rattle.word.specs.Flags.{is_among, without_flag}
 use Rattle.machine.specs.Machine.{Machine, position_at, with_position, with_conditions, with_psr, with_set2}
 use Rattle.machine.specs.Control.{control_at, INT_SERV, RETI_ADDR, RETI_PSR, RETI_CR0, RETURNS}
 use Rattle.machine.specs.Stack.{popped, shown_top, service_flags, with_stack, return_stored, top_stored, store_control}
-use Rattle.machine.specs.declared.Position.{Position}
-use Rattle.machine.specs.declared.Entry.{Entry}
+use Rattle.machine.specs.declared.position.Position.{Position}
+use Rattle.machine.specs.declared.stack.Entry.{Entry}
 use Rattle.machine.proofs.Widths.{top_registers, stored_top}
-use Rattle.machine.proofs.Stack.{show_again, shown_flags, flags_popped}
-use Rattle.formed.proofs.Formed.{Stacked, pushed, WellFormed, true_formed}
-use Rattle.effect.specs.Kind as kind
-use Rattle.effect.specs.Apply.{next_pc, advance, interrupt_return, machine_only, updated, apply}
+use Rattle.machine.proofs.Shown.{show_again, shown_flags, flags_popped}
+use Rattle.machine.proofs.Formed.{Stacked, pushed, WellFormed, true_formed}
+use Rattle.machine.specs.Kind as kind
+use Rattle.machine.specs.Apply.{next_pc, advance, interrupt_return, machine_only, updated, apply}
 use Rattle.step.specs.Return.{IgnoredWhenEmpty, returned_to, TaskSwitch}
 
 -- what a store to a RETI_ register leaves, by the stack

@@ -1,12 +1,12 @@
 -- What holds of the kinds of a step. Assumes nothing.
 use mathlib.Core.List.{List}
-use mathlib.Core.Option.{Option, none, some}
 use Prim.Native.Nat.{ℕ}
+use Rattle.std.specs.Prelude.{Option, None, Some}
 use Rattle.machine.specs.Machine.{State}
-use Rattle.view.specs.View.{View, view}
+use Rattle.execute.specs.View.{View, view}
 use Rattle.execute.specs.Decide.{decide}
-use Rattle.effect.specs.Apply.{Transition, machine_only, apply}
-use Rattle.effect.specs.Kind.{Kind, Interrupt, Reset}
+use Rattle.machine.specs.Apply.{Transition, machine_only, apply}
+use Rattle.machine.specs.Kind.{Kind, Interrupt, Reset}
 use Rattle.step.specs.Interrupt.{with_requests, accepted_source}
 use Rattle.step.specs.Step.{interrupt_or, unclocked, step}
 use Rattle.step.proofs.Clocks.{clock_holds}
@@ -14,8 +14,8 @@ use Rattle.step.proofs.Clocks.{clock_holds}
 module _ (P : Kind → Type 0) (accepted : P Interrupt) where
   taken_kind : (v : View) (o : Option ℕ) (s : State) → P (apply (decide v) s).kind → P (interrupt_or v o s).kind
   unfolding interrupt_or machine_only
-  taken_kind v none s h = h
-  taken_kind v (some n) s h = accepted
+  taken_kind v None s h = h
+  taken_kind v (Some n) s h = accepted
 
   module _ (p : List ℕ) (instruction : (s : State) → P (apply (decide (view p s)) s).kind) (s : State) (q : ℕ) where
     -- what holds of an accepted interrupt and of every instruction holds of a step before its clock

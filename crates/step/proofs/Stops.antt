@@ -6,12 +6,12 @@ use Prim.Native.Nat.{ℕ}
 use Rattle.word.specs.Flags.{is_among}
 use Rattle.word.proofs.Tests.{false_unless}
 use Rattle.machine.specs.Machine.{State}
-use Rattle.view.specs.View.{View, view}
+use Rattle.execute.specs.View.{View, view}
 use Rattle.execute.specs.Decide.{decide}
-use Rattle.effect.specs.Effect.{Effect, Stopped, Raised, SystemCall, InterruptReturn, StoreCell, Updates}
-use Rattle.effect.specs.Apply.{machine_only, store_cell, apply, stop_number}
-use Rattle.effect.specs.Kind.{Kind, STOPS}
-use Rattle.effect.specs.Kind as kind
+use Rattle.machine.specs.Effect.{Effect, Stopped, Raised, SystemCall, InterruptReturn, StoreCell, Updates}
+use Rattle.machine.specs.Apply.{machine_only, store_cell, apply, stop_number}
+use Rattle.machine.specs.Kind.{Kind, STOPS}
+use Rattle.machine.specs.Kind as kind
 use Rattle.step.specs.Step.{is_stop, unclocked, step}
 use Rattle.execute.proofs.Safe.{Safe, decide_safe}
 use Rattle.step.proofs.StepKinds.{unclocked_kind, step_kind}

@@ -9,12 +9,12 @@ use Rattle.machine.specs.Words.{ZEROS}
 use Rattle.machine.proofs.Flat.{same_dividers}
 use Rattle.timer.specs.Clock.{goes_on, clock}
 use Rattle.timer.proofs.Theorems.{idle_clock}
-use Rattle.view.specs.View.{view}
+use Rattle.execute.specs.View.{view}
 use Rattle.execute.specs.Decide.{decide}
-use Rattle.effect.specs.Effect.{Effect, Stopped, Raised, SystemCall, InterruptReturn, StoreCell, Updates}
-use Rattle.effect.specs.Apply.{Transition, machine_only, store_cell, apply}
-use Rattle.effect.specs.Kind.{Kind}
-use Rattle.effect.specs.Kind as kind
+use Rattle.machine.specs.Effect.{Effect, Stopped, Raised, SystemCall, InterruptReturn, StoreCell, Updates}
+use Rattle.machine.specs.Apply.{Transition, machine_only, store_cell, apply}
+use Rattle.machine.specs.Kind.{Kind}
+use Rattle.machine.specs.Kind as kind
 use Rattle.step.specs.Step.{is_stop, with_clock, unclocked, step}
 use Rattle.step.specs.Theorems.{IdleStep, StopUnclocked, ResetStep}
 use Rattle.step.proofs.Clocks.{stop_alone, clock_holds}

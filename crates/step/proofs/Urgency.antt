@@ -2,13 +2,14 @@
 use mathlib.Core.Path.{◌≡◌, refl, sym, ap, ◌∙◌}
 use mathlib.Core.Bool.{Bool, true, false, ◌&&◌, and-true, and-false, and_assoc}
 use mathlib.Core.List.{List}
-use mathlib.Core.Option.{Option, none, some}
-use Prim.Native.Nat.{ℕ, zero, suc, ◌/◌, ◌%◌, ◌^◌, ◌≤◌, ◌<◌, min}
+use Prim.Native.Nat.{ℕ, zero, suc, ◌+◌, ◌/◌, ◌%◌, ◌^◌, ◌≤◌, ◌<◌, min}
 use native.Mathlib.Omega.{arith}
 use native.Mathlib.Nat.{zero-div}
+use native.Mathlib.Numerals.{add-one}
 use lib.Bits.{bit_and, and_step, and_shr}
 use lib.Dec.{ltb, eqb}
 use borrow.Author.Tests.{ltb-true, ltb-false, lt-ltb, le-ltb, eqb-true, eqb-false}
+use Rattle.std.specs.Prelude.{Option, None, Some}
 use Rattle.word.specs.Choice.{choose◌then◌else◌}
 use Rattle.word.specs.Word.{bit_at}
 use Rattle.word.specs.Arithmetic.{and_of}
@@ -20,12 +21,13 @@ use Rattle.word.proofs.Flags.{with_same, with_other}
 use Rattle.machine.specs.Machine.{Machine}
 use Rattle.machine.specs.Control.{control_at, INT_MASK, INT_PEND, EXT_INT_PRI, COP_INT_PRI}
 use Rattle.machine.specs.Stack.{sources_of, service_flags}
-use Rattle.machine.specs.declared.Entry.{Entry}
-use Rattle.formed.proofs.Formed.{Stacked, empty, pushed, registers_below, WellFormed}
-use Rattle.view.specs.View.{View}
+use Rattle.machine.specs.declared.stack.Entry.{Entry}
+use Rattle.machine.specs.Questions.{well_formed}
+use Rattle.machine.proofs.Formed.{Stacked, empty, pushed, registers_below, WellFormed, true_formed}
+use Rattle.execute.specs.View.{View}
 use Rattle.step.specs.Interrupt.{priority, below_all, eligible, before, candidate, may_accept, accepted_source}
-use Rattle.step.specs.Search.{source_number, waiting, priority_or, most_urgent, service_floor}
-use Rattle.step.proofs.Accepted.{none_some, candidate_eligible}
+use Rattle.step.specs.Search.{waiting, priority_or, most_urgent, service_floor}
+use Rattle.step.proofs.Accepted.{candidate_eligible}
 
 -- ---- tests
 
@@ -47,7 +49,7 @@ ltb_min p a b = go (ltb p a) refl (ltb p b) refl
 -- ---- one iteration
 
 module _ (flags bound : ℕ) (m : Machine) (k : ℕ) where
-  pub more_urgent : bit_at k flags ≡ true → priority m k < priority_or bound m (most_urgent flags bound m k) → most_urgent flags bound m (suc k) ≡ some k
+  pub more_urgent : bit_at k flags ≡ true → priority m k < priority_or bound m (most_urgent flags bound m k) → most_urgent flags bound m (suc k) ≡ Some k
   unfolding most_urgent choose◌then◌else◌
   more_urgent e h = rw (e, lt-ltb _ _ h)
 
@@ -59,20 +61,38 @@ module _ (flags bound : ℕ) (m : Machine) (k : ℕ) where
   unfolding most_urgent choose◌then◌else◌
   no_flag e = rw e
 
+-- the same of the numbers that the search keeps: the best so far, and its priority number
+module _ (flags bound : ℕ) (m : Machine) (k p floor : ℕ) (f : floor ≡ priority_or bound m (most_urgent flags bound m k)) (q : p ≡ priority m k) where
+  pub taken : bit_at k flags ≡ true → p < floor → Some k ≡ most_urgent flags bound m (k + 1)
+  taken e h = rw (add-one k) (sym (more_urgent flags bound m k e (omega (arith, f, q, h))))
+
+  pub taken_number : bit_at k flags ≡ true → p < floor → p ≡ priority_or bound m (most_urgent flags bound m (k + 1))
+  unfolding priority_or
+  taken_number e h = q ∙ ap (priority_or bound m) (taken e h)
+
+  pub passed : floor ≤ p → most_urgent flags bound m k ≡ most_urgent flags bound m (k + 1)
+  passed h = rw (add-one k) (sym (less_urgent flags bound m k (omega (arith, f, q, h))))
+
+pub unflagged : (flags bound : ℕ) (m : Machine) (k : ℕ) → bit_at k flags ≡ false → most_urgent flags bound m k ≡ most_urgent flags bound m (k + 1)
+unflagged flags bound m k e = rw (add-one k) (sym (no_flag flags bound m k e))
+
+module _ (flags bound : ℕ) (m : Machine) where
+  pub none_yet : None ≡ most_urgent flags bound m 0
+  unfolding most_urgent
+  none_yet = refl
+
+  pub bound_yet : bound ≡ priority_or bound m (most_urgent flags bound m 0)
+  unfolding most_urgent priority_or
+  bound_yet = refl
+
 -- no flags
-pub none_urgent : (bound : ℕ) (m : Machine) (k : ℕ) → most_urgent 0 bound m k ≡ none
+pub none_urgent : (bound : ℕ) (m : Machine) (k : ℕ) → most_urgent 0 bound m k ≡ None
 unfolding most_urgent
 none_urgent bound m zero = refl
 none_urgent bound m (suc k) = no_flag 0 bound m k (rw (zero-div (2 ^ k))) ∙ none_urgent bound m k
 
--- a source that is found is one of those below k
-pub found_below : (flags bound : ℕ) (m : Machine) (k n : ℕ) → most_urgent flags bound m k ≡ some n → n < k
-unfolding most_urgent
-found_below flags bound m zero n = λ e. absurd (none_some e)
-found_below flags bound m (suc k) n =
-    if_holds (λ (o : Option ℕ). o ≡ some n → n < suc k) _
-    (λ _ e. let same : k ≡ n = cc in omega arith)
-    (λ _ e. let h : n < k = found_below flags bound m k n e in omega arith)
+pub none_flagged : (flags bound : ℕ) (m : Machine) (k : ℕ) → flags ≡ 0 → None ≡ most_urgent flags bound m k
+none_flagged flags bound m k e = rw e (sym (none_urgent bound m k))
 
 -- ---- the smallest priority number in service
 
@@ -163,10 +183,10 @@ module _ (m : Machine) (f : WellFormed m) where
   candidate_test : (k : ℕ) (o : Option ℕ) → candidate m k ≡ o
       → eligible m k && before m k o ≡ bit_at k (waiting m) && ltb (priority m k) (priority_or (service_floor m) m o)
   unfolding eligible before priority_or
-  candidate_test k none e =
+  candidate_test k None e =
       rw (waiting_bit m k f, below_service m (priority m k) (priority_small m k) f)
       (and-true _ ∙ sym (and_assoc (bit_at k (control_at m INT_PEND)) (bit_at k (control_at m INT_MASK)) (ltb (priority m k) (service_floor m))))
-  candidate_test k (some j) e =
+  candidate_test k (Some j) e =
       rw (waiting_bit m k f)
       (and_implied (bit_at k (control_at m INT_PEND)) (bit_at k (control_at m INT_MASK)) (below_all m (priority m k) m.stack) (ltb (priority m k) (priority m j))
       (nearer_below k j (candidate_eligible m k j e).1))
@@ -177,21 +197,15 @@ module _ (m : Machine) (f : WellFormed m) where
   candidate_found zero = refl
   candidate_found (suc k) = rw (← (candidate_found k), candidate_test k (candidate m k) refl)
 
--- nothing waits
-pub none_waiting : (v : View) (m : Machine) → WellFormed m → waiting m ≡ 0 → accepted_source v m ≡ none
-unfolding accepted_source
-none_waiting v m f e =
-    let found : candidate m 12 ≡ none = candidate_found m f 12 ∙ rw e (none_urgent (service_floor m) m 12) in
-    if_holds (λ (o : Option ℕ). o ≡ none) (may_accept v) (λ _. found) (λ _. refl)
+-- ---- the same by the questions that a well-formed machine passes
 
--- ---- sources by their numbers
+module _ (m : Machine) (w : well_formed m ≡ true) where
+  pub candidate_is : most_urgent (waiting m) (service_floor m) m 12 ≡ candidate m 12
+  candidate_is = sym (candidate_found m (true_formed m w) 12)
 
-pub number_some : (o : Option ℕ) {n : ℕ} → n ≡ source_number o → n < 12 → o ≡ some n
-unfolding source_number
-number_some none e h = absurd (omega arith)
-number_some (some k) e h = ap some (sym e)
-
-pub number_none : (o : Option ℕ) {n : ℕ} → ((k : ℕ) → o ≡ some k → k < 12) → n ≡ source_number o → 12 ≤ n → o ≡ none
-unfolding source_number
-number_none none b e h = refl
-number_none (some k) b e h = let l : k < 12 = b k refl in absurd (omega arith)
+  -- nothing waits
+  pub none_waits : (v : View) → waiting m ≡ 0 → None ≡ accepted_source v m
+  unfolding accepted_source
+  none_waits v e =
+      let found : None ≡ candidate m 12 = none_flagged (waiting m) (service_floor m) m 12 e ∙ candidate_is in
+      if_holds (λ (o : Option ℕ). None ≡ o) (may_accept v) (λ _. found) (λ _. refl)

@@ -1,16 +1,16 @@
 -- An address both out of range and protected (Manual 4.7): which steps differ from those of the other order of tests, 08h before 07h. No definition
 -- of the step rests on these. Assumes nothing.
-use Rattle.std.specs.Prelude.{◌≡◌, true, false, not, ◌&&◌, List, ℕ, ℤ, pos, ◌+ℤ◌}
-use Rattle.std.proofs.Math.Option.{Option, none, some}
+use Rattle.std.specs.Prelude.{◌≡◌, true, false, not, ◌&&◌, List, ℕ, ℤ, pos, ◌+ℤ◌, Option, None, Some}
 use Rattle.word.specs.Choice.{choose◌then◌else◌}
 use Rattle.word.specs.Word.{word_of, is_address}
 use Rattle.isa.specs.Decode.{decode}
 use Rattle.isa.specs.Theorems.{between}
 use Rattle.machine.specs.Machine.{State, psr, user_mode, width_of}
 use Rattle.machine.specs.Control.{protected_cell}
-use Rattle.view.specs.View.{Attempt, Found, Raises, Stops, Location, found_at, held_at, View, view, with_places, condition_false}
-use Rattle.effect.specs.Effect.{Raised}
-use Rattle.effect.specs.Apply.{Transition, apply}
+use Rattle.execute.specs.View.{Attempt, Found, Raises, Stops, found_at, held_at, View, view, with_places, condition_false}
+use Rattle.execute.specs.declared.data.Location.{Location}
+use Rattle.machine.specs.Effect.{Raised}
+use Rattle.machine.specs.Apply.{Transition, apply}
 use Rattle.step.specs.Interrupt.{with_requests, accepted_source}
 use Rattle.step.specs.Step.{unclocked_seeing, with_clock, step}
 
@@ -38,11 +38,11 @@ step_before program s requests = with_clock (unclocked_seeing (view_before progr
 unfoldable pub access_of : View → Attempt ℕ → Option ℤ
 access_of v (Found w) =
     let i = decode (width_of v.status) w in
-    choose condition_false v i then none
-    else choose between 27 28 i.opcode then some (pos (v.source i.sreg1) +ℤ i.immediate)
-    else none
-access_of v (Raises c) = none
-access_of v (Stops n) = none
+    choose condition_false v i then None
+    else choose between 27 28 i.opcode then Some (pos (v.source i.sreg1) +ℤ i.immediate)
+    else None
+access_of v (Raises c) = None
+access_of v (Stops n) = None
 
 -- an address outside 32 bits, protected when wrapped, in user mode
 pub record Wrapped (s : State) (address : ℤ) : Type 0 where
@@ -53,8 +53,8 @@ pub record Wrapped (s : State) (address : ℤ) : Type 0 where
 -- the step comes to a load or store at such an address, no interrupt being accepted
 pub record WrappedAccess (program : List ℕ) (s : State) : Type 0 where
   pub address : ℤ
-  pub uninterrupted : accepted_source (view program s) s.machine ≡ none
-  pub access : access_of (view program s) (view program s).fetched ≡ some address
+  pub uninterrupted : accepted_source (view program s) s.machine ≡ None
+  pub access : access_of (view program s) (view program s).fetched ≡ Some address
   pub wrapped : Wrapped s address
 
 -- how the step compares with that by the other order; r is the state with the requests added

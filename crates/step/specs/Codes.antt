@@ -2,7 +2,7 @@
 use Rattle.std.specs.Prelude.{◌≡◌, ◌≢◌, Bool, true, ◌||◌, List, ℕ, eqb}
 use Rattle.isa.specs.Theorems.{between}
 use Rattle.machine.specs.Machine.{State}
-use Rattle.effect.specs.Kind.{Exception}
+use Rattle.machine.specs.Kind.{Exception}
 use Rattle.step.specs.Step.{step}
 
 -- the codes of exceptions: 00h, 02h to 09h, and E0h + n for trap n (Manual 4.9)

@@ -1,6 +1,5 @@
 -- Requests, and the acceptance of an interrupt (Manual 4.1, 4.2). Assumes nothing.
-use Rattle.std.specs.Prelude.{Bool, true, false, not, ◌&&◌, List, [], ◌∷◌, ℕ, zero, suc, ◌+◌, ◌-◌, ◌*◌, ◌%◌, ◌^◌, get_or, ltb, eqb}
-use Rattle.std.proofs.Math.Option.{Option, none, some}
+use Rattle.std.specs.Prelude.{Bool, true, false, not, ◌&&◌, List, [], ◌∷◌, ℕ, zero, suc, ◌+◌, ◌-◌, ◌*◌, ◌%◌, ◌^◌, get_or, ltb, eqb, Option, None, Some}
 use Rattle.word.specs.Choice.{choose◌then◌else◌}
 use Rattle.word.specs.Word.{bit_at, field_of}
 use Rattle.word.specs.Arithmetic.{or_of}
@@ -12,8 +11,8 @@ use Rattle.isa.specs.Decode.{opcode_of}
 use Rattle.machine.specs.Machine.{Machine, State, psr, interrupts_enabled, width_of, status_of, position_at, with_position, with_psr}
 use Rattle.machine.specs.Control.{control_at, with_pending, INT_VECTORS, INT_MODE_IL, INT_MODE_UM, INT_MASK, INT_PEND, EXT_INT_PRI, COP_INT_PRI}
 use Rattle.machine.specs.Stack.{with_stack}
-use Rattle.machine.specs.declared.Entry.{Entry}
-use Rattle.view.specs.View.{Attempt, Found, Raises, Stops, View}
+use Rattle.machine.specs.declared.stack.Entry.{Entry}
+use Rattle.execute.specs.View.{Attempt, Found, Raises, Stops, View}
 
 -- ---- requests
 
@@ -42,15 +41,15 @@ unfoldable pub eligible : Machine → (source : ℕ) → Bool
 eligible m n = bit_at n (control_at m INT_PEND) && (bit_at n (control_at m INT_MASK) && below_all m (priority m n) m.stack)
 
 unfoldable pub before : Machine → (source : ℕ) → (best : Option ℕ) → Bool
-before m n none = true
-before m n (some b) = ltb (priority m n) (priority m b)
+before m n None = true
+before m n (Some b) = ltb (priority m n) (priority m b)
 
 -- of the sources below k the one to accept: smallest priority number first, ties to the lower source
 unfoldable pub candidate : Machine → (k : ℕ) → Option ℕ
-candidate m zero = none
+candidate m zero = None
 candidate m (suc k) =
     let b = candidate m k in
-    choose eligible m k && before m k b then some k else b
+    choose eligible m k && before m k b then Some k else b
 
 -- ---- when one is accepted
 
@@ -68,7 +67,7 @@ may_accept v =
     && not (eqb v.position.held 1 && is_mulhi (width_of v.status) v.fetched))
 
 unfoldable pub accepted_source : View → Machine → Option ℕ
-accepted_source v m = choose may_accept v then candidate m 12 else none
+accepted_source v m = choose may_accept v then candidate m 12 else None
 
 -- ---- acceptance
 

@@ -1,16 +1,15 @@
 -- The nops that must follow swm, scall, retu and reti (Manual 4.6): how a step compares with one that does not look at them. No definition of the
 -- step rests on these. Assumes nothing.
-use Rattle.std.specs.Prelude.{◌≡◌, List, ℕ, ◌≤◌}
-use Rattle.std.proofs.Math.Option.{none}
+use Rattle.std.specs.Prelude.{◌≡◌, List, ℕ, ◌≤◌, None}
 use Rattle.isa.specs.Operation.{operation_of, properties}
 use Rattle.isa.specs.Decode.{opcode_of, decode}
 use Rattle.machine.specs.Machine.{State, width_of}
-use Rattle.view.specs.View.{Attempt, Found, Raises, Stops, View, view, with_following}
-use Rattle.view.specs.Theorems.{NopAt, FirstOther}
+use Rattle.execute.specs.View.{Attempt, Found, Raises, Stops, View, view, with_following}
+use Rattle.execute.specs.Theorems.{NopAt, FirstOther}
 use Rattle.execute.specs.Decide.{Passes}
-use Rattle.effect.specs.Kind.{Stop}
-use Rattle.effect.specs.Effect.{Raised}
-use Rattle.effect.specs.Apply.{Transition, apply}
+use Rattle.machine.specs.Kind.{Stop}
+use Rattle.machine.specs.Effect.{Raised}
+use Rattle.machine.specs.Apply.{Transition, apply}
 use Rattle.step.specs.Interrupt.{with_requests, accepted_source}
 use Rattle.step.specs.Step.{unclocked_seeing, with_clock, unclocked, step}
 
@@ -47,11 +46,11 @@ NopsKept = (program : List ℕ) (s : State) (requests : ℕ) → NopsFollow prog
 
 -- the step comes to the nops: no interrupt is accepted, and the instruction fetched is available, no transfer in a slot, and its condition not false
 pub record ComesToNops (program : List ℕ) (s : State) (word : ℕ) : Type 0 where
-  pub uninterrupted : accepted_source (view program s) s.machine ≡ none
+  pub uninterrupted : accepted_source (view program s) s.machine ≡ None
   pub fetched : (view program s).fetched ≡ Found word
   pub passes : Passes (view program s) (decode (width_of (view program s).status) word)
 
--- the step, before its clock, that comes of a word that is no nop: an exception, of which EXCEPTION_PC is the instruction's own address (effect/Apply:
+-- the step, before its clock, that comes of a word that is no nop: an exception, of which EXCEPTION_PC is the instruction's own address (machine/Apply:
 -- `raise`), or a stop. s is the state before, and r the same with the requests added
 abbrev pub ComesOf : Attempt (Unit {0}) → (s r : State) → Transition → Type 0
 ComesOf (Found x) s r t = ⊥

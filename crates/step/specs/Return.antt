@@ -4,11 +4,11 @@ use Rattle.word.specs.Flags.{is_among, without_flag}
 use Rattle.machine.specs.Machine.{Machine, State, position_at, with_conditions, with_position, with_psr}
 use Rattle.machine.specs.Control.{control_at, INT_SERV, RETI_ADDR, RETI_PSR, RETI_CR0, RETURNS}
 use Rattle.machine.specs.Stack.{with_stack, kept_status}
-use Rattle.machine.specs.declared.Entry.{Entry}
-use Rattle.formed.specs.Questions.{well_formed}
-use Rattle.effect.specs.Effect.{Next, StoreControl, InterruptReturn}
-use Rattle.effect.specs.Kind as kind
-use Rattle.effect.specs.Apply.{machine_only, apply}
+use Rattle.machine.specs.declared.stack.Entry.{Entry}
+use Rattle.machine.specs.Questions.{well_formed}
+use Rattle.machine.specs.Effect.{Next, StoreControl, InterruptReturn}
+use Rattle.machine.specs.Kind as kind
+use Rattle.machine.specs.Apply.{machine_only, apply}
 
 -- with an empty interrupt stack such a store does what nop does (Manual 5.3)
 abbrev pub IgnoredWhenEmpty : Type 0

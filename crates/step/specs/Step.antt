@@ -1,15 +1,14 @@
 -- One step (Manual 4): an interrupt accepted, an instruction, or an exception, and then a clock of the timers; or a stop, which is no step.
 -- Assumes nothing.
-use Rattle.std.specs.Prelude.{Bool, true, false, List, ℕ}
-use Rattle.std.proofs.Math.Option.{Option, none, some}
+use Rattle.std.specs.Prelude.{Bool, true, false, List, ℕ, Option, None, Some}
 use Rattle.word.specs.Choice.{choose◌then◌else◌}
 use Rattle.machine.specs.Machine.{State}
 use Rattle.timer.specs.Clock.{clock}
-use Rattle.view.specs.View.{View, view}
+use Rattle.execute.specs.View.{View, view}
 use Rattle.execute.specs.Decide.{decide}
-use Rattle.effect.specs.Apply.{Transition, machine_only, apply}
+use Rattle.machine.specs.Apply.{Transition, machine_only, apply}
 use Rattle.step.specs.Interrupt.{with_requests, accepted_source, accept}
-use Rattle.effect.specs.Kind.{Kind, Ordinary, Interrupt, SystemCall, InterruptReturn, Exception, Reset, Stop}
+use Rattle.machine.specs.Kind.{Kind, Ordinary, Interrupt, SystemCall, InterruptReturn, Exception, Reset, Stop}
 
 unfoldable pub is_stop : Kind → Bool
 is_stop Ordinary = false
@@ -22,8 +21,8 @@ is_stop (Stop n) = true
 
 -- the source accepted, or else the instruction
 unfoldable pub interrupt_or : View → (source : Option ℕ) → State → Transition
-interrupt_or v (some n) s = machine_only Interrupt (accept n) s
-interrupt_or v none s = apply (decide v) s
+interrupt_or v (Some n) s = machine_only Interrupt (accept n) s
+interrupt_or v None s = apply (decide v) s
 
 -- with the requests added, and the instruction seeing what `see` shows of the state; a stop leaves everything, requests included, as before it
 abbrev pub unclocked_seeing : (see : State → View) → State → (requests : ℕ) → Transition

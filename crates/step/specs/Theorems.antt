@@ -1,16 +1,15 @@
 -- What is proved of one step: the statements. Worked has its own. Assumes nothing.
-use Rattle.std.specs.Prelude.{◌≡◌, true, false, List, ℕ, ◌<◌}
-use Rattle.std.proofs.Math.Option.{some}
+use Rattle.std.specs.Prelude.{◌≡◌, true, false, List, ℕ, ◌<◌, Some}
 use Rattle.word.specs.Word.{bit_at}
 use Rattle.word.specs.Flags.{is_among}
 use Rattle.machine.specs.Machine.{Machine, State}
 use Rattle.machine.specs.Control.{control_at, reset, INT_MASK, INT_PEND}
 use Rattle.machine.specs.Stack.{sources_of}
 use Rattle.machine.specs.Words.{SOURCES, ZEROS}
-use Rattle.formed.specs.Questions.{well_formed}
+use Rattle.machine.specs.Questions.{well_formed}
 use Rattle.timer.specs.Timer.{enabled}
 use Rattle.timer.specs.Clock.{configuration_of}
-use Rattle.effect.specs.Kind.{Reset}
+use Rattle.machine.specs.Kind.{Reset}
 use Rattle.step.specs.Interrupt.{priority, below_all, candidate}
 use Rattle.step.specs.Step.{is_stop, unclocked, step}
 
@@ -23,7 +22,7 @@ pub record Accepted (m : Machine) (n : ℕ) : Type 0 where
   pub new : is_among n (sources_of m.stack) ≡ false
 
 abbrev pub CandidateAccepted : Type 0
-CandidateAccepted = (m : Machine) (n : ℕ) → candidate m SOURCES ≡ some n → Accepted m n
+CandidateAccepted = (m : Machine) (n : ℕ) → candidate m SOURCES ≡ Some n → Accepted m n
 
 -- a step, in whatever mode, takes a machine for which questions 3 to 5 are all yes to such a machine. So at every step the interrupt stack has as many
 -- entries as INT_SERV has ones, and the RETI_ registers show its top, or 1, 9, 0 when it is empty (Manual 5.3, 6.1)

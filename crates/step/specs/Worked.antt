@@ -6,13 +6,13 @@ use Rattle.isa.specs.declared.operation.Operation.TheVariants.{Add, Sub, Subu, M
 use Rattle.isa.specs.Operation.{properties}
 use Rattle.machine.specs.Machine.{Machine, memory_of, State, PSR, LINK, psr, position_at, with_set2}
 use Rattle.machine.specs.Words.{ZEROS}
-use Rattle.machine.specs.declared.Entry.{Entry}
+use Rattle.machine.specs.declared.stack.Entry.{Entry}
 use Rattle.machine.specs.Stack.{with_stack}
 use Rattle.machine.specs.Control.{control_at, reset, EXCEPTION_CS, EXCEPTION_PC, EXCEPTION_PSR, DMEM_BOUND_LO, DMEM_BOUND_HI, IMEM_BOUND_LO, IMEM_BOUND_HI, INT_SERV, RETURNS}
 use Rattle.codec.specs.Number.{bytes_of}
 use Rattle.step.specs.Step.{step}
 use Rattle.step.specs.AddressOrder.{step_before}
-use Rattle.effect.specs.Kind.{Kind, Ordinary, SystemCall, Exception, Stop}
+use Rattle.machine.specs.Kind.{Kind, Ordinary, SystemCall, Exception, Stop}
 
 pub record Case : Type 0 where
   pub psr : ℕ
