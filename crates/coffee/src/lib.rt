@@ -15,7 +15,7 @@ ghost use Rattle.coffee.specs.Numbers.{answer_numbers, shown, in_numbers, encodi
 ghost use Rattle.machine.specs.Machine.{memory_of};
 ghost use Rattle.machine.specs.Refusal.{refused_by};
 
-use emulator::Answer;
+use emulator::Ran;
 use encoder::{Choice, Guard};
 use isa::Width;
 use machine::Refusal;
@@ -32,7 +32,7 @@ pub struct CoffeeAnswer {
     pub ending: u32,
 }
 
-// What a call that is done or refused answers: 0, or the number of the refusal.
+/// What a call that is done or refused answers: 0, or the number of the refusal.
 fn refusal_number(answer: Result<(), Refusal>) -> u32
     ensures { result ≡ refused_by answer }
 {
@@ -42,21 +42,28 @@ fn refusal_number(answer: Result<(), Refusal>) -> u32
     }
 }
 
-// An answer in numbers.
-fn numbers(a: Answer) -> CoffeeAnswer
-    ensures { result ≡ answer_numbers (reply_of a) }
-{
-    match a {
-        Answer::Refusal(n) => CoffeeAnswer {
-            refusal: n,
-            steps: 0,
-            ending: 0,
-        },
-        Answer::Ran(steps, ending) => CoffeeAnswer {
-            refusal: 0,
-            steps,
-            ending,
-        },
+impl From<Result<Ran, Refusal>> for CoffeeAnswer {
+    ghost use Rattle.std.specs.Prelude.{◌≡◌};
+    ghost use Rattle.emulator.specs.Run.{reply_of};
+    ghost use Rattle.coffee.specs.Numbers.{answer_numbers};
+
+    ghost from_gives = { λ answer numbers. numbers ≡ answer_numbers (reply_of answer) };
+
+    /// An answer in numbers.
+    #[tactic(auto, unfolding(crate::specs::Numbers::answer_numbers))]
+    fn from(answer: Result<Ran, Refusal>) -> Self {
+        match answer {
+            Ok(ran) => CoffeeAnswer {
+                refusal: 0,
+                steps: ran.steps,
+                ending: ran.ending.number(),
+            },
+            Err(why) => CoffeeAnswer {
+                refusal: why.number(),
+                steps: 0,
+                ending: 0,
+            },
+        }
     }
 }
 
@@ -72,7 +79,8 @@ pub extern "C" fn coffee_run(
 ) -> CoffeeAnswer
     ensures { shown result buffer.new (memory_of cells.new) ≡ in_numbers (run_call program.now image.now (memory_of cells.old) (record { requests = requests.now; limit = limit; buffer = buffer.old })) }
 {
-    numbers(emulator::run(program, cells, image, requests, limit, buffer))
+    let answer = emulator::run(program, cells, image, requests, limit, buffer);
+    CoffeeAnswer::from(answer)
 }
 
 /// Writes the image of the machine at reset to the buffer's front.
@@ -80,7 +88,7 @@ pub extern "C" fn coffee_run(
 pub extern "C" fn coffee_reset(buffer: &mut [u8]) -> u32
     ensures { image_outcome result buffer.new ≡ reset_call buffer.old }
 {
-    emulator::reset(buffer)
+    refusal_number(emulator::reset(buffer))
 }
 
 /// Writes the machine of an image of the earlier layout, with dividers 0, to the buffer's front.
@@ -88,7 +96,7 @@ pub extern "C" fn coffee_reset(buffer: &mut [u8]) -> u32
 pub extern "C" fn coffee_carry_over(image: &[u8], buffer: &mut [u8]) -> u32
     ensures { image_outcome result buffer.new ≡ carry_over_call image.now buffer.old }
 {
-    emulator::carry_over(image, buffer)
+    refusal_number(emulator::carry_over(image, buffer))
 }
 
 /// Writes the listing of a program, a line for each instruction word, to the text's front; wide 0 is 16-bit words, any other number 32-bit.
@@ -99,7 +107,7 @@ pub extern "C" fn coffee_listing(program: &[u8], wide: u32, text: &mut [u8]) -> 
     refusal_number(listing::list(program, Width::from(wide != 0), text))
 }
 
-// A word, or 2^32 and the number of a refusal.
+/// A word, or 2^32 and the number of a refusal.
 #[tactic(auto, unfolding(crate::specs::Numbers::encoding_number, encoder::specs::Encode::encoding_of))]
 fn encoding_number(answer: Result<u32, Refusal>) -> u64
     ensures { result ≡ encoding_number (encoding_of answer) }

@@ -8,11 +8,11 @@ use lib.ListN.{length, get_or, drop, get_elem?, length-append, length-drop}
 use lib.Seq.{drop-nil}
 use Rattle.codec.specs.Number.{over}
 use Rattle.machine.specs.Machine.{Machine, State, Memory}
-use Rattle.formed.specs.Questions.{Accepted}
+use Rattle.machine.specs.Questions.{Accepted}
 use Rattle.image.specs.Image.{read_image, write_image}
 use Rattle.image.specs.RoundTrip.{WrittenBack}
 use Rattle.image.proofs.Image.{accepted_formed, write_image_longest, write_image_read_image}
-use Rattle.effect.specs.Apply.{Transition}
+use Rattle.machine.specs.Apply.{Transition}
 use Rattle.emulator.specs.Run.{Call, run_by, run, RunResult, result_of, result_from, Asked, No, Start, asked, RefusedWith, RanFor, outcome, called_by, called, run_call, state_with}
 use Rattle.emulator.specs.Questions.{FirstNo}
 use Rattle.emulator.specs.Closure.{Unchanged, Refusals, Written, Ended, limit_reached, stopped, RanAs, Completed, NoStep, LimitZero}

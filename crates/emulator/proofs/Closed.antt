@@ -4,11 +4,11 @@ use mathlib.Core.List.{List, [], ◌∷◌, ◌++◌}
 use Prim.Native.Nat.{ℕ}
 use lib.ListN.{get_or}
 use Rattle.machine.specs.Machine.{Machine, State, Memory}
-use Rattle.formed.specs.Questions.{Accepted}
+use Rattle.machine.specs.Questions.{Accepted}
 use Rattle.image.specs.Image.{read_image}
-use Rattle.formed.proofs.Formed.{WellFormed}
+use Rattle.machine.proofs.Formed.{WellFormed}
 use Rattle.image.proofs.Image.{read_back, accepted_formed}
-use Rattle.effect.specs.Apply.{Transition}
+use Rattle.machine.specs.Apply.{Transition}
 use Rattle.step.proofs.Formed.{step_formed}
 use Rattle.emulator.specs.Run.{Call, run, RunResult, result_from, Asked, No, Start, called_by, called, transitions, state_with, asked}
 use Rattle.emulator.specs.Closure.{final, Steps, Left, Closure, Continuity}

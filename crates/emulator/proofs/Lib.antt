@@ -5,6 +5,6 @@ pub mod Loop
 pub mod Questions
 pub mod Closed
 pub mod Answers
-pub mod Asked
 pub mod Running
+pub mod Asked
 pub mod RequiredNops

@@ -8,7 +8,7 @@ use lib.ListN.{get_or}
 use Rattle.word.specs.Choice.{choose◌then◌else◌}
 use Rattle.word.proofs.Tests.{either, if_true}
 use Rattle.machine.specs.Machine.{State}
-use Rattle.effect.specs.Apply.{Transition, stop_number}
+use Rattle.machine.specs.Apply.{Transition, stop_number}
 use Rattle.step.specs.Step.{is_stop, unclocked, step}
 use Rattle.step.proofs.Clocks.{stop_alone, stop_kind}
 use Rattle.emulator.specs.Run.{run_by, run, RunResult, result_of, result_from}

@@ -12,8 +12,8 @@ use Rattle.word.specs.Choice.{choose◌then◌else◌}
 use Rattle.word.proofs.Tests.{and_parts, and_both}
 use Rattle.codec.specs.Number.{numbers_of}
 use Rattle.machine.specs.Machine.{Machine, MOST_MEMORY, Memory}
-use Rattle.formed.specs.Questions.{question3, question4, question5, Refused, Accepted, ask_machine, read_by}
-use Rattle.formed.proofs.Tests.{Passed, no_more, ◌also◌, below_true, true_below}
+use Rattle.machine.specs.Questions.{question3, question4, question5, Refused, Accepted, ask_machine, read_by}
+use Rattle.machine.proofs.Tests.{Passed, no_more, ◌also◌, below_true, true_below}
 use Rattle.image.specs.Image.{LONGEST, machine_in, question2, read_where, read_image}
 use Rattle.emulator.specs.Run.{Call, MOST_STEPS, answers, first_no, No, Start, asked_by, ask, asked}
 use Rattle.emulator.specs.Questions.{FirstNoAt, FirstNo, AllYes, Questions}

@@ -5,7 +5,7 @@ use Prim.Native.Nat.{zero, suc}
 use lib.ListN.{get_or}
 use Rattle.word.specs.Choice.{choose◌then◌else◌}
 use Rattle.word.proofs.Tests.{if_else}
-use Rattle.effect.specs.Apply.{Transition}
+use Rattle.machine.specs.Apply.{Transition}
 use Rattle.step.specs.Step.{is_stop, step}
 use Rattle.step.specs.RequiredNops.{step_unchecked}
 use Rattle.step.proofs.RequiredNops.{nops_kept}

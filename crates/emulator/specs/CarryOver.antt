@@ -2,7 +2,7 @@
 use Rattle.std.specs.Prelude.{◌≡◌, Bool, true, List, [], ◌∷◌, ℕ, ◌≤◌, ◌<◌, length, get_or}
 use Rattle.codec.specs.Number.{numbers_of, over}
 use Rattle.machine.specs.Machine.{Machine}
-use Rattle.formed.specs.Questions.{question3, question4, question5, Read, Refused, Accepted}
+use Rattle.machine.specs.Questions.{question3, question4, question5, Read, Refused, Accepted}
 use Rattle.image.specs.Image.{LONGEST, write_image}
 use Rattle.image.specs.Earlier.{earlier_in, earlier2, read_earlier, extended, Extended}
 use Rattle.emulator.specs.Outcome.{ImageOutcome, image_outcome, image_call}

@@ -3,10 +3,10 @@ use Rattle.std.specs.Prelude.{◌≡◌, true, List, [], ◌∷◌, ℕ, suc, �
 use Rattle.std.proofs.Math.ListN.{get_elem?}
 use Rattle.word.specs.Flags.{is_among}
 use Rattle.machine.specs.Machine.{Machine, Memory, State}
-use Rattle.formed.specs.Questions.{Accepted}
+use Rattle.machine.specs.Questions.{Accepted}
 use Rattle.image.specs.Image.{read_image}
-use Rattle.effect.specs.Kind.{STOPS}
-use Rattle.effect.specs.Apply.{Transition}
+use Rattle.machine.specs.Kind.{STOPS}
+use Rattle.machine.specs.Apply.{Transition}
 use Rattle.step.specs.Step.{is_stop, step}
 use Rattle.emulator.specs.Run.{Call, No, Start, asked, RefusedWith, RanFor, state_with, Called, called, transitions}
 

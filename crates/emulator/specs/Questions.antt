@@ -1,7 +1,7 @@
 -- Which calls are refused, with which number, and which are not (Manual 9.1, 9.2). Assumes nothing.
 use Rattle.std.specs.Prelude.{◌≡◌, Bool, true, false, ◌↔◌, List, ℕ, ◌-◌, ◌≤◌, ◌<◌, length, get_or}
 use Rattle.machine.specs.Machine.{Machine, MOST_MEMORY, Memory}
-use Rattle.formed.specs.Questions.{Accepted}
+use Rattle.machine.specs.Questions.{Accepted}
 use Rattle.image.specs.Image.{LONGEST, read_image}
 use Rattle.emulator.specs.Run.{Call, MOST_STEPS, answers, No, Start, asked}
 

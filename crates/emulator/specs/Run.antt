@@ -1,14 +1,18 @@
 -- A run call (Manual 9.3), and lists of run calls on one machine (Manual 10.1). Assumes nothing.
-use Rattle.std.specs.Prelude.{Bool, ◌&&◌, List, [], ◌∷◌, ◌++◌, ℕ, zero, suc, length, get_or, leb}
+use Rattle.std.specs.Prelude.{Bool, ◌&&◌, List, [], ◌∷◌, ◌++◌, ℕ, zero, suc, length, get_or, leb, Result, Ok, Err}
 use Rattle.word.specs.Choice.{choose◌then◌else◌}
 use Rattle.codec.specs.Number.{numbers_of, over}
 use Rattle.machine.specs.Machine.{Machine, MOST_MEMORY, Memory, State}
-use Rattle.formed.specs.Questions.{all_below, question3, question4, question5}
+use Rattle.machine.specs.Questions.{all_below, question3, question4, question5}
 use Rattle.image.specs.Image.{LONGEST, machine_in, question2, write_image}
-use Rattle.effect.specs.Apply.{Transition, stop_number}
+use Rattle.machine.specs.Apply.{Transition, stop_number}
 use Rattle.step.specs.Step.{is_stop, step}
-use Rattle.emulator.specs.declared.Answer.{Answer}
-use Rattle.emulator.specs.declared.Answer.TheVariants.{Refusal, Ran}
+use Rattle.machine.specs.Fault.{number_of_stop}
+use Rattle.machine.specs.Refusal.{number_of}
+use Rattle.machine.specs.declared.refusal.Refusal.{Refusal}
+use Rattle.emulator.specs.declared.Ran.{Ran}
+use Rattle.emulator.specs.declared.Ending.{Ending}
+use Rattle.emulator.specs.declared.Ending.TheVariants.{Limit, Stopped}
 
 -- what each call of a list has of its own: requests, step limit and image buffer
 pub record Call : Type 0 where
@@ -67,6 +71,10 @@ answers programBytes cells image requests limit room =
     leb LONGEST room ∷  -- 8
     []
 
+-- those to 6 to 8 alone
+abbrev pub call_answers : (requests : List ℕ) (limit room : ℕ) → List Bool
+call_answers requests limit room = all_below 0x1000 requests ∷ leb limit MOST_STEPS ∷ leb LONGEST room ∷ []
+
 -- the number of the first no, the questions being numbered from n on; 0 where there is none
 unfoldable pub first_no : (n : ℕ) → List Bool → ℕ
 first_no n [] = 0
@@ -96,10 +104,18 @@ pub data Reply : Type 0 where
   RefusedWith : (number : ℕ) → Reply  -- that of the first no, 1 to 8
   RanFor : (steps ending : ℕ) → Reply  -- the ending is 0 where the limit is reached, or the stop's number
 
--- the number and values of each case of the code's answer
-unfoldable pub reply_of : Answer → Reply
-reply_of (Refusal n) = RefusedWith n
-reply_of (Ran steps ending) = RanFor steps ending
+-- the number of what ended the steps: 0 for the limit, or the stop's
+abbrev pub ending_number : Ending → ℕ
+ending_number Limit = 0
+ending_number (Stopped stop) = number_of_stop stop
+
+-- the same by the steps that were done, and by a function's answer
+abbrev pub reply_to : Ran → Reply
+reply_to ran = RanFor ran.steps (ending_number ran.ending)
+
+abbrev pub reply_of : Result Ran Refusal → Reply
+reply_of (Ok ran) = reply_to ran
+reply_of (Err why) = RefusedWith (number_of why)
 
 -- the answer that the steps of a call give, and the state that they leave
 pub record RunEnd : Type 0 where
@@ -162,5 +178,5 @@ transitions program image memory (c ∷ cs) =
 
 -- to unfold all of these
 unfoldable pub running : Unit {0}
-unfolding run_by run result_of result_from answers first_no asked_by ask asked reply_of called_by called run_call transitions
+unfolding run_by run result_of result_from answers first_no asked_by ask asked called_by called run_call transitions
 running = tt

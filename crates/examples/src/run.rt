@@ -1,10 +1,11 @@
 //! A run of a program from reset, and what is left after it.
-use emulator::Answer;
+use emulator::Ran;
+use machine::Refusal;
 
 /// What a run answered, and the image that it left at the front of the longest image's bytes.
 #[derive(Drop)]
 pub(crate) struct Run {
-    answer: Answer,
+    answer: Result<Ran, Refusal>,
     image: [u8; image::LONGEST],
 }
 
@@ -28,7 +29,7 @@ impl Run {
     /// What a name says of the image: a number of it, or whether it is that at reset. A name that is not known says nothing.
     pub(crate) fn value(&self, name: &[u8], names: &[&[u8]]) -> Option<u32> {
         match names.iter().position(|known| *known == name) {
-            Some(entry) if entry < machine::WORDS => {
+            Some(entry) if entry < machine::words::WORDS => {
                 Some(codec::number_at(&self.image, 4 * entry))
             }
             _ if name == b"image".as_slice() => Some(u32::from(self.is_reset())),

@@ -1,24 +1,29 @@
--- The buffers of the run program: an image at the front of one, and a whole one read as words. Assumes nothing.
-use mathlib.Core.Path.{◌≡◌, ap, ◌∙◌}
-use mathlib.Core.List.{List, ◌++◌, append-nil}
-use Prim.Native.Nat.{ℕ}
+-- The buffers of the run program: an image at the front of one, and the program counter that it says. Assumes nothing.
+use mathlib.Core.Path.{◌≡◌, sym, ap, ◌∙◌}
+use mathlib.Core.List.{List}
+use Prim.Native.Nat.{ℕ, ◌*◌}
 use native.Mathlib.Omega.{arith}
-use lib.ListN.{length, take, replicate, drop_of_length-le}
-use Rattle.codec.specs.Number.{numbers_of, over}
-use Rattle.codec.proofs.Laws.{length_numbers_of, take_over}
+use lib.Dec.{lit<}
+use lib.ListN.{length, get_or, take}
+use Rattle.codec.specs.Number.{number_at, numbers_of, over}
+use Rattle.codec.proofs.Laws.{get_d_numbers_of, take_over}
 use Rattle.machine.specs.Control.{reset}
-use Rattle.machine.specs.Words.{WORDS}
-use Rattle.image.specs.Image.{write_image, SHORTEST, LONGEST}
-use Rattle.formed.proofs.Formed.{formed_counts, reset_formed}
+use Rattle.machine.specs.Words.{PLACES, position_of}
+use Rattle.machine.proofs.Flat.{section_at}
+use Rattle.image.specs.Image.{write_image, POSITION_AT, SHORTEST, LONGEST, machine_with, machine_in}
+use Rattle.runner.specs.Report.{pc_of}
+use Rattle.machine.proofs.Formed.{formed_counts, reset_formed}
 use Rattle.image.proofs.Image.{image_length}
 
--- a list laid over another of its length
-over_whole : (front s : List ℕ) → length front ≡ length s → over front s ≡ front
-over_whole front s h = ap (λ t. front ++ t) (drop_of_length-le s {i = length front} (omega arith)) ∙ append-nil front
+-- the program counter of the machine that numbers say is one of them
+pub pc_at : (numbers : List ℕ) → (machine_in numbers).position.pc ≡ get_or numbers POSITION_AT 0
+unfolding machine_in machine_with position_of
+pc_at numbers = section_at numbers POSITION_AT PLACES 0 (lit< tt)
 
--- a buffer as long as the longest image is as many numbers as the machine has words
-pub numbers_fill : (buffer : List ℕ) → length buffer ≡ LONGEST → over (numbers_of buffer) (replicate WORDS 0) ≡ numbers_of buffer
-numbers_fill buffer h = over_whole (numbers_of buffer) (replicate WORDS 0) (omega (arith, length_numbers_of buffer))
+-- and is read from a buffer at its place
+pub pc_read : (buffer : List ℕ) → length buffer ≡ LONGEST → number_at buffer (4 * POSITION_AT) ≡ pc_of buffer
+unfolding pc_of
+pc_read buffer h = sym (pc_at (numbers_of buffer) ∙ get_d_numbers_of buffer POSITION_AT (omega arith))
 
 -- the image at reset has 528 bytes: no entries of the interrupt stack
 pub reset_length : length (write_image reset) ≡ SHORTEST

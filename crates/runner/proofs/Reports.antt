@@ -1,30 +1,28 @@
 -- Laws of the report. Assumes nothing.
-use mathlib.Core.Path.{◌≡◌, refl, sym, ap, ◌∙◌}
-use mathlib.Core.Bool.{true, false, ◌&&◌}
+use mathlib.Core.Path.{◌≡◌, sym, ap, ◌∙◌}
+use mathlib.Core.Logic.{inl}
 use mathlib.Core.List.{List, [], ◌++◌}
 use Prim.Native.Nat.{ℕ, ◌≤◌, ◌<◌}
 use native.Mathlib.Omega.{arith}
-use lib.ListN.{length, get_or, take, drop, replicate, get_or-append}
+use lib.ListN.{length, take, drop, replicate, get_or-append}
 use lib.Seq.{length-take-le, take_all}
-use lib.Dec.{leb, lit<, lit≤}
-use borrow.Author.Tests.{leb-true, leb-false, le-leb, lt-leb}
+use lib.Dec.{leb, lit≤}
+use borrow.Author.Tests.{leb-true, leb-false, lt-leb}
 use Rattle.word.specs.Choice.{choose◌then◌else◌}
 use Rattle.word.proofs.Tests.{either}
 use Rattle.codec.specs.Number.{numbers_of, over}
 use Rattle.codec.proofs.Laws.{numbers_of_bytes_of, numbers_of_append}
-use Rattle.machine.specs.Machine.{Machine, MOST_MEMORY, Memory}
+use Rattle.machine.specs.Machine.{Machine, Memory}
 use Rattle.machine.specs.Control.{reset}
-use Rattle.machine.specs.Words.{PLACES, position_of}
-use Rattle.machine.proofs.Flat.{section_at}
-use Rattle.formed.specs.Questions.{all_below, read_by}
-use Rattle.image.specs.Image.{image_numbers, write_image, POSITION_AT, LONGEST, machine_with, machine_in}
-use Rattle.formed.proofs.Formed.{WellFormed, formed_counts, reset_formed}
+use Rattle.machine.specs.Questions.{all_below}
+use Rattle.image.specs.Image.{image_numbers, write_image, POSITION_AT, LONGEST, machine_in}
+use Rattle.machine.proofs.Formed.{WellFormed, formed_counts, reset_formed}
 use Rattle.image.proofs.Sections.{machine_in_image_numbers, length_image_numbers}
 use Rattle.image.proofs.Image.{image_length, image_numbers_below, reset_accepted}
-use Rattle.emulator.specs.Run.{No, asked_by, asked, Reply, Outcome, outcome, run_call, state_with, result_from}
+use Rattle.emulator.specs.Run.{MOST_STEPS, first_no, asked_by, Reply, RefusedWith, Outcome, outcome, run_call, state_with, result_from}
 use Rattle.emulator.specs.Questions.{AllYes, Questions}
 use Rattle.emulator.proofs.Questions.{questions}
-use Rattle.emulator.proofs.Asked.{sizes_no, past_image, limit_no}
+use Rattle.emulator.proofs.Asked.{sizes_no, past_accepted}
 use Rattle.emulator.proofs.Closed.{result_formed}
 use Rattle.emulator.proofs.Answers.{call_refused, call_started}
 use Rattle.console.specs.Digits.{digit_of, digits_of, places_from}
@@ -32,6 +30,7 @@ use Rattle.console.specs.Limit.{bad_limit, limit_number}
 use Rattle.console.specs.Line.{ran_text, refusal_text}
 use Rattle.std.specs.Option.{unwrap_or}
 use Rattle.console.proofs.Limits.{limit_front}
+use Rattle.runner.proofs.Buffers.{pc_at}
 use Rattle.runner.specs.Report.{zero_memory, pc_of, answer_text, call_of, outcome_of, report_of}
 use Rattle.runner.specs.Reports.{ReportLong, ReportUnlimited, ReportRan, ReportFronts}
 
@@ -53,31 +52,23 @@ report_by_limit code text other e = rw e
 
 -- ---- refusals
 
-report_refused : (code text : List ℕ) (n : ℕ) → asked code (write_image reset) zero_memory (call_of text) ≡ No n → report_of code text ≡ refusal_text n
+report_refused : (code text : List ℕ) (n : ℕ) → outcome (RefusedWith n) (replicate LONGEST 0) zero_memory ≡ run_call code (write_image reset) zero_memory (call_of text)
+    → report_of code text ≡ refusal_text n
 unfolding report_of outcome_of answer_text
-report_refused code text n e = rw (call_refused code (write_image reset) zero_memory (call_of text) n e)
+report_refused code text n e = ap (λ (o : Outcome). answer_text o.answer o.buffer) (sym e)
 
 pub report_long : ReportLong
-unfolding ReportLong asked asked_by choose◌then◌else◌ refusal_text digits_of digit_of places_from
+unfolding ReportLong call_of refusal_text digits_of digit_of places_from
 report_long code text h =
-    let c = call_of text in
-    let no : (leb (length code) MOST_MEMORY && leb (length zero_memory.cells) MOST_MEMORY) ≡ false = rw (lt-leb (length code) MOST_MEMORY h) in
-    report_refused code text 1 (sym (sizes_no (length code) (length zero_memory.cells) (write_image reset) c.requests c.limit (length c.buffer) reset no))
+    report_refused code text 1 (sizes_no code zero_memory.cells (write_image reset) [] (limit_number text) (replicate LONGEST 0) (inl h))
 
 pub report_unlimited : ReportUnlimited
-unfolding ReportUnlimited asked asked_by read_by call_of all_below choose◌then◌else◌ refusal_text digits_of digit_of places_from
+unfolding ReportUnlimited call_of first_no asked_by all_below choose◌then◌else◌ refusal_text digits_of digit_of places_from
 report_unlimited code text h l =
-    let yes : (leb (length code) MOST_MEMORY && leb (length zero_memory.cells) MOST_MEMORY) ≡ true = rw (le-leb (length code) MOST_MEMORY h) in
-    report_refused code text 7
-    (past_image (length code) (length zero_memory.cells) (write_image reset) [] (limit_number text) LONGEST reset yes 0 (sym reset_accepted) refl
-    ∙ sym (limit_no [] (limit_number text) LONGEST reset refl l))
+    let a = past_accepted code zero_memory.cells (write_image reset) [] (limit_number text) (replicate LONGEST 0) h (lit≤ tt) reset reset_accepted in
+    report_refused code text 7 (sym (call_refused code (write_image reset) zero_memory (call_of text) 7 (a ∙ rw (lt-leb (limit_number text) MOST_STEPS l))))
 
 -- ---- a call that runs
-
--- the program counter that is read is that of the machine whose image is at the front
-pc_at : (numbers : List ℕ) → (machine_in numbers).position.pc ≡ get_or numbers POSITION_AT 0
-unfolding machine_in machine_with position_of
-pc_at numbers = section_at numbers POSITION_AT PLACES 0 (lit< tt)
 
 module _ (m : Machine) (s : List ℕ) (f : WellFormed m) where
   abbrev further : List ℕ

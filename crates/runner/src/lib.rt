@@ -1,5 +1,5 @@
 //! The run program: runs code.bin from reset for the steps that limit.txt says, and prints the answer (Manual 15.1).
-#![tactic(auto)]
+#![tactic(auto, unfolding(crate::specs::Report::answer_text))]
 
 ghost use Rattle.std.specs.Prelude.{◌≡◌, length, replicate};
 ghost use Rattle.codec.specs.Number.{over};
@@ -10,7 +10,8 @@ ghost use Rattle.std.specs.Counts.{IsPrefixLen};
 ghost use Rattle.runner.specs.Report.{pc_of, answer_text, report_of};
 
 use console::Line;
-use emulator::Answer;
+use emulator::Ran;
+use machine::Refusal;
 use std::fs;
 use std::io::{Print, Read};
 use std::rt::Files;
@@ -18,32 +19,33 @@ use std::rt::Files;
 // ---- the report
 
 /// The machine image at reset, at the front of the longest image's 720 bytes; the bytes behind it are 0.
+#[tactic(auto, unfolding(emulator::specs::Reset::reset_call, emulator::specs::Outcome::image_call, word::specs::Choice::choices))]
 pub fn reset_image() -> [u8; image::LONGEST]
     ensures { result ≡ over (write_image resetOf) (replicate LONGEST 0) }
 {
     let mut bytes = [0u8; image::LONGEST];
-    emulator::reset(&mut bytes);
+    // There is room for the image.
+    let _ = emulator::reset(&mut bytes);
     bytes
 }
 
-// The program counter that an image at the front of a buffer says.
+/// The program counter that an image at the front of a buffer says.
+#[tactic(auto, using(crate::proofs::Buffers::pc_read))]
 fn pc(buffer: &[u8]) -> u32
     requires { length buffer.now ≡ LONGEST }
     ensures { result ≡ pc_of buffer.now }
 {
-    let mut words = [0u32; machine::WORDS];
-    codec::read_numbers(buffer, &mut words);
-    machine::pc(&words)
+    codec::number_at(buffer, 4 * machine::words::POSITION)
 }
 
 /// The line for an answer and the buffer that holds the new image: steps, ending and PC; of a refusal its number alone.
-pub fn line(answer: Answer, buffer: &[u8]) -> Line
+pub fn line(answer: Result<Ran, Refusal>, buffer: &[u8]) -> Line
     requires { length buffer.now ≡ LONGEST }
     ensures { result.bytes ≡ answer_text (reply_of answer) buffer.now }
 {
     match answer {
-        Answer::Refusal(n) => console::refusal_line(n),
-        Answer::Ran(steps, ending) => console::ran_line(steps, ending, pc(buffer)),
+        Ok(ran) => console::ran_line(ran.steps, ran.ending.number(), pc(buffer)),
+        Err(why) => console::refusal_line(why.number()),
     }
 }
 
@@ -70,7 +72,7 @@ pub fn report(code: &[u8], text: &[u8]) -> Line
 
 // ---- files
 
-// Reads until the buffer is full, the file ends or a read fails, and answers how many bytes it put at the buffer's front.
+/// Reads until the buffer is full, the file ends or a read fails, and answers how many bytes it put at the buffer's front.
 fn read_full(file: &mut impl Read, buffer: &mut [u8]) -> usize
     ensures { IsPrefixLen result buffer.new }
 {
