@@ -125,16 +125,13 @@ impl Choice {
     fn has_form(self, width: Width) -> bool
         ensures { result ≡ chosen_form width self.operation (given self.condition) }
     {
-        match Operation::try_from(self.operation) {
-            Ok(operation) => {
-                let conditional = match width {
-                    Width::Narrow => false,
-                    Width::Wide => operation.is_conditional(),
-                };
-                operation.has_form(width) && (self.condition.is_none() || conditional)
-            }
-            Err(_) => false,
-        }
+        Operation::try_from(self.operation).is_ok_and(|operation| {
+            let conditional = match width {
+                Width::Narrow => false,
+                Width::Wide => operation.is_conditional(),
+            };
+            operation.has_form(width) && (self.condition.is_none() || conditional)
+        })
     }
 
     /// The bits of its operands in those fields.
@@ -152,20 +149,14 @@ impl Choice {
     fn condition_fits(self) -> bool
         ensures { result ≡ guard_fits self.condition }
     {
-        match self.condition {
-            Some(guard) => guard.fits(),
-            None => true,
-        }
+        self.condition.is_none_or(Guard::fits)
     }
 
     /// The bits of its condition; without one there are none.
     fn condition_bits(self) -> u32
         ensures { result ≡ guard_bits self.condition }
     {
-        match self.condition {
-            Some(guard) => guard.bits(),
-            None => 0,
-        }
+        self.condition.map_or(0, Guard::bits)
     }
 
     /// Whether its numbers fit all their bits.

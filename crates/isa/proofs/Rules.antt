@@ -1,6 +1,5 @@
 -- The table of operations against its rules, each by one computed test; mnemonic_short is for a listing. Assumes nothing.
 use mathlib.Core.Path.{◌≡◌, refl}
-use mathlib.Core.Logic.{◌≢◌}
 use mathlib.Core.Bool.{Bool, true, false, ◌||◌, and-false}
 use Prim.Native.Nat.{ℕ, ◌≤◌, ◌<◌}
 use native.Mathlib.Omega.{arith}
@@ -8,10 +7,8 @@ use lib.Dec.{leb, ltb, eqb}
 use lib.ListN.{length}
 use borrow.Author.Tests.{leb-true, ltb-true, le-leb, lt-leb, ne_eqb}
 use Rattle.word.specs.Choice.{choose◌then◌else◌}
-use Rattle.isa.specs.declared.width.Width.{Width}
-use Rattle.isa.specs.declared.width.Width.TheVariants.{Narrow, Wide}
 use Rattle.isa.specs.declared.flow.Flow.TheVariants.{Straight}
-use Rattle.isa.specs.Operation.{operation_of, width_by, Availability, anywhere, wide_only, super_only, unavailable, code_of, properties}
+use Rattle.isa.specs.Operation.{operation_of, width_by, unavailable, code_of, properties}
 use Rattle.isa.specs.Computed.{instructions}
 use Rattle.isa.specs.Theorems.{Numbered, between, ConditionalIs, TransferIs, nops_by, NopsAre, flow_by, FlowIs, code_at, code_by, UnavailableIs}
 use Rattle.isa.proofs.Table.{values, agree, by_number}

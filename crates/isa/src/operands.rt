@@ -57,17 +57,23 @@ impl BitRange {
     }
 }
 
-impl Operand {
-    /// A register whose number stands in bits high to low.
-    fn register(role: Role, width: Width, high: u32, low: u32) -> Option<Self>
-        requires { (low ≤ high) × (high < 32) }
-        ensures { result ≡ Some (record { role = role; field = record { low = range_of (bits high to low); high = range_of no_bits; reading = register_reading width } }) }
+impl Reading {
+    /// How the numbers of registers are read in words of a width.
+    fn of_registers(width: Width) -> Self
+        ensures { result ≡ register_reading width }
     {
-        let reading = match width {
+        match width {
             Width::Narrow => Reading::High,
             Width::Wide => Reading::Natural,
-        };
-        let low = BitRange::new(high, low);
+        }
+    }
+}
+
+impl Operand {
+    /// An operand in neighbouring bits.
+    fn bits(role: Role, reading: Reading, low: BitRange) -> Option<Self>
+        ensures { result ≡ Some (record { role = role; field = record { low = low; high = range_of no_bits; reading = reading } }) }
+    {
         Some(Operand {
             role,
             field: OperandField {
@@ -78,30 +84,18 @@ impl Operand {
         })
     }
 
-    /// Another operand in bits high to low.
-    fn bits(role: Role, reading: Reading, high: u32, low: u32) -> Option<Self>
-        requires { (low ≤ high) × (high < 32) }
-        ensures { result ≡ Some (record { role = role; field = record { low = range_of (bits high to low); high = range_of no_bits; reading = reading } }) }
+    /// A register, whose number stands in neighbouring bits.
+    fn register(role: Role, width: Width, number: BitRange) -> Option<Self>
+        ensures { result ≡ Some (record { role = role; field = record { low = number; high = range_of no_bits; reading = register_reading width } }) }
     {
-        let low = BitRange::new(high, low);
-        Some(Operand {
-            role,
-            field: OperandField {
-                low,
-                high: BitRange::NONE,
-                reading,
-            },
-        })
+        Operand::bits(role, Reading::of_registers(width), number)
     }
 
     /// What an operand is, where there is one.
     fn role_of(operand: Option<Self>) -> Option<Role>
         ensures { result ≡ role_in operand }
     {
-        match operand {
-            Some(operand) => Some(operand.role),
-            None => None,
-        }
+        operand.map(|operand| operand.role)
     }
 
     /// The immediate of nine bits in 32-bit words, in two pieces.
@@ -123,10 +117,10 @@ impl Form {
         requires { Counted self }
         ensures { result ≡ operands_in Wide self }
     {
-        let dreg = Operand::register(Role::Dreg, Width::Wide, 14, 10);
-        let sreg1 = Operand::register(Role::Sreg1, Width::Wide, 9, 5);
-        let sreg2 = Operand::register(Role::Sreg2, Width::Wide, 4, 0);
-        let creg = Operand::register(Role::Creg, Width::Wide, 24, 22);
+        let dreg = Operand::register(Role::Dreg, Width::Wide, BitRange::new(14, 10));
+        let sreg1 = Operand::register(Role::Sreg1, Width::Wide, BitRange::new(9, 5));
+        let sreg2 = Operand::register(Role::Sreg2, Width::Wide, BitRange::new(4, 0));
+        let creg = Operand::register(Role::Creg, Width::Wide, BitRange::new(24, 22));
         let signed = Operand::nine_bits(Reading::Signed);
         let unsigned = Operand::nine_bits(Reading::Natural);
         match self {
@@ -141,29 +135,29 @@ impl Form {
             Form::SignedImmediate | Form::Memory => [dreg, sreg1, signed, None],
             Form::UnsignedImmediate => [dreg, sreg1, unsigned, None],
             Form::Count(n) => {
-                let count = Operand::bits(Role::Imm, Reading::Natural, n - 1, 0);
+                let count = Operand::bits(Role::Imm, Reading::Natural, BitRange::new(n - 1, 0));
                 [dreg, sreg1, count, None]
             }
             Form::BitField => {
-                let length = Operand::bits(Role::Length, Reading::Natural, 24, 19);
-                let position = Operand::bits(Role::Position, Reading::Natural, 4, 0);
+                let length = Operand::bits(Role::Length, Reading::Natural, BitRange::new(24, 19));
+                let position = Operand::bits(Role::Position, Reading::Natural, BitRange::new(4, 0));
                 [dreg, sreg1, length, position]
             }
             Form::Halfword => {
-                let dreg = Operand::register(Role::Dreg, Width::Wide, 20, 16);
-                let halfword = Operand::bits(Role::Imm, Reading::Natural, 15, 0);
+                let dreg = Operand::register(Role::Dreg, Width::Wide, BitRange::new(20, 16));
+                let halfword = Operand::bits(Role::Imm, Reading::Natural, BitRange::new(15, 0));
                 [dreg, halfword, None, None]
             }
             Form::Jump => {
-                let offset = Operand::bits(Role::Imm, Reading::Signed, 24, 0);
+                let offset = Operand::bits(Role::Imm, Reading::Signed, BitRange::new(24, 0));
                 [offset, None, None, None]
             }
             Form::Branch => {
-                let offset = Operand::bits(Role::Imm, Reading::Signed, 21, 0);
+                let offset = Operand::bits(Role::Imm, Reading::Signed, BitRange::new(21, 0));
                 [creg, offset, None, None]
             }
             Form::LowBits(n) => {
-                let number = Operand::bits(Role::Imm, Reading::Natural, n - 1, 0);
+                let number = Operand::bits(Role::Imm, Reading::Natural, BitRange::new(n - 1, 0));
                 [number, None, None, None]
             }
         }
@@ -174,8 +168,8 @@ impl Form {
         requires { Counted self }
         ensures { result ≡ operands_in Narrow self }
     {
-        let dreg = Operand::register(Role::Dreg, Width::Narrow, 2, 0);
-        let sreg1 = Operand::register(Role::Sreg1, Width::Narrow, 5, 3);
+        let dreg = Operand::register(Role::Dreg, Width::Narrow, BitRange::new(2, 0));
+        let sreg1 = Operand::register(Role::Sreg1, Width::Narrow, BitRange::new(5, 3));
         match self {
             Form::NoOperands | Form::BitField | Form::Halfword => [None, None, None, None],
             Form::ThreeRegisters | Form::ReversedRegisters | Form::TwoRegisters => {
@@ -184,36 +178,36 @@ impl Form {
             Form::Destination => [dreg, None, None, None],
             Form::Source => [sreg1, None, None, None],
             Form::CompareRegisters => {
-                let sreg2 = Operand::register(Role::Sreg2, Width::Narrow, 2, 0);
+                let sreg2 = Operand::register(Role::Sreg2, Width::Narrow, BitRange::new(2, 0));
                 [sreg1, sreg2, None, None]
             }
             Form::CompareImmediate => {
-                let sreg1 = Operand::register(Role::Sreg1, Width::Narrow, 2, 0);
-                let immediate = Operand::bits(Role::Imm, Reading::Signed, 9, 3);
+                let sreg1 = Operand::register(Role::Sreg1, Width::Narrow, BitRange::new(2, 0));
+                let immediate = Operand::bits(Role::Imm, Reading::Signed, BitRange::new(9, 3));
                 [sreg1, immediate, None, None]
             }
             Form::SignedImmediate => {
-                let immediate = Operand::bits(Role::Imm, Reading::Signed, 9, 3);
+                let immediate = Operand::bits(Role::Imm, Reading::Signed, BitRange::new(9, 3));
                 [dreg, immediate, None, None]
             }
             Form::UnsignedImmediate => {
-                let immediate = Operand::bits(Role::Imm, Reading::Natural, 9, 3);
+                let immediate = Operand::bits(Role::Imm, Reading::Natural, BitRange::new(9, 3));
                 [dreg, immediate, None, None]
             }
             Form::Count(n) => {
-                let count = Operand::bits(Role::Imm, Reading::Natural, n + 2, 3);
+                let count = Operand::bits(Role::Imm, Reading::Natural, BitRange::new(n + 2, 3));
                 [dreg, count, None, None]
             }
             Form::Memory => {
-                let offset = Operand::bits(Role::Imm, Reading::Signed, 9, 6);
+                let offset = Operand::bits(Role::Imm, Reading::Signed, BitRange::new(9, 6));
                 [dreg, sreg1, offset, None]
             }
             Form::Jump | Form::Branch => {
-                let offset = Operand::bits(Role::Imm, Reading::Signed, 9, 0);
+                let offset = Operand::bits(Role::Imm, Reading::Signed, BitRange::new(9, 0));
                 [offset, None, None, None]
             }
             Form::LowBits(n) => {
-                let number = Operand::bits(Role::Imm, Reading::Natural, n - 1, 0);
+                let number = Operand::bits(Role::Imm, Reading::Natural, BitRange::new(n - 1, 0));
                 [number, None, None, None]
             }
         }
@@ -232,15 +226,11 @@ impl Operation {
     }
 
     /// What its operand k is to it, k from 0 on, where there is such an operand.
+    #[tactic(auto, using(crate::proofs::Roles::role_within, crate::proofs::Roles::role_past))]
     pub fn operand(self, width: Width, k: usize) -> Option<Role>
         ensures { result ≡ shown_role width self k }
     {
-        let operands = self.operands(width);
-        if k < 4 {
-            Operand::role_of(operands[k])
-        } else {
-            None
-        }
+        Operand::role_of(*self.operands(width).get(k)?)
     }
 
     /// Where its operands stand.
@@ -263,14 +253,12 @@ impl OperandField {
     fn of(operand: Option<Operand>) -> Self
         ensures { result ≡ field_or_none operand }
     {
-        match operand {
-            Some(operand) => operand.field,
-            None => OperandField {
-                low: BitRange::NONE,
-                high: BitRange::NONE,
-                reading: Reading::Natural,
-            },
-        }
+        let absent = OperandField {
+            low: BitRange::NONE,
+            high: BitRange::NONE,
+            reading: Reading::Natural,
+        };
+        operand.map_or(absent, |operand| operand.field)
     }
 }
 
