@@ -15,7 +15,7 @@ use Rattle.isa.specs.declared.operands.Operand.{Operand}
 use Rattle.isa.specs.Operation.{properties}
 use Rattle.isa.specs.Format.{layout_of}
 use Rattle.isa.specs.Shown.{shown_roles}
-use Rattle.isa.specs.Used.{shown_role, fields_for, reading_for}
+use Rattle.isa.specs.Used.{shown_role, roles_at, fields_for, reading_for}
 use Rattle.isa.specs.Places.{field_with, field_or_none, fields_at, operand_for, operands_in, role_in}
 use Rattle.isa.specs.Computed.{instructions}
 
@@ -65,3 +65,18 @@ fields_are width o =
     let f = (properties o).form in
     let rs = (layout_of width f).shown in
     rw (shown_all width o, placed width f (slice_get rs 0), placed width f (slice_get rs 1), placed width f (slice_get rs 2), placed width f (slice_get rs 3)) refl
+
+pub roles_are : (width : Width) (o : Operation) → map role_in (operands_in width (properties o).form) ≡ roles_at width o
+unfolding operands_in
+roles_are width o =
+    let f = (properties o).form in
+    let rs = (layout_of width f).shown in
+    rw (shown_all width o, kept width f (slice_get rs 0), kept width f (slice_get rs 1), kept width f (slice_get rs 2), kept width f (slice_get rs 3)) refl
+
+-- one of them by its number
+pub role_at : (width : Width) (o : Operation) (k : ℕ) (d : Option Role) → k < 4 → slice_index_or (roles_at width o) k d ≡ shown_role width o k
+role_at width o zero d h = refl
+role_at width o (suc zero) d h = refl
+role_at width o (suc (suc zero)) d h = refl
+role_at width o (suc (suc (suc zero))) d h = refl
+role_at width o (suc (suc (suc (suc k)))) d h = absurd (omega arith)

@@ -6,6 +6,7 @@ pub mod Format
 pub mod Decode
 pub mod Shown
 pub mod Used
+pub mod Letters
 pub mod Places
 pub mod Theorems
 pub mod Computed

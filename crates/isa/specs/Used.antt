@@ -1,6 +1,6 @@
 -- The bits of a word that its operation uses: where the operands that a listing shows stand, and how their bits are read. All other bits are
 -- ignored (Manual 2.5). Assumes nothing.
-use Rattle.std.specs.Prelude.{Bool, Option, Some, None, List, [], ◌++◌, ℕ, ◌-◌, ◌^◌, ℤ, pos, neg_ℤ}
+use Rattle.std.specs.Prelude.{Bool, Option, Some, None, List, [], ◌∷◌, ◌++◌, ℕ, ◌-◌, ◌^◌, ℤ, pos, neg_ℤ}
 use Rattle.std.specs.List.{slice_get}
 use Rattle.word.specs.Choice.{choose◌then◌else◌}
 use Rattle.word.specs.Word.{Field}
@@ -22,6 +22,10 @@ use Rattle.isa.specs.Shown.{shown_roles}
 -- operand k, where there is one
 abbrev pub shown_role : Width → Operation → (k : ℕ) → Option Role
 shown_role width o k = slice_get (shown_roles width o) k
+
+-- of all, of which there are at most four
+abbrev pub roles_at : Width → Operation → List (Option Role)
+roles_at width o = shown_role width o 0 ∷ shown_role width o 1 ∷ shown_role width o 2 ∷ shown_role width o 3 ∷ []
 
 -- the fields of an operand; one that is absent has none
 unfoldable pub fields_for : Width → Form → Option Role → List Field

@@ -1,4 +1,7 @@
 //! Which operands an operation has, and how they are read.
+#![tactic(auto)]
+
+ghost use Rattle.std.specs.Prelude.{◌≡◌};
 
 /// The operands of an operation, in the order in which they are written.
 #[derive(Clone, Copy, Debug, PartialEq, Eq)]
@@ -50,6 +53,27 @@ pub enum Role {
     Length,
     /// Of exbfi: the rest of the immediate.
     Position,
+}
+
+impl From<u8> for Role {
+    ghost use Rattle.isa.specs.Letters.{role_of};
+
+    ghost from_gives = { λ letter role. role ≡ role_of letter };
+
+    /// The role that a letter stands for: 0, 1 and 2 for dreg, sreg1 and sreg2, c for creg, i for the immediate, l for a length, and any other
+    /// for a position.
+    #[tactic(auto, unfolding(crate::specs::Letters::role_of, word::specs::Choice::choices))]
+    fn from(letter: u8) -> Self {
+        match letter {
+            b'0' => Role::Dreg,
+            b'1' => Role::Sreg1,
+            b'2' => Role::Sreg2,
+            b'c' => Role::Creg,
+            b'i' => Role::Imm,
+            b'l' => Role::Length,
+            _ => Role::Position,
+        }
+    }
 }
 
 /// How the k bits of an operand are read: as one of 2 ^ k numbers.

@@ -5,7 +5,7 @@ ghost use Rattle.std.specs.Prelude.{◌≡◌, ◌+◌, ◌-◌, ◌≤◌, ◌<
 ghost use Rattle.word.specs.Word.{word_of, bits◌to◌};
 ghost use Rattle.isa.specs.Operation.{properties};
 ghost use Rattle.isa.specs.Shown.{shown_value};
-ghost use Rattle.isa.specs.Used.{register_reading, shown_role};
+ghost use Rattle.isa.specs.Used.{register_reading, shown_role, roles_at};
 ghost use Rattle.isa.specs.declared.width.Width.TheVariants.{Narrow, Wide};
 ghost use Rattle.isa.specs.declared.form.Role.TheVariants.{Imm};
 ghost use Rattle.isa.specs.Places.{no_bits, range_of, fields_at, operands_in, role_in, field_or_none, Counted};
@@ -113,6 +113,7 @@ impl Operand {
 
 impl Form {
     /// The operands of this form in 32-bit words, in the order in which a listing shows them.
+    #[inline(always)]
     fn wide_operands(self) -> [Option<Operand>; 4]
         requires { Counted self }
         ensures { result ≡ operands_in Wide self }
@@ -164,6 +165,7 @@ impl Form {
     }
 
     /// The same in 16-bit words, where the first source is bits 5..3 and the target, which is the second source too, bits 2..0.
+    #[inline(always)]
     fn narrow_operands(self) -> [Option<Operand>; 4]
         requires { Counted self }
         ensures { result ≡ operands_in Narrow self }
@@ -216,6 +218,7 @@ impl Form {
 
 impl Operation {
     /// Its operands in words of a width, in the order in which a listing shows them; of an operation that the width does not have, none.
+    #[inline(always)]
     fn operands(self, width: Width) -> [Option<Operand>; 4]
         ensures { result ≡ operands_in width (properties self).form }
     {
@@ -223,6 +226,21 @@ impl Operation {
             Width::Narrow => self.form().narrow_operands(),
             Width::Wide => self.form().wide_operands(),
         }
+    }
+
+    /// What its operands are to it, in the order in which a listing shows them.
+    // A part of its caller, with all that it calls: where the operands stand is then not computed.
+    #[inline(always)]
+    pub fn roles(self, width: Width) -> [Option<Role>; 4]
+        ensures { result ≡ roles_at width self }
+    {
+        let operands = self.operands(width);
+        [
+            Operand::role_of(operands[0]),
+            Operand::role_of(operands[1]),
+            Operand::role_of(operands[2]),
+            Operand::role_of(operands[3]),
+        ]
     }
 
     /// What its operand k is to it, k from 0 on, where there is such an operand.
