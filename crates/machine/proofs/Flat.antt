@@ -4,12 +4,14 @@ use mathlib.Core.Bool.{Bool, true, false, ◌||◌}
 use mathlib.Core.List.{List, [], ◌∷◌, ◌++◌, reverse, reverse-append, append_assoc}
 use Prim.Native.Nat.{ℕ, zero, suc, ◌+◌, ◌-◌, ◌*◌, ◌≤◌, ◌<◌}
 use native.Mathlib.Omega.{arith}
+use native.Mathlib.Numerals.{add-one}
 use lib.Dec.{leb, lit<}
 use lib.ListN.{length, get_or, set, take, drop, length-drop, length-reverse}
-use lib.Seq.{drop-set-add, drop-set-lt, take-set-le, get_or-set_other, get_or-take, get_or-drop, drop-drop, length-take-le, sets, sets-eq, take_at, drop_at}
+use lib.Seq.{drop-set-add, drop-set-lt, take-set-le, get_or-set_same, get_or-set_other, get_or-take, get_or-drop, drop-drop, length-take-le, sets, sets-eq, length-sets, take_at, drop_at}
 use borrow.Author.Tests.{leb-true}
 use Rattle.machine.specs.Machine.{Machine, with_dividers}
-use Rattle.machine.specs.Words.{SOURCES, TIMERS, DEPTH, ENTRIES, DIVIDERS, WORDS, section, entry_of, words_of, entries_of, machine_of}
+use Rattle.machine.specs.Stack.{popped}
+use Rattle.machine.specs.Words.{SOURCES, TIMERS, DEPTH, ENTRIES, DIVIDERS, WORDS, section, entry_of, words_of, entries_of, machine_of, with_entries}
 use Rattle.machine.specs.declared.stack.Entry.{Entry}
 
 -- ---- one section
@@ -145,7 +147,30 @@ module _ (w : List ℕ) where
   unfolding machine_of
   stack_as n e = rw e
 
--- ---- stores past the stack's count
+  -- the top's four words
+  stack_some : (n : ℕ) → get_or w DEPTH 0 ≡ suc n → (machine_of w).stack ≡ entry_of (section (ENTRIES + 4 * n) 4 w) ∷ stack_of n w
+  stack_some n e = stack_as (suc n) e ∙ stack_top_law n w
+
+-- ---- stores to the stack
+
+-- another count
+pub depth_stored : (w : List ℕ) (n : ℕ) → length w ≡ WORDS → machine_of (set w DEPTH n) ≡ with_entries (stack_of n w) (machine_of w)
+unfolding machine_of with_entries
+depth_stored w n h = simp (store_apart w n DEPTH 1 0 (lit< tt), get_or-set_same w DEPTH n 0 (omega arith), drop-set-lt ENTRIES w DEPTH n (lit< tt))
+
+-- a count one below pops an entry
+pub popped_to : (w : List ℕ) (n : ℕ) → length w ≡ WORDS → get_or w DEPTH 0 ≡ suc n → machine_of (set w DEPTH n) ≡ with_entries (popped (machine_of w).stack) (machine_of w)
+unfolding popped
+popped_to w n h q = depth_stored w n h ∙ ap (λ es. with_entries (popped es) (machine_of w)) (sym (stack_some w n q))
+
+-- stores past the stack's count and before the dividers leave all but the stack
+fill_high : (w : List ℕ) (i : ℕ) (vs : List ℕ) → ENTRIES ≤ i → (m n : ℕ) → leb (m + n) ENTRIES ≡ true → section m n (sets w i vs) ≡ section m n w
+fill_high w i vs h m n e = let l : m + n ≤ ENTRIES = leb-true _ _ e in fill_past w m n i vs (omega arith)
+
+fill_entries : (w : List ℕ) (i : ℕ) (vs : List ℕ) (es : List Entry) → ENTRIES ≤ i → i + length vs ≤ DIVIDERS
+    → with_entries es (machine_of (sets w i vs)) ≡ with_entries es (machine_of w)
+unfolding machine_of with_entries
+fill_entries w i vs es h k = simp (fill_high w i vs h, fill_short w DIVIDERS TIMERS i vs k)
 
 pub depth_past : (w : List ℕ) (i : ℕ) (vs : List ℕ) → ENTRIES ≤ i → get_or (sets w i vs) DEPTH 0 ≡ get_or w DEPTH 0
 depth_past w i vs h =
@@ -167,6 +192,22 @@ module _ (w : List ℕ) (n : ℕ) (e : Entry) (h : length w ≡ WORDS) (room : n
   stack_filled =
       rw (stack_top_law n after, fill_in w (ENTRIES + 4 * n) (words_of e) (omega arith))
       (ap (λ es. e ∷ es) (stack_by n w after (fill_past w ENTRIES (4 * n) (ENTRIES + 4 * n) (words_of e) (omega arith))))
+
+  -- past the last entry, and with a count one above, they push it
+  pub pushed_to : get_or w DEPTH 0 ≡ n → machine_of (set after DEPTH (n + 1)) ≡ with_entries (e ∷ (machine_of w).stack) (machine_of w)
+  pushed_to q =
+      rw (add-one n)
+      (depth_stored after (suc n) (length-sets w (ENTRIES + 4 * n) (words_of e) ∙ h)
+      ∙ ap (λ es. with_entries es (machine_of after)) (stack_filled ∙ ap (λ es. e ∷ es) (sym (stack_as w n q)))
+      ∙ fill_entries w (ENTRIES + 4 * n) (words_of e) (e ∷ (machine_of w).stack) (omega arith) (omega arith))
+
+  -- in place of the last entry they replace it
+  pub replaced_to : get_or w DEPTH 0 ≡ suc n → machine_of after ≡ with_entries (e ∷ popped (machine_of w).stack) (machine_of w)
+  unfolding popped with_entries
+  replaced_to q =
+      ap (λ es. with_entries es (machine_of after)) (stack_as after (suc n) (depth_past w (ENTRIES + 4 * n) (words_of e) (omega arith) ∙ q) ∙ stack_filled)
+      ∙ fill_entries w (ENTRIES + 4 * n) (words_of e) (e ∷ stack_of n w) (omega arith) (omega arith)
+      ∙ ap (λ es. with_entries (e ∷ popped es) (machine_of w)) (sym (stack_some w n q))
 
 -- stores past the last entry leave the stack
 pub stack_past : (w : List ℕ) (i : ℕ) (vs : List ℕ) → length (machine_of w).stack ≤ SOURCES → DIVIDERS ≤ i → (machine_of (sets w i vs)).stack ≡ (machine_of w).stack

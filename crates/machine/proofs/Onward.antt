@@ -1,12 +1,12 @@
 -- Where control goes on, with and without a slot, and after a write. Assumes nothing.
-use Rattle.std.proofs.Common.{◌≡◌, sym, Bool, true, false, Some, None, ℕ, ◌+◌, ◌*◌, ◌%◌, ◌^◌, eqb, ◌≢◌, refl, eq-eqb, ne_eqb}
+use Rattle.std.proofs.Common.{◌≡◌, sym, ap, ◌∙◌, Bool, true, false, Some, None, ℕ, ◌+◌, ◌*◌, ◌%◌, ◌^◌, eqb, ◌≢◌, refl, eq-eqb, ne_eqb}
 use Rattle.std.specs.Prelude.{if◌then◌else◌}
 use Rattle.machine.specs.Position.{slot_of}
 use Rattle.word.specs.Choice.{choose◌then◌else◌}
 use Rattle.isa.specs.Decode.{word_bytes}
-use Rattle.machine.specs.Machine.{Machine, psr, width_of, with_conditions}
-use Rattle.machine.specs.Apply.{write_register, write_flags, words_on, next_pc}
-use Rattle.machine.proofs.Written.{write_psr, write_position}
+use Rattle.machine.specs.Machine.{Machine, psr, width_of, with_conditions, with_position}
+use Rattle.machine.specs.Apply.{write_register, write_flags, words_on, next_pc, advance_holding}
+use Rattle.machine.proofs.Written.{write_psr, write_position, write_moved}
 
 pub in_slot : (m : Machine) → m.position.slot ≡ 1 → next_pc m ≡ m.position.target
 unfolding next_pc choose◌then◌else◌
@@ -28,6 +28,13 @@ next_written m d x = next_by m (write_register d x m) (write_position m d x) (wr
 pub next_flags : (m : Machine) (c f : ℕ) → next_pc (write_flags c f m) ≡ next_pc m
 unfolding write_flags with_conditions psr
 next_flags m c f = next_by m (write_flags c f m) refl refl
+
+-- a register is written before or after a step on that holds a product
+pub held_written : (m : Machine) (d x high low : ℕ) → write_register d x (advance_holding high low m) ≡ advance_holding high low (write_register d x m)
+unfolding advance_holding
+held_written m d x high low =
+    write_moved m d x _
+    ∙ ap (λ pc. with_position (record { pc = pc; slot = 0; target = 0; held = 1; high = high % 2 ^ 32; low = low % 2 ^ 32 }) (write_register d x m)) (sym (next_written m d x))
 
 -- ---- by the slot that waits
 

@@ -108,7 +108,15 @@ is_free depth n = is_among n COUNTS || (leb (ENTRIES + 4 * depth) n && ltb n DIV
 abbrev pub Says : (words : List ℕ) → Machine → Type 0
 Says words m = machine_of words ≡ m
 
+-- the machine with other entries on its stack, and all else as it was
+unfoldable pub with_entries : List Entry → Machine → Machine
+with_entries es m = record { set1 = m.set1; set2 = m.set2; conditions = m.conditions; control = m.control; position = m.position; stack = es; dividers = m.dividers }
+
+-- words say all of a machine but its stack
+abbrev pub SaysRest : (words : List ℕ) → Machine → Type 0
+SaysRest words m = with_entries m.stack (machine_of words) ≡ m
+
 -- to unfold `layout` is to unfold all definitions of this file
 unfoldable pub layout : Unit {0}
-unfolding position_of entries_of machine_of is_free
+unfolding position_of entries_of machine_of is_free with_entries
 layout = tt

@@ -12,7 +12,7 @@ use crate::control::{EXCEP_ADDR, EXCEPTION_CS, EXCEPTION_PC, EXCEPTION_PSR, SYST
 use crate::fault::Exception;
 use crate::machine::Machine;
 use crate::position::Position;
-use crate::registers::{LINK, SPSR};
+use crate::registers::{LINK, RegisterSet, SPSR};
 use crate::status::Status;
 use isa::Width;
 use word::Product;
@@ -85,6 +85,14 @@ impl Machine {
         self.position = Position::at(pc);
     }
 
+    /// The same, with a product held for the next instruction, which may be mulhi (Manual 1.5).
+    pub fn advance_holding(&mut self, product: Product)
+        ensures { self.new ≡ advance_holding product.high product.low self.old }
+    {
+        let pc = self.next_pc();
+        self.position = Position::holding(pc, product);
+    }
+
     /// A taken jump: the next word is its slot (Manual 4.8).
     pub fn jump(&mut self, target: u32)
         ensures { self.new ≡ jump_to target self.old }
@@ -126,13 +134,12 @@ impl Machine {
     }
 
     /// A register takes the low half of a product, which is held for the next step (Manual 1.5).
-    #[tactic(auto, using(crate::proofs::Onward::next_written), unfolding(crate::specs::Machine::states, crate::specs::Position::positions, crate::specs::Apply::applying, isa::specs::Decode::word_bytes, isa::specs::Operation::width_by, word::specs::Choice::choices))]
+    #[tactic(auto, using(crate::proofs::Onward::held_written))]
     pub fn set_product(&mut self, d: u32, product: Product)
         ensures { self.new ≡ advance_holding product.high product.low (write_register d product.low self.old) }
     {
-        let pc = self.next_pc();
+        self.advance_holding(product);
         self.write_register(d, product.low);
-        self.position = Position::holding(pc, product);
     }
 
     /// A condition register takes flags.
@@ -164,7 +171,21 @@ impl Machine {
 
     // ---- changes of mode
 
-    /// An exception: its code, the address and PSR are shown; PC is EXCEP_ADDR (Manual 4.9).
+    /// An exception by a code, of which EXCEPTION_CS takes the low eight bits; the address and PSR are shown, and PC is EXCEP_ADDR (Manual 4.9).
+    pub fn raise_code(&mut self, code: u32)
+        ensures { self.new ≡ raise code self.old }
+    {
+        let address = self.pc();
+        let psr = self.psr();
+        self.control[EXCEPTION_CS] = code % 256;
+        self.control[EXCEPTION_PC] = address;
+        self.control[EXCEPTION_PSR] = psr;
+        self.set_status(Status::super_user());
+        self.position = Position::at(self.control[EXCEP_ADDR]);
+    }
+
+    /// An exception: its code, the address and PSR are shown; PC is EXCEP_ADDR (Manual 4.9). It is written out: by a call of `raise_code` every step would
+    /// take three instructions more.
     #[tactic(auto, using(crate::proofs::Codes::code_byte), unfolding(crate::specs::Machine::states, crate::specs::Position::positions, crate::specs::Apply::applying, isa::specs::Decode::word_bytes, isa::specs::Operation::width_by, word::specs::Choice::choices))]
     pub fn raise(&mut self, exception: Exception)
         ensures { self.new ≡ raise (code_of_exception exception) self.old }
@@ -182,8 +203,9 @@ impl Machine {
         ensures { self.new ≡ system_call self.old }
     {
         let link = self.words_on(2);
-        self.set2[SPSR] = self.psr();
-        self.set2[LINK] = link;
+        let psr = self.psr();
+        self.set_register(RegisterSet::Second, SPSR as u32, psr);
+        self.set_register(RegisterSet::Second, LINK as u32, link);
         self.set_status(Status::super_user());
         self.position = Position::at(self.control[SYSTEM_ADDR]);
     }

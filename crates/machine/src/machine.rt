@@ -1,7 +1,7 @@
 //! The machine, and its parts one by one.
 #![tactic(auto, unfolding(crate::specs::Machine::states, isa::specs::Operation::width_by, word::specs::Choice::choices))]
 
-ghost use Rattle.std.specs.Prelude.{◌≡◌, ◌<◌, [], ◌∷◌, length, get_or, set};
+ghost use Rattle.std.specs.Prelude.{◌≡◌, ⊤, ◌<◌, [], ◌∷◌, length, get_or, set};
 ghost use Rattle.machine.specs.Words.{REGISTERS, FLAGS, OFFSETS, TIMERS};
 
 use crate::control::{DMEM_BOUND_HI, DMEM_BOUND_LO, OFFSETS, RESET, is_within};
@@ -10,6 +10,7 @@ use crate::registers::{FLAGS, PSR, REGISTERS, RegisterSet, SPSR};
 use crate::stack::{Entry, Stack};
 use crate::status::Status;
 use isa::Width;
+use std::alloc::AllocError;
 use std::marker::Model;
 
 /// Bytes of the longest program, and cells of the largest data memory (Manual 1.1 and 1.2).
@@ -40,6 +41,25 @@ impl Model for Machine {
     ghost view = { λ m. record { set1 = m.set1; set2 = m.set2; conditions = m.conditions; control = m.control; position = m.position; stack = m.stack; dividers = m.dividers } };
 
     ghost invariant = { λ m. (length m.set1 ≡ 32) × (length m.set2 ≡ 32) × (length m.conditions ≡ 8) × (length m.control ≡ 45) × (length m.dividers ≡ 2) };
+}
+
+impl Clone for Machine {
+    ghost is_clone = { λ machine other. other ≡ machine };
+
+    ghost is_infallible = { λ _. ⊤ };
+
+    /// An equal machine.
+    fn clone(&self) -> Result<Self, AllocError> {
+        Ok(Machine {
+            set1: self.set1,
+            set2: self.set2,
+            conditions: self.conditions,
+            control: self.control,
+            position: self.position,
+            stack: self.stack.clone()?,
+            dividers: self.dividers,
+        })
+    }
 }
 
 impl Machine {

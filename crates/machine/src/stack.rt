@@ -1,11 +1,12 @@
 //! The stack of interrupts in service.
 #![tactic(auto, unfolding(crate::specs::Stack::stacks))]
 
-ghost use Rattle.std.specs.Prelude.{◌≡◌, ◌<◌, ◌≤◌, ◌∷◌, [], length, reverse, take};
+ghost use Rattle.std.specs.Prelude.{◌≡◌, ⊤, ◌<◌, ◌≤◌, ◌∷◌, [], length, reverse, take};
 ghost use Rattle.machine.specs.Words.{SOURCES};
 ghost use Rattle.machine.specs.Stack.{popped, shown_top};
 ghost use Rattle.machine.specs.Top.{top_of};
 
+use std::alloc::AllocError;
 use std::marker::Model;
 
 /// The interrupt sources; the stack has at most one entry of each (Manual 6.1).
@@ -51,6 +52,20 @@ impl Model for Stack {
     ghost view = { λ s. reverse (take s.depth s.entries) };
 
     ghost invariant = { λ s. length s.entries ≡ 12 };
+}
+
+impl Clone for Stack {
+    ghost is_clone = { λ stack other. other ≡ stack };
+
+    ghost is_infallible = { λ _. ⊤ };
+
+    /// An equal stack.
+    fn clone(&self) -> Result<Self, AllocError> {
+        Ok(Stack {
+            entries: self.entries,
+            depth: self.depth,
+        })
+    }
 }
 
 impl Stack {

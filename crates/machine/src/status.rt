@@ -6,6 +6,22 @@ ghost use Rattle.machine.specs.Machine.{SUPER, status_of, user_mode, wide_words,
 ghost use Rattle.machine.specs.Status.{is_wide, status_in, psr_of};
 
 use isa::Width;
+use word::has_flag;
+
+/// The bits of PSR and SPSR (Manual 1.4). UM: user mode.
+pub const UM: u32 = 0;
+
+/// RSRD: registers are read from set 2.
+pub const RSRD: u32 = 1;
+
+/// RSWR: registers are written in set 2.
+pub const RSWR: u32 = 2;
+
+/// IL: instruction words have 32 bits.
+pub const IL: u32 = 3;
+
+/// IE: interrupts are enabled.
+pub const IE: u32 = 4;
 
 /// What the program status register says (Manual 1.4).
 #[derive(Clone, Copy, Debug, PartialEq, Eq)]
@@ -56,11 +72,11 @@ impl From<u32> for Status {
     /// The status by its bits.
     fn from(psr: u32) -> Self {
         Status {
-            user: psr % 2 == 1,
-            reads_set2: psr / 2 % 2 == 1,
-            writes_set2: psr / 4 % 2 == 1,
-            width: Width::from(psr / 8 % 2 == 1),
-            enabled: psr / 16 % 2 == 1,
+            user: has_flag(psr, UM),
+            reads_set2: has_flag(psr, RSRD),
+            writes_set2: has_flag(psr, RSWR),
+            width: Width::from(has_flag(psr, IL)),
+            enabled: has_flag(psr, IE),
         }
     }
 }

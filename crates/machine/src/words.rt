@@ -3,7 +3,7 @@
 
 ghost use Rattle.std.specs.Prelude.{◌≡◌, ◌+◌, ◌≤◌, length, get_or, drop, reverse};
 ghost use Rattle.codec.specs.Number.{put_at};
-ghost use Rattle.machine.specs.Words.{SOURCES, DEPTH, ENTRIES, WORDS, section, entries_of, machine_of, Says};
+ghost use Rattle.machine.specs.Words.{SOURCES, DEPTH, ENTRIES, WORDS, section, entries_of, machine_of, Says, SaysRest};
 
 use crate::control::OFFSETS;
 use crate::machine::{Machine, TIMERS};
@@ -47,13 +47,12 @@ fn section<const N: usize>(words: &[u32], start: usize) -> [u32; N]
     numbers
 }
 
-/// The stack that words say.
+/// The stack that words say; of a count above twelve its first twelve entries.
 #[tactic(auto, unfolding(crate::specs::Words::entries_of))]
 fn stack_in(words: &[u32; WORDS]) -> Stack
-    requires { get_or words.now DEPTH 0 ≤ SOURCES }
-    ensures { result ≡ reverse (entries_of (get_or words.now DEPTH 0) (drop ENTRIES words.now)) }
+    ensures { get_or words.now DEPTH 0 ≤ SOURCES → result ≡ reverse (entries_of (get_or words.now DEPTH 0) (drop ENTRIES words.now)) }
 {
-    let depth = words[DEPTH] as usize;
+    let depth = (words[DEPTH] as usize).min(SOURCES);
     let mut entries = [Entry::none(); SOURCES];
     for i in 0..depth {
         let at = ENTRIES + 4 * i;
@@ -94,12 +93,13 @@ fn put(words: &mut [u32; WORDS], start: usize, numbers: &[u32])
 }
 
 impl Machine {
-    /// The machine that words say. Made a part of its caller, it is written in place: a call with limit 0 takes 370 instructions less.
-    #[tactic(auto, unfolding(crate::specs::Words::machine_of))]
+    /// The machine that words say; of a count of stack entries above twelve its first twelve, with all else as the words say. Made a part of its caller, it
+    /// is written in place: a call with limit 0 takes 370 instructions less.
+    #[tactic(auto, unfolding(crate::specs::Words::machine_of, crate::specs::Words::with_entries))]
     #[inline(always)]
     pub fn of_words(words: &[u32; WORDS]) -> Self
-        requires { get_or words.now DEPTH 0 ≤ SOURCES }
-        ensures { Says words.now result }
+        ensures says { get_or words.now DEPTH 0 ≤ SOURCES → Says words.now result }
+        ensures rest { SaysRest words.now result }
     {
         let set1 = section::<REGISTERS>(words, SET1);
         let set2 = section::<REGISTERS>(words, SET2);
