@@ -9,7 +9,7 @@ use Rattle.isa.specs.Operation.{operation_of, unavailable, properties}
 use Rattle.isa.specs.Decode.{decode}
 use Rattle.isa.specs.declared.instruction.Instruction.{Instruction}
 use Rattle.machine.specs.Machine.{user_mode, width_of}
-use Rattle.execute.specs.View.{Attempt, Found, Raises, Stops, View, condition_false, nops_from}
+use Rattle.execute.specs.View.{Attempt, Found, Raises, Stops, View, condition_false, nops_from, nops_after}
 use Rattle.execute.specs.Execute.{on_found}
 use Rattle.machine.specs.Effect.{Next}
 use Rattle.execute.specs.Decide.{perform, if_available, instruction, fetched_then}
@@ -50,7 +50,13 @@ module _ (v : View) (i : Instruction) where
       unfolding if_available choose◌then◌else◌
       skipped c = free ∙ rw (t, c)
 
+      -- by the nops that must follow
+      pub nops_decide : condition_false v i ≡ false → (a : Attempt (Unit {0})) → a ≡ nops_after v (properties (operation_of i.opcode)).nops
+          → instruction v i ≡ on_found (λ _. perform v i (operation_of i.opcode)) a
+      unfolding if_available choose◌then◌else◌
+      nops_decide c a e = free ∙ rw (t, c, ← e) refl
+
       -- its own effect, where there are none
       pub performed : condition_false v i ≡ false → (properties (operation_of i.opcode)).nops ≡ 0 → instruction v i ≡ perform v i (operation_of i.opcode)
-      unfolding if_available choose◌then◌else◌ nops_from on_found
-      performed c n = free ∙ rw (t, c, n) refl
+      unfolding nops_from on_found
+      performed c n = nops_decide c (Found tt) (rw n refl)

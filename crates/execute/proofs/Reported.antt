@@ -4,18 +4,18 @@ use mathlib.Core.List.{List}
 use Prim.Native.Nat.{ℕ, ◌<◌}
 use native.Mathlib.Omega.{arith}
 use lib.ListN.{length}
-use Rattle.std.specs.Prelude.{Result, Ok, Err}
+use Rattle.std.specs.Prelude.{Result, Ok, Err, OnErr}
 use Rattle.isa.proofs.Decoded.{bytes_positive}
 use Rattle.machine.specs.declared.fault.Fault.{Fault}
 use Rattle.machine.specs.declared.fault.Fault.TheVariants as fault
-use Rattle.machine.specs.Machine.{Machine, Memory, State, state_of, psr, width_of}
+use Rattle.machine.specs.Machine.{Machine, Memory, memory_of, State, state_of, psr, width_of}
 use Rattle.machine.specs.Fault.{effect_of}
 use Rattle.machine.specs.Effect.{Effect, Stopped, Raised, SystemCall, InterruptReturn, StoreCell, Updates}
 use Rattle.machine.specs.Apply.{Report, raise, apply, reported, report_on, applying}
 use Rattle.execute.specs.View.{Found, attempted, View, view, view_of}
 use Rattle.execute.specs.Execute.{on_found}
 use Rattle.execute.specs.Decide.{fetched_then, decide}
-use Rattle.execute.specs.Promises.{settled}
+use Rattle.execute.specs.Promises.{settled, answered, taken}
 use Rattle.execute.proofs.Bytes.{fetched_inside}
 
 -- ---- what was fetched
@@ -81,3 +81,13 @@ module _ (e : Effect) (m : Machine) (memory : Memory) where
   pub stop_reported : (n : ℕ) → Err (Stopped n) ≡ settled e here → report_on e m memory ≡ record { stop = n; after = here }
   unfolding applying
   stop_reported n h = settled_reported here e ∙ rw (← h) refl
+
+-- what is reported of an answer is reported of the effect that was answered, where on Err nothing changed
+pub taken_reported : {r : Report} (answer : Result (Unit {0}) Fault) (left : Machine) (e : Effect) (before : Machine) (cells stored : List ℕ)
+    → answered answer (state_of left (memory_of stored)) ≡ settled e (state_of before (memory_of cells))
+    → OnErr answer ((left ≡ before) × (stored ≡ cells))
+    → r ≡ taken answer left (memory_of stored) → r ≡ report_on e before (memory_of cells)
+unfolding applying
+taken_reported (Ok x) left e before cells stored h k q = q ∙ sym (done_reported e before (memory_of cells) (state_of left (memory_of stored)) h)
+taken_reported (Err (fault.Exception x)) left e before cells stored h k q = q ∙ rw (k.0, k.1) (sym (raise_reported e before (memory_of cells) _ h))
+taken_reported (Err (fault.Stop x)) left e before cells stored h k q = q ∙ rw (k.0, k.1) (sym (stop_reported e before (memory_of cells) _ h))

@@ -1,5 +1,5 @@
 -- An instruction word carried out, by what the tests of its instruction give. Assumes nothing.
-use mathlib.Core.Path.{◌≡◌, refl, ◌∙◌}
+use mathlib.Core.Path.{◌≡◌, refl, ap}
 use mathlib.Core.Bool.{Bool, true, false, ◌&&◌, and-false}
 use mathlib.Core.List.{List}
 use Prim.Native.Nat.{ℕ, ◌≤◌, ◌<◌}
@@ -132,6 +132,17 @@ pub nops_none : (v : View) (op : Operation) → (properties op).nops ≡ 0 → n
 unfolding nops_from
 nops_none v op n = rw n refl
 
+-- of nop to cmpi, whose condition is not false: its own effect, by the clause of its number
+pub low_performed_as : (p : List ℕ) (m : Machine) (memory : Memory) (word n : ℕ) → n < 34 → opcode_of (width_of (psr m)) word ≡ n
+    → let v = view_of p m memory in let i = decode (width_of (psr m)) word in condition_false v i ≡ false
+    → (x y : ℕ) → x ≡ v.source i.sreg1 → y ≡ v.source i.sreg2 → fetched_then v (Found word) ≡ execute (operation_of n) v i x y
+unfolding on_found choose◌then◌else◌ perform
+low_performed_as p m memory word n h e c x y a b =
+    let op = opcode_of (width_of (psr m)) word in
+    let usable : allowed (operation_of op) m ≡ Found tt = low_allowed m op (omega (arith, e, h)) in
+    let none : nops_after (view_of p m memory) (properties (operation_of op)).nops ≡ Found tt = nops_none (view_of p m memory) (operation_of op) (no_nops op (omega (arith, e, h))) in
+    rw (in_order p m memory word, usable, c, none, a, b, ← e) refl
+
 -- nop: conditional or not, nothing but PC moves
 pub nothing : (p : List ℕ) (m : Machine) (memory : Memory) (word : ℕ) → opcode_of (width_of (psr m)) word ≡ 0 → done p m memory word ≡ Ok (state_of (advance m) memory)
 unfolding execute apply machine_only updated operations operation_of
@@ -139,7 +150,7 @@ nothing p m memory word z =
     let a : allowed (op p m memory word) m ≡ Found tt = low_allowed m (opcode_of (width_of (psr m)) word) (omega arith) in
     either (condition_false (v p m memory word) (i p m memory word))
     (skipped p m memory word a)
-    (λ c. performed p m memory word a c (nops_none (v p m memory word) _ (no_nops (opcode_of (width_of (psr m)) word) (omega arith))) ∙ rw z refl)
+    (λ c. ap (λ (e : Effect). settled e (state_of m memory)) (low_performed_as p m memory word 0 (omega arith) z c _ _ refl refl))
 
 -- ---- numbers of operations
 
@@ -147,9 +158,9 @@ pub number_is : (width : Width) (word : ℕ) → (decode width word).opcode ≡ 
 unfolding decode assembled
 number_is width word = refl
 
-pub is_ld : (n : ℕ) → n ≡ 27 → operation_of n ≡ Ld
+pub is_ld : (n : ℕ) → 27 ≤ n → n < 28 → operation_of n ≡ Ld
 unfolding operations operation_of
-is_ld n e = rw e refl
+is_ld n l h = let e : n ≡ 27 = omega arith in rw e refl
 
 pub is_st : (n : ℕ) → 27 < n → n ≤ 28 → operation_of n ≡ St
 unfolding operations operation_of

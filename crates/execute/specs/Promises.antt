@@ -1,14 +1,15 @@
 -- What functions that carry out an instruction promise, as abbreviations for their contracts. Assumes nothing.
-use Rattle.std.specs.Prelude.{◌≡◌, ◌<◌, List, length, ℕ, ℤ, Option, None, Some, Result, Ok, Err}
+use Rattle.std.specs.Prelude.{◌≡◌, ◌<◌, List, length, ℕ, ℤ, Option, None, Some, Result, Ok, Err, OnErr}
 use Rattle.word.specs.Choice.{choose◌then◌else◌}
 use Rattle.isa.specs.declared.operation.Operation.{Operation}
 use Rattle.isa.specs.Operation.{properties, unavailable}
 use Rattle.machine.specs.declared.fault.Fault.{Fault}
+use Rattle.machine.specs.declared.fault.Stop.{Stop}
 use Rattle.machine.specs.Machine.{Machine, Memory, memory_of, State, state_of, psr, user_mode, width_of}
 use Rattle.machine.specs.Position.{slot_of}
 use Rattle.machine.specs.Fault.{effect_of}
 use Rattle.machine.specs.Effect.{Effect, Stopped, Raised, SystemCall, InterruptReturn, StoreCell, Updates}
-use Rattle.machine.specs.Apply.{apply}
+use Rattle.machine.specs.Apply.{Report, apply, report_by, report_on}
 use Rattle.execute.specs.View.{Attempt, Found, Raises, Stops, found_then, View, view_of, attempted}
 use Rattle.execute.specs.declared.data.Location.{Location}
 use Rattle.execute.specs.declared.data.Location.TheVariants.{Block, Cell}
@@ -49,6 +50,19 @@ StoresIn program e result before cells after stored =
 -- whatever the program holds
 abbrev pub PerformsStoring : (View → Effect) → Result (Unit {0}) Fault → (before : Machine) (cells : List ℕ) (after : Machine) (stored : List ℕ) → Type 0
 PerformsStoring e result before cells after stored = (program : List ℕ) → StoresIn program e result before cells after stored
+
+-- what is reported of an answer: done; or of the exception or the stop in the instruction's place
+abbrev pub taken : Result (Unit {0}) Fault → Machine → Memory → Report
+taken (Ok x) m memory = record { stop = 0; after = state_of m memory }
+taken (Err why) m memory = report_on (effect_of why) m memory
+
+-- where a function answered what settles an effect, and on Err changed nothing, what is then answered and left is what is reported of the effect
+abbrev pub Reported : Result (Unit {0}) Fault → (left : Machine) → Result (Unit {0}) Stop → (after : Machine) → Type 0
+Reported answer left result after =
+    (e : Effect) (before : Machine) (cells stored : List ℕ)
+    → answered answer (state_of left (memory_of stored)) ≡ settled e (state_of before (memory_of cells))
+    → OnErr answer ((left ≡ before) × (stored ≡ cells))
+    → report_by result after (memory_of stored) ≡ report_on e before (memory_of cells)
 
 -- a taken jump goes to the address that is answered, or has the exception that is
 abbrev pub TestsJump : (target : ℤ) → Result ℕ Fault → Machine → Type 0

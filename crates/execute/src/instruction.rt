@@ -4,27 +4,27 @@
 ghost use Rattle.std.specs.Prelude.{◌≡◌, ◌≤◌, ◌<◌, length, OnErr};
 ghost use Rattle.isa.specs.Operation.{properties, unavailable};
 ghost use Rattle.isa.specs.Decode.{opcode_of};
-ghost use Rattle.machine.specs.Machine.{MOST_MEMORY, psr, user_mode, width_of, memory_of};
+ghost use Rattle.machine.specs.Machine.{MOST_MEMORY, Memory, psr, user_mode, width_of, memory_of};
 ghost use Rattle.machine.specs.Position.{slot_of};
 ghost use Rattle.machine.specs.Stack.{StackShown};
 ghost use Rattle.machine.specs.Apply.{report_by, report_on};
 ghost use Rattle.execute.specs.View.{Found, Shows, attempted, view_of, condition_false};
 ghost use Rattle.execute.specs.Decide.{fetched_then, decide};
-ghost use Rattle.execute.specs.Promises.{PerformsIn, PerformsSeen, StoresIn, PerformsStoring, available_by, in_no_slot, allowed};
+ghost use Rattle.execute.specs.Promises.{PerformsIn, PerformsSeen, StoresIn, PerformsStoring, available_by, in_no_slot, allowed, taken, Reported};
 
 use crate::arithmetic::{immediates, registers};
 use crate::field::fields;
 use crate::jump::{branches, jumps};
 use crate::memory::{load, store};
-use crate::moves::moves;
+use crate::mov::moves;
 use crate::program::{check_nops, fetch};
-use crate::system::system;
+use crate::status::system;
 use isa::{Condition, Instruction, Operation};
 use machine::{Exception, Fault, Machine, Stop};
 
 /// Whether the instruction is conditional and its condition false (Manual 4.5).
 #[tactic(auto, unfolding(crate::specs::View::condition_false, crate::specs::View::view))]
-fn condition_false(m: &Machine, i: Instruction) -> bool
+pub fn condition_false(m: &Machine, i: Instruction) -> bool
     requires { i.creg < 8 }
     ensures { Shows (λ v. condition_false v i) result m.now }
 {
@@ -100,23 +100,24 @@ fn immediate_word(m: &mut Machine, word: u32) -> Result<(), Fault>
     immediates(m, i, x)
 }
 
-/// Words of operations 27 and 28: ld and st.
-fn access_word(m: &mut Machine, cells: &mut [u32], word: u32) -> Result<(), Fault>
-    requires { StackShown m.old × (27 ≤ opcode_of (width_of (psr m.old)) word) × (opcode_of (width_of (psr m.old)) word ≤ 28) }
+/// Words of operations 27 and 28, ld and st: told apart first, then decoded alike. st returns by itself: with an arm for each, the compiler makes one
+/// code of both, and a step of loads and stores takes 4 to 9 instructions more.
+fn access_word(m: &mut Machine, cells: &mut [u32], word: u32, op: u32) -> Result<(), Fault>
+    requires { StackShown m.old × (op ≡ opcode_of (width_of (psr m.old)) word) × (27 ≤ op) × (op ≤ 28) }
     ensures does { PerformsStoring (λ v. fetched_then v (Found word)) result m.old cells.old m.new cells.new }
     ensures kept { OnErr result ((m.new ≡ m.old) × (cells.new ≡ cells.old)) }
 {
+    let is_load = op < 28;
     let i = Instruction::of_access(word, m.width());
     if condition_false(m, i) {
         m.advance();
         return Ok(());
     }
     let x = m.source(i.sreg1);
-    if i.opcode == 27 {
-        load(m, cells, i, x)
-    } else {
-        store(m, cells, i, x)
+    if !is_load {
+        return store(m, cells, i, x);
     }
+    load(m, cells, i, x)
 }
 
 /// Words of operations 29 to 35: mov to lui. lli and lui are not there in 16-bit words.
@@ -243,7 +244,7 @@ fn execute_word(m: &mut Machine, program: &[u8], cells: &mut [u32], word: u32) -
         if op > 28 {
             upper_half(m, program, word, op)
         } else {
-            access_word(m, cells, word)
+            access_word(m, cells, word, op)
         }
     } else {
         lower_half(m, word, op)
@@ -261,13 +262,13 @@ fn next_instruction(m: &mut Machine, program: &[u8], cells: &mut [u32]) -> Resul
     execute_word(m, program, cells, word)
 }
 
-/// The next instruction, or its exception; or a stop, after which all is as before. `program` is at most 65,536 bytes, `cells` data memory.
-#[tactic(auto, using(crate::proofs::Reported::done_reported, crate::proofs::Reported::raise_reported, crate::proofs::Reported::stop_reported))]
-pub fn execute(m: &mut Machine, program: &[u8], cells: &mut [u32]) -> Result<(), Stop>
-    requires { (length program.now ≤ MOST_MEMORY) × StackShown m.old }
-    ensures { report_by result m.new (memory_of cells.new) ≡ report_on (decide (view_of program.now m.old (memory_of cells.old))) m.old (memory_of cells.old) }
+/// What an instruction answers: done, or its exception, which is entered; a stop is handed on, and changes nothing (Manual 4.9 and 4.10).
+#[tactic(auto, unfolding(machine::specs::Apply::applying))]
+pub fn take_exception(m: &mut Machine, answer: Result<(), Fault>) -> Result<(), Stop>
+    ensures exact { (memory : Memory) → report_by result m.new memory ≡ taken answer m.old memory }
+    ensures reported { Reported answer m.old result m.new }
 {
-    match next_instruction(m, program, cells) {
+    match answer {
         Ok(()) => Ok(()),
         Err(Fault::Exception(exception)) => {
             m.raise(exception);
@@ -275,4 +276,13 @@ pub fn execute(m: &mut Machine, program: &[u8], cells: &mut [u32]) -> Result<(),
         }
         Err(Fault::Stop(stop)) => Err(stop),
     }
+}
+
+/// The next instruction, or its exception; or a stop, after which all is as before. `program` is at most 65,536 bytes, `cells` data memory.
+pub fn execute(m: &mut Machine, program: &[u8], cells: &mut [u32]) -> Result<(), Stop>
+    requires { (length program.now ≤ MOST_MEMORY) × StackShown m.old }
+    ensures { report_by result m.new (memory_of cells.new) ≡ report_on (decide (view_of program.now m.old (memory_of cells.old))) m.old (memory_of cells.old) }
+{
+    let answer = next_instruction(m, program, cells);
+    take_exception(m, answer)
 }

@@ -1,8 +1,8 @@
--- `execute::system::system` meets its contract: reti does what `interrupt_return` does, whatever the sources are; scon stores what the view shows.
+-- `execute::status::system` meets its contract: reti does what `interrupt_return` does, whatever the sources are; scon stores what the view shows.
 -- Assumes nothing.
 use Rattle.execute.specs.View.{view}
 use Rattle.execute.proofs.Performed.{performing}
-use Rattle.execute.proofs.system.system.Goals as goal
+use Rattle.execute.proofs.status.system.Goals as goal
 
 pub returns-in-50-clause-does : goal.returns-in-50-clause-does
 unfolding performing

@@ -1,6 +1,6 @@
--- `execute::moves::moves` meets its contract: mulhi does what `high_half` does, whatever the sources are. Assumes nothing.
+-- `execute::mov::moves` meets its contract: mulhi does what `high_half` does, whatever the sources are. Assumes nothing.
 use Rattle.execute.proofs.Performed.{performing}
-use Rattle.execute.proofs.moves.moves.Goals as goal
+use Rattle.execute.proofs.mov.moves.Goals as goal
 
 pub returns-in-31-clause-does : goal.returns-in-31-clause-does
 unfolding performing
