@@ -7,7 +7,7 @@ ghost use Rattle.isa.specs.Operation.{operation_of};
 ghost use Rattle.isa.specs.Format.{placed_in, operation_field};
 ghost use Rattle.isa.specs.declared.form.Reading.TheVariants.{Signed};
 ghost use Rattle.isa.specs.Used.{least_of};
-ghost use Rattle.isa.specs.Places.{put_into, Placeable};
+ghost use Rattle.isa.specs.Places.{fields_at, put_into, Placeable};
 ghost use Rattle.encoder.specs.Encode.{chosen, chosen_form, parts_of, all_fit, written, encoding_of, encode_of, given, is_below};
 ghost use Rattle.encoder.specs.Fields.{field_fits, fields_fit, fields_bits, guard_fits, guard_bits};
 
@@ -107,14 +107,37 @@ impl Guard {
     }
 }
 
-// Operation and width stay two parameters: the operation's methods take the width.
+/// An operation in words of a width, and where its operands stand there: looked up once for a word.
+#[derive(Drop)]
+struct Layout {
+    operation: Operation,
+    width: Width,
+    fields: [OperandField; 4],
+    ghost placed: { fields ≡ fields_at width operation },
+}
+
+impl Layout {
+    /// That of an operation in words of a width.
+    fn of(operation: Operation, width: Width) -> Self
+        ensures operation { result.operation ≡ operation }
+        ensures width { result.width ≡ width }
+    {
+        Layout {
+            operation,
+            width,
+            fields: operation.fields(width),
+        }
+    }
+}
+
 impl Choice {
     /// Whether its operands fit the fields that its operation has for them.
     // The four are written out, here and below: of a loop over `zip` the check did not find the proof.
-    fn operands_fit(self, operation: Operation, width: Width) -> bool
-        ensures { result ≡ fields_fit width operation (chosen self) }
+    #[tactic(auto, using(isa::proofs::Places::placeable_at))]
+    fn operands_fit(self, layout: &Layout) -> bool
+        ensures { result ≡ fields_fit layout.now.width layout.now.operation (chosen self) }
     {
-        let fields = operation.fields(width);
+        let fields = &layout.fields;
         operand_fits(fields[0], self.operands[0])
             && operand_fits(fields[1], self.operands[1])
             && operand_fits(fields[2], self.operands[2])
@@ -135,10 +158,11 @@ impl Choice {
     }
 
     /// The bits of its operands in those fields.
-    fn operands_bits(self, operation: Operation, width: Width) -> u64
-        ensures { result ≡ fields_bits width operation (chosen self) }
+    #[tactic(auto, using(isa::proofs::Places::placeable_at))]
+    fn operands_bits(self, layout: &Layout) -> u64
+        ensures { result ≡ fields_bits layout.now.width layout.now.operation (chosen self) }
     {
-        let fields = operation.fields(width);
+        let fields = &layout.fields;
         u64::from(operand_bits(fields[0], self.operands[0]))
             + u64::from(operand_bits(fields[1], self.operands[1]))
             + u64::from(operand_bits(fields[2], self.operands[2]))
@@ -160,21 +184,21 @@ impl Choice {
     }
 
     /// Whether its numbers fit all their bits.
-    fn fits(self, operation: Operation, width: Width) -> bool
-        requires { (chosen_form width self.operation (given self.condition) ≡ true) × (operation ≡ operation_of self.operation) }
-        ensures { result ≡ all_fit (parts_of width (chosen self)) }
+    fn fits(self, layout: &Layout) -> bool
+        requires { (chosen_form layout.now.width self.operation (given self.condition) ≡ true) × (layout.now.operation ≡ operation_of self.operation) }
+        ensures { result ≡ all_fit (parts_of layout.now.width (chosen self)) }
     {
-        self.condition_fits() && self.operands_fit(operation, width)
+        self.condition_fits() && self.operands_fit(layout)
     }
 
     /// The sum of all bits: no two parts of a word share one.
-    fn word(self, operation: Operation, width: Width) -> u32
-        requires { (chosen_form width self.operation (given self.condition) ≡ true) × (operation ≡ operation_of self.operation) }
-        ensures { result ≡ written (parts_of width (chosen self)) }
+    fn word(self, layout: &Layout) -> u32
+        requires { (chosen_form layout.now.width self.operation (given self.condition) ≡ true) × (layout.now.operation ≡ operation_of self.operation) }
+        ensures { result ≡ written (parts_of layout.now.width (chosen self)) }
     {
-        let operation_bits = u64::from(operation_bits(self.operation, width));
+        let operation_bits = u64::from(operation_bits(self.operation, layout.width));
         let condition_bits = u64::from(self.condition_bits());
-        (operation_bits + condition_bits + self.operands_bits(operation, width)) as u32
+        (operation_bits + condition_bits + self.operands_bits(layout)) as u32
     }
 }
 
@@ -185,9 +209,9 @@ pub fn encode(width: Width, choice: Choice) -> Result<u32, Refusal>
     if !choice.has_form(width) {
         return Err(Refusal::FormUnknown);
     }
-    let operation = Operation::from_number(choice.operation);
-    if !choice.fits(operation, width) {
+    let layout = Layout::of(Operation::from_number(choice.operation), width);
+    if !choice.fits(&layout) {
         return Err(Refusal::OperandUnfit);
     }
-    Ok(choice.word(operation, width))
+    Ok(choice.word(&layout))
 }

@@ -2,7 +2,7 @@
 use mathlib.Core.Path.{◌≡◌, refl, sym, ap, ◌∙◌}
 use mathlib.Core.Bool.{true, false}
 use mathlib.Core.List.{List, [], ◌∷◌, ◌++◌, append_assoc}
-use Prim.Native.Nat.{ℕ, suc, ◌+◌, ◌-◌, ◌^◌, ◌≤◌, ◌<◌}
+use Prim.Native.Nat.{ℕ, suc, ◌+◌, ◌-◌, ◌/◌, ◌%◌, ◌^◌, ◌≤◌, ◌<◌}
 use native.Mathlib.Omega.{arith}
 use lib.IntN.{ℤ, pos, negsuc}
 use lib.ListN.{length, replicate, length-append, length-replicate}
@@ -12,10 +12,10 @@ use mir.Val.{to_z, of_z}
 use borrow.Author.Rules.{rules}
 use Rattle.word.specs.Choice.{choose◌then◌else◌}
 use Rattle.std.specs.Fmt.{signed_decimal}
+use Rattle.std.proofs.lemmas.Fmt.{decimal_digit, decimal_step}
 use Rattle.word.specs.Word.{word_of, signed_of}
 use Rattle.word.proofs.Tests.{either}
-use Rattle.word.proofs.Bounds.{word_below}
-use Rattle.word.proofs.Integers.{signed_word, back}
+use Rattle.word.proofs.Integers.{signed_word}
 use Rattle.codec.specs.Number.{put_at}
 use Rattle.codec.proofs.Laws.{put_at_append}
 use Rattle.isa.specs.Text.{bytes}
@@ -39,8 +39,17 @@ length_padded n t h = length-append t (replicate (n - length t) blank) ∙ omega
 
 -- ---- operands
 
+-- a number that is not negative, and how far from 0 a word can be
+signed_small : (n : ℕ) → n < 2 ^ 31 → signed_of 32 n ≡ pos n
+unfolding signed_of choose◌then◌else◌
+signed_small n h = search rules
+
+signed_most : (n : ℕ) → n < 2 ^ 32 → mag (signed_of 32 n) ≤ 2 ^ 31
+unfolding signed_of choose◌then◌else◌
+signed_most n h = search rules
+
 -- std writes the same of a 32-bit integer
-integer_std : (z : ℤ) → mag z < 2 ^ 31 → signed_decimal z ≡ integer_text z
+integer_std : (z : ℤ) → mag z ≤ 2 ^ 31 → signed_decimal z ≡ integer_text z
 unfolding integer_text bytes
 integer_std (pos n) h = rw (decimal_std n (omega arith)) refl
 integer_std (negsuc n) h = rw (decimal_std (suc n) (omega arith)) refl
@@ -50,13 +59,31 @@ signed_cast : (n : ℕ) → n < 2 ^ 32 → to_z w32 n ≡ signed_of 32 n
 unfolding signed_of choose◌then◌else◌
 signed_cast n h = search rules
 
--- what std writes of a value that was passed on as a word
-pub operand_std : (v : ℤ) → mag v < 2 ^ 31 → signed_decimal (to_z w32 (of_z w32 (to_z w32 (word_of 32 v)))) ≡ integer_text v
-operand_std v h =
-    let e : to_z w32 (word_of 32 v) ≡ v = signed_cast (word_of 32 v) (word_below 32 v) ∙ signed_word 32 (omega arith) v h in
-    rw e (ap signed_decimal (back w32 v h) ∙ integer_std v h)
+-- what std writes of a word that is read as an integer
+pub word_std : (n : ℕ) → n < 2 ^ 32 → signed_decimal (to_z w32 (of_z w32 (to_z w32 n))) ≡ integer_text (signed_of 32 n)
+unfolding integer_text bytes
+word_std n h =
+    let e : to_z w32 (of_z w32 (to_z w32 n)) ≡ signed_of 32 n = search (rules, signed_cast n h) in
+    rw e (integer_std (signed_of 32 n) (signed_most n h))
 
-pub ruleset operand_rules = (operand_std, length-append, append_assoc)
+-- of one digit or two
+pub one_digit : (n : ℕ) → n < 10 → integer_text (signed_of 32 n) ≡ (48 + n) ∷ []
+unfolding integer_text
+one_digit n h = rw (signed_small n (omega arith)) (decimal_std n (omega arith) ∙ decimal_digit n h)
+
+pub two_digits : (n : ℕ) → 10 ≤ n → n < 100 → integer_text (signed_of 32 n) ≡ (48 + n / 10) ∷ (48 + n % 10) ∷ []
+unfolding integer_text
+two_digits n l h =
+    rw (signed_small n (omega arith))
+    (decimal_std n (omega arith) ∙ decimal_step n l (omega arith) ∙ ap (λ (t : List ℕ). t ++ (48 + n % 10) ∷ []) (decimal_digit (n / 10) (omega arith)))
+
+-- a value that was passed on as a word
+pub value_passed : (v : ℤ) → mag v < 2 ^ 31 → signed_of 32 (word_of 32 v) ≡ v
+value_passed v h = signed_word 32 (omega arith) v h
+
+pub ruleset text_rules = (length-append, append_assoc)
+
+pub ruleset operand_rules = (value_passed, length-append, append_assoc)
 
 -- the condition register: a prefix and a digit
 pub length_creg : (i : Instruction) → i.creg < 8 → length (operand_text i Creg) ≤ 2

@@ -4,8 +4,9 @@
 //! (Manual 11). Text is bytes of ASCII. Nothing here allocates.
 #![tactic(auto)]
 
-ghost use Rattle.std.specs.Prelude.{◌≡◌, ◌∷◌, ◌++◌, ◌+◌, ◌*◌, ◌%◌, ◌^◌, ◌≤◌, ◌<◌, length};
+ghost use Rattle.std.specs.Prelude.{◌≡◌, [], ◌∷◌, ◌++◌, ◌+◌, ◌*◌, ◌%◌, ◌^◌, ◌≤◌, ◌<◌, length};
 ghost use Rattle.std.specs.Int.Signed.{mag};
+ghost use Rattle.word.specs.Word.{signed_of};
 ghost use Rattle.codec.specs.Number.{put_at, over};
 ghost use Rattle.isa.specs.declared.form.Role.{Role};
 ghost use Rattle.isa.specs.Decode.{word_bytes};
@@ -13,7 +14,7 @@ ghost use Rattle.isa.specs.Shown.{shown_value};
 ghost use Rattle.machine.specs.Machine.{MOST_MEMORY};
 ghost use Rattle.machine.specs.Refusal.{refused_by};
 ghost use Rattle.console.specs.Digits.{blank};
-ghost use Rattle.listing.specs.Line.{prefix_of, operand_text, shown_texts, name_text, condition_text, CONDITION_COLUMN, word_line};
+ghost use Rattle.listing.specs.Line.{integer_text, prefix_of, operand_text, shown_texts, name_text, condition_text, CONDITION_COLUMN, word_line};
 ghost use Rattle.listing.specs.Parts.{spaced};
 ghost use Rattle.listing.specs.Listing.{LINE_BYTES, lines_from, words_in, listed, listing_call};
 
@@ -61,15 +62,42 @@ fn name(operation: Operation, width: Width) -> &'static [u8]
     }
 }
 
-// What stands before the number of an operand.
+// Appends a blank, and what stands before the number of an operand. With a constant text in each arm, and as a part of its caller, it is a store.
 #[tactic(auto, unfolding(crate::specs::Line::prefix_of, isa::specs::Text::bytes))]
-fn prefix(role: Role) -> &'static str
-    ensures { result.now ≡ prefix_of role }
+#[inline(always)]
+fn push_prefix(text: &mut OperandText, role: Role)
+    requires { length text.old.bytes + length (blank ∷ prefix_of role) ≤ 14 }
+    ensures { text.new.bytes ≡ text.old.bytes ++ blank ∷ prefix_of role }
 {
     match role {
-        Role::Dreg | Role::Sreg1 | Role::Sreg2 => "R",
-        Role::Creg => "C",
-        Role::Imm | Role::Length | Role::Position => "",
+        Role::Dreg | Role::Sreg1 | Role::Sreg2 => text.push_str(" R"),
+        Role::Creg => text.push_str(" C"),
+        Role::Imm | Role::Length | Role::Position => text.push_str(" "),
+    }
+}
+
+// Appends a digit.
+#[inline(always)]
+fn push_digit(text: &mut OperandText, d: u32)
+    requires { (d < 10) × (length text.old.bytes + 1 ≤ 14) }
+    ensures { text.new.bytes ≡ text.old.bytes ++ (48 + d) ∷ [] }
+{
+    text.push(char::from(b'0' + d as u8));
+}
+
+// Appends the integer of a word in decimal. Registers and most immediates have one digit or two, which are stores: the library's text is copied by a call.
+#[tactic(auto, using(crate::proofs::Texts::one_digit, crate::proofs::Texts::two_digits, crate::proofs::Texts::word_std, crate::proofs::Texts::text_rules))]
+fn push_integer(text: &mut OperandText, n: u32)
+    requires { length text.old.bytes + length (integer_text (signed_of 32 n)) ≤ 14 }
+    ensures { text.new.bytes ≡ text.old.bytes ++ integer_text (signed_of 32 n) }
+{
+    if n < 10 {
+        push_digit(text, n);
+    } else if n < 100 {
+        push_digit(text, n / 10);
+        push_digit(text, n % 10);
+    } else {
+        text.push_str(Buffer::new().format(n.cast_signed()));
     }
 }
 
@@ -79,9 +107,8 @@ fn push_operand(text: &mut OperandText, i: Instruction, role: Role)
     requires { (length text.old.bytes + length (blank ∷ operand_text i role) ≤ 14) × (mag (shown_value i role) < 2 ^ 31) }
     ensures { text.new.bytes ≡ text.old.bytes ++ blank ∷ operand_text i role }
 {
-    text.push_str(" ");
-    text.push_str(prefix(role));
-    text.push_str(Buffer::new().format(i.operand(role).cast_signed()));
+    push_prefix(text, role);
+    push_integer(text, i.operand(role));
 }
 
 // Writes the condition of an instruction, if it is conditional: its name, and the condition register.
@@ -101,15 +128,15 @@ fn put_condition(line: &mut [u8; LINE], i: Instruction)
 }
 
 // The operands of an instruction in words of a width.
-#[tactic(auto, using(crate::proofs::Spaced::next_operand, crate::proofs::Spaced::no_operand, crate::proofs::Spaced::operand_room, crate::proofs::Spaced::all_operands, crate::proofs::Rooms::roles_few), unfolding(crate::specs::Parts::spaced))]
+#[tactic(auto, using(crate::proofs::Spaced::next_operand, crate::proofs::Spaced::no_operand, crate::proofs::Spaced::operand_room, crate::proofs::Spaced::all_operands, crate::proofs::Rooms::roles_few, isa::proofs::Roles::role_at), unfolding(crate::specs::Parts::spaced))]
 fn operands(i: Instruction, width: Width) -> OperandText
     requires { (length (spaced (shown_texts width i)) ≤ 14) × ((r : Role) → mag (shown_value i r) < 2 ^ 31) }
     ensures { result.bytes ≡ spaced (shown_texts width i) }
 {
-    let operation = Operation::from_number(i.opcode);
+    let roles = Operation::from_number(i.opcode).roles(width);
     let mut text = OperandText::new();
     for k in 0..4 {
-        if let Some(role) = operation.operand(width, k) {
+        if let Some(role) = roles[k] {
             push_operand(&mut text, i, role);
         }
     }

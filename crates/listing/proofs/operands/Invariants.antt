@@ -7,4 +7,4 @@ use Rattle.listing.proofs.Spaced.{first_operands}
 use Rattle.listing.proofs.operands.Given as goal
 
 abbrev pub invariant-loop-k : goal.invariant-loop-k
-invariant-loop-k l = l.text.bytes ≡ first_operands (operand_text l.i) (shown_roles l.width (operation_of l.i.opcode)) l.k
+invariant-loop-k l = l.text.bytes ≡ first_operands (operand_text l.i) (shown_roles l.fn.width (operation_of l.i.opcode)) l.k

@@ -6,4 +6,4 @@ use Rattle.encoder.proofs.Choice.word.Goals as goal
 pub returns : goal.returns
 returns c =
     rw (c.from-operation_bits.ensures, c.from-condition_bits.ensures, c.operation_bits.ensures, c.condition_bits.ensures, c.operands_bits.ensures)
-    (sum_when c.args.width (chosen c.args.self) c.requires.0 c.requires.1)
+    (sum_when c.args.layout.now.width (chosen c.args.self) c.requires.0 c.requires.1)
