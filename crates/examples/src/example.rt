@@ -3,10 +3,10 @@ use crate::program::Program;
 use crate::run::Run;
 use crate::text::{ends_word, number};
 use encoder::{Choice, Guard};
-use isa::{Instruction, Operation, Width};
+use isa::{Instruction, Operation, Role, Width};
 use machine::Refusal;
-use std::io;
-use std::io::Write;
+use runner::print_bytes;
+use std::io::Print;
 
 /// An example: its title, its program and the requests of its steps.
 #[derive(Drop)]
@@ -25,7 +25,7 @@ fn width(digits: &[u8]) -> Width {
 fn written(word: u32, width: Width) -> Result<u32, Refusal> {
     let i = Instruction::decode(word, width);
     let operation = Operation::from_number(i.opcode);
-    let shown = |k: usize| match operation.operand(width, k) {
+    let shown = |role: Option<Role>| match role {
         Some(role) => i.operand(role).cast_signed(),
         None => 0,
     };
@@ -35,14 +35,22 @@ fn written(word: u32, width: Width) -> Result<u32, Refusal> {
             creg: i.creg,
             condition: i.condition,
         }),
-        operands: [0, 1, 2, 3].map(shown),
+        operands: operation.roles(width).map(shown),
     };
     encoder::encode(width, choice)
 }
 
+// Shows a number in eight hexadecimal digits.
+fn show_number(number: u32, out: &impl Print) {
+    let mut digits = [0; 8];
+    console::put_digits(&mut digits, 0, 16, 8, number);
+    print_bytes(out, &digits);
+}
+
 // Shows the number of a refusal.
-fn show_refusal(out: &mut Vec<u8>, refusal: Refusal) -> io::Result<()> {
-    writeln!(out, "refusal {}", refusal.number())
+fn show_refusal(refusal: Refusal, out: &impl Print) {
+    print_bytes(out, b"refusal ");
+    runner::print(out, console::refusal_line(refusal.number()).as_str());
 }
 
 impl<'a> Example<'a> {
@@ -55,25 +63,19 @@ impl<'a> Example<'a> {
         }
     }
 
-    /// Reads a line, and shows what it asks for. Only memory can fail.
-    pub(crate) fn read(
-        &mut self,
-        line: &'a [u8],
-        names: &[&[u8]],
-        out: &mut Vec<u8>,
-    ) -> io::Result<()> {
+    /// Reads a line, and shows what it asks for. What cannot be printed is left out, and what comes after it is still tried.
+    pub(crate) fn read(&mut self, line: &'a [u8], names: &[u8], out: &impl Print) {
         // The first character says what a line is, in examples.txt.
         match line {
             [(b'a'..), ..] => self.begin(line),
-            [b'>', ..] => self.show_run(line, names, out)?,
-            [b'=', ..] => self.show_listing(width(line), out)?,
-            [b'<', ..] => self.show_written(width(line), out)?,
-            [b'*', ..] => self.show_reached(line, out)?,
+            [b'>', ..] => self.show_run(line, names, out),
+            [b'=', ..] => self.show_listing(width(line), out),
+            [b'<', ..] => self.show_written(width(line), out),
+            [b'*', ..] => self.show_reached(line, out),
             [b'@', ..] => self.put_request(line),
             [(b'0'..), ..] => self.program.put(line),
             _ => {}
         }
-        Ok(())
     }
 
     // Begins a further example, with the program of this one and no requests.
@@ -93,79 +95,77 @@ impl<'a> Example<'a> {
     }
 
     // Runs the program for the steps that a line says, and shows the title, what the names in the line say, and what the run program would print.
-    fn show_run(&self, line: &[u8], names: &[&[u8]], out: &mut Vec<u8>) -> io::Result<()> {
+    fn show_run(&self, line: &[u8], names: &[u8], out: &impl Print) {
         let Some(text) = line.get(2..) else {
-            return Ok(());
+            return;
         };
         let (limit, asked) = text.split_at(text.iter().position(ends_word).unwrap_or(text.len()));
-        let run = Run::from_reset(
-            self.program.memory(),
-            &self.requests,
-            console::limit_of(limit).unwrap_or(u32::MAX),
-        );
-        out.write_all(self.title)?;
+        let run = Run::from_reset(self.program.memory(), &self.requests, runner::limit(limit));
+        print_bytes(out, self.title);
         if !asked.is_empty() {
-            out.write_all(b",")?;
-            out.write_all(asked)?;
-            out.write_all(b":")?;
+            print_bytes(out, b",");
+            print_bytes(out, asked);
+            print_bytes(out, b":");
         }
-        out.write_all(b" ")?;
+        print_bytes(out, b" ");
         for name in asked.split(ends_word).skip(1) {
             if let Some(value) = run.value(name, names) {
-                write!(out, "{value:08X} ")?;
+                show_number(value, out);
+                print_bytes(out, b" ");
             }
         }
-        write!(out, "| {}", run.line())
+        print_bytes(out, b"| ");
+        runner::print(out, run.line().as_str());
     }
 
     // Shows the listing of the program; nothing where it is refused.
-    #[tactic(auto, using(isa::proofs::Decoded::bytes_positive))]
-    fn show_listing(&self, width: Width, out: &mut Vec<u8>) -> io::Result<()> {
+    #[tactic(auto, unfolding(isa::specs::Decode::word_bytes))]
+    fn show_listing(&self, width: Width, out: &impl Print) {
         let program = self.program.memory();
         let words = program.len() / width.bytes() as usize;
         let mut text = [0; listing::LINE * 128];
         if listing::list(program, width, &mut text).is_ok() {
-            for line in text.chunks_exact(listing::LINE).take(words) {
-                out.write_all(line)?;
-            }
+            print_bytes(out, &text[..listing::LINE * words]);
         }
-        Ok(())
     }
 
     // Shows the word that is made from the listing of each word of the program, or the refusal.
     #[tactic(auto, using(isa::proofs::Decoded::bytes_positive))]
-    fn show_written(&self, width: Width, out: &mut Vec<u8>) -> io::Result<()> {
+    fn show_written(&self, width: Width, out: &impl Print) {
         let bytes = width.bytes() as usize;
         for word in self.program.memory().chunks_exact(bytes) {
             match written(width.word_at(word, 0), width) {
-                Ok(word) => writeln!(out, "{word:08X}")?,
-                Err(refusal) => show_refusal(out, refusal)?,
+                Ok(word) => {
+                    show_number(word, out);
+                    print_bytes(out, b"\n");
+                }
+                Err(refusal) => show_refusal(refusal, out),
             }
         }
-        Ok(())
     }
 
     // Shows the addresses of the words that can be reached from the address that a line says, in words of the width that it says, with single
     // blanks between, or the refusal.
-    fn show_reached(&self, line: &[u8], out: &mut Vec<u8>) -> io::Result<()> {
+    fn show_reached(&self, line: &[u8], out: &impl Print) {
         if line.len() < 5 {
-            return Ok(());
+            return;
         }
         let program = self.program.memory();
         let mut map = [0; 256];
         let start = number(&line[5..]);
         match reach::reach(program, width(&line[2..4]), start, &mut map) {
             Ok(()) => {
-                let mut between = "";
+                let mut between = b"".as_slice();
                 for (at, mark) in map[..program.len()].iter().enumerate() {
                     if *mark == 1 {
-                        write!(out, "{between}{at:08X}")?;
-                        between = " ";
+                        print_bytes(out, between);
+                        show_number(at as u32, out);
+                        between = b" ";
                     }
                 }
-                writeln!(out)
+                print_bytes(out, b"\n");
             }
-            Err(refusal) => show_refusal(out, refusal),
+            Err(refusal) => show_refusal(refusal, out),
         }
     }
 }

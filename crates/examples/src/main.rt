@@ -8,11 +8,8 @@ mod run;
 mod text;
 
 use crate::example::Example;
-use crate::text::{ends_line, ends_word};
-use std::alloc::{AllocError, Global};
-use std::io::Read;
-use std::rt::Files;
-use std::{fs, io};
+use crate::text::ends_line;
+use std::io::Print;
 
 // Most bytes that are read of examples.txt.
 const MOST_TEXT: usize = 32768;
@@ -20,41 +17,24 @@ const MOST_TEXT: usize = 32768;
 // Most bytes that are read of image.txt.
 const MOST_NAMES: usize = 2048;
 
-// What a file begins with, at most so many bytes. A file that cannot be opened counts as empty, and one that cannot be read on ends there.
-fn load<R: Files + AllocGlobal>(rt: &R, path: &str, most: usize) -> Result<Vec<u8>, AllocError> {
-    let mut bytes = Vec::with_capacity(rt.alloc(), most)?;
-    if let Ok(file) = fs::open(rt, path) {
-        let _ = file.take(most as u64).read_to_end(&mut bytes);
-    }
-    Ok(bytes)
-}
-
-// The names of an image's numbers, in the image's order: the words after the first line.
-fn names(alloc: Global, text: &[u8]) -> Result<Vec<&[u8]>, AllocError> {
-    let words = text.splitn(2, ends_line).nth(1).unwrap_or(b"");
-    let mut names: Vec<&[u8]> = words.split(ends_word).collect(alloc)?;
-    // After the text's last blank or newline there is no further name.
-    names.pop_if(|last| last.is_empty());
-    Ok(names)
-}
-
-// Reads the two files, and runs the examples. Only memory can fail.
-fn run_files<R: Files + AllocGlobal + Print>(rt: &R) -> io::Result<()> {
-    let text = load(rt, "examples.txt", MOST_TEXT)?;
-    let image = load(rt, "image.txt", MOST_NAMES)?;
-    let names = names(rt.alloc(), &image)?;
+// Reads the examples line by line, and shows what they ask for.
+fn show_examples(text: &[u8], image: &[u8], out: &impl Print) {
+    // The names of an image's numbers, in the image's order: the words after the first line.
+    let words = image.splitn(2, ends_line).nth(1);
+    let names = words.unwrap_or(b"");
     // Until a title comes, the first line is one.
     let first = text.split(ends_line).next().unwrap_or(b"");
     let mut example = Example::new(first);
     for line in text.split(ends_line) {
-        let mut shown = Vec::new(rt.alloc());
-        example.read(line, &names, &mut shown)?;
-        // What cannot be printed is left out, and the next lines are still tried.
-        let _ = rt.write_all(&shown);
+        example.read(line, names, out);
     }
-    Ok(())
 }
 
-fn main(rt: HostRuntime) -> io::Result<()> {
-    run_files(&rt)
+// Reads the two files, and runs the examples.
+fn main(rt: HostRuntime) {
+    let mut text = [0; MOST_TEXT];
+    let n = runner::load(&rt, b"examples.txt", &mut text);
+    let mut image = [0; MOST_NAMES];
+    let m = runner::load(&rt, b"image.txt", &mut image);
+    show_examples(&text[..n], &image[..m], &rt);
 }

@@ -1,5 +1,5 @@
 //! The program of an example.
-ghost use Rattle.std.specs.Prelude.{◌≤◌, IfSome};
+ghost use Rattle.std.specs.Prelude.{◌≤◌, length, IfSome};
 
 use crate::text::number;
 
@@ -21,7 +21,9 @@ impl Program {
     }
 
     /// The bytes of the program.
-    pub(crate) fn memory(&self) -> &[u8] {
+    pub(crate) fn memory(&self) -> &[u8]
+        ensures { length result.now ≤ 256 }
+    {
         &self.bytes[..self.size]
     }
 
@@ -37,9 +39,7 @@ impl Program {
         let at = number(line.get(..2)?) as usize;
         let word = number(line.get(3..11)?);
         let end = at.checked_add(4)?;
-        self.bytes
-            .get_mut(at..end)?
-            .copy_from_slice(&word.to_be_bytes());
+        codec::put_number(self.bytes.get_mut(at..end)?, 0, word);
         Some(end)
     }
 }

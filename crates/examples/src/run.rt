@@ -1,4 +1,5 @@
 //! A run of a program from reset, and what is left after it.
+use crate::text::place;
 use emulator::Ran;
 use machine::Refusal;
 
@@ -27,8 +28,8 @@ impl Run {
     }
 
     /// What a name says of the image: a number of it, or whether it is that at reset. A name that is not known says nothing.
-    pub(crate) fn value(&self, name: &[u8], names: &[&[u8]]) -> Option<u32> {
-        match names.iter().position(|known| *known == name) {
+    pub(crate) fn value(&self, name: &[u8], names: &[u8]) -> Option<u32> {
+        match place(name, names) {
             Some(entry) if entry < machine::words::WORDS => {
                 Some(codec::number_at(&self.image, 4 * entry))
             }

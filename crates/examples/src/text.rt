@@ -30,3 +30,11 @@ fn digit(character: u8) -> u32
 pub(crate) fn number(digits: &[u8]) -> u32 {
     digits.iter().fold(0, |value: u32, character| (value << 4) | digit(*character))
 }
+
+/// Where a word stands among others, counted from 0. After their last blank or newline there is no further word.
+pub(crate) fn place(word: &[u8], words: &[u8]) -> Option<usize> {
+    // Each comes with the character that ends it.
+    words.split_inclusive(ends_word).position(|known| known
+        .strip_prefix(word)
+        .is_some_and(|end| end.iter().all(ends_word)))
+}

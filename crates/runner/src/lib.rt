@@ -1,17 +1,19 @@
 //! The run program: runs code.bin from reset for the steps that limit.txt says, and prints the answer (Manual 15.1).
 #![tactic(auto, unfolding(crate::specs::Report::answer_text))]
 
-ghost use Rattle.std.specs.Prelude.{◌≡◌, length, replicate};
+ghost use Rattle.std.specs.Prelude.{◌≡◌, length, replicate, IfOk, IfErr};
 ghost use Rattle.codec.specs.Number.{over};
 ghost use Rattle.machine.specs.Control.{reset as resetOf};
 ghost use Rattle.image.specs.Image.{write_image, LONGEST};
-ghost use Rattle.emulator.specs.Run.{reply_of};
+ghost use Rattle.emulator.specs.Run.{reply_of, RefusedWith, RanFor};
 ghost use Rattle.std.specs.Counts.{IsPrefixLen};
+ghost use Rattle.console.specs.Limit.{limit_number};
 ghost use Rattle.runner.specs.Report.{pc_of, answer_text, report_of};
 
 use console::Line;
 use emulator::Ran;
 use machine::Refusal;
+use std::convert::AsSlice;
 use std::fs;
 use std::io::{Print, Read};
 use std::rt::Files;
@@ -38,15 +40,34 @@ fn pc(buffer: &[u8]) -> u32
     codec::number_at(buffer, 4 * machine::words::POSITION)
 }
 
-/// The line for an answer and the buffer that holds the new image: steps, ending and PC; of a refusal its number alone.
+/// The line for an answer's numbers, whatever they are, and the buffer that holds the new image: steps, ending and PC; of a refusal its number alone.
+pub fn numbered_line(answer: Result<(u32, u32), u32>, buffer: &[u8]) -> Line
+    requires { length buffer.now ≡ LONGEST }
+    ensures ran { IfOk answer (λ (steps, ending). result.bytes ≡ answer_text (RanFor steps ending) buffer.now) }
+    ensures refused { IfErr answer (λ n. result.bytes ≡ answer_text (RefusedWith n) buffer.now) }
+{
+    match answer {
+        Ok((steps, ending)) => console::ran_line(steps, ending, pc(buffer)),
+        Err(n) => console::refusal_line(n),
+    }
+}
+
+/// The same for what a run call answers.
 pub fn line(answer: Result<Ran, Refusal>, buffer: &[u8]) -> Line
     requires { length buffer.now ≡ LONGEST }
     ensures { result.bytes ≡ answer_text (reply_of answer) buffer.now }
 {
     match answer {
-        Ok(ran) => console::ran_line(ran.steps, ran.ending.number(), pc(buffer)),
-        Err(why) => console::refusal_line(why.number()),
+        Ok(ran) => numbered_line(Ok((ran.steps, ran.ending.number())), buffer),
+        Err(why) => numbered_line(Err(why.number()), buffer),
     }
+}
+
+/// The step limit that a text says, as a run call takes it; of a text that says none the largest number, which the call refuses.
+pub fn limit(text: &[u8]) -> u32
+    ensures { result ≡ limit_number text.now }
+{
+    console::limit_of(text).unwrap_or(u32::MAX)
 }
 
 /// The line that the run program prints for the bytes of code.bin and of limit.txt.
@@ -56,15 +77,13 @@ pub fn report(code: &[u8], text: &[u8]) -> Line
     let start = reset_image();
     let mut cells = [0u32; 4096];
     let requests = [0u32; 0];
-    // The call takes a number, and refuses this one.
-    let limit = console::limit_of(text).unwrap_or(u32::MAX);
     let mut buffer = [0u8; image::LONGEST];
     let answer = emulator::run(
         code,
         &mut cells,
         &start[..image::SHORTEST],
         &requests,
-        limit,
+        limit(text),
         &mut buffer,
     );
     line(answer, &buffer)
@@ -107,9 +126,9 @@ pub fn print_bytes(out: &impl Print, bytes: &[u8]) -> bool {
     out.write_all(bytes).is_ok()
 }
 
-/// Writes a line's characters to standard output, and answers whether all were written.
-pub fn print(out: &impl Print, line: Line) -> bool {
-    print_bytes(out, line.as_str().as_bytes())
+/// Writes a line's characters, which need not be text, to standard output, and answers whether all were written.
+pub fn print(out: &impl Print, line: impl AsSlice<u8> + Drop) -> bool {
+    print_bytes(out, line.as_slice())
 }
 
 /// Reads two files, and prints the report of their bytes: a program, and the steps that it is run for. Of a longer file the bytes that are read say the
@@ -119,7 +138,7 @@ pub fn run_paths(rt: &(impl Files + Print), code_path: &[u8], limit_path: &[u8])
     let n = load(rt, code_path, &mut code);
     let mut text = [0u8; 16];
     let m = load(rt, limit_path, &mut text);
-    print(rt, report(&code[..n], &text[..m]));
+    print(rt, report(&code[..n], &text[..m]).as_str());
 }
 
 /// The run program: code.bin and limit.txt of the folder that it is started in.

@@ -1,8 +1,6 @@
 -- `report` meets its contract. Assumes nothing.
 use mathlib.Core.Path.{sym, ap, ◌∙◌}
 use lib.ListN.{length}
-use Rattle.std.specs.Option.{unwrap_or}
-use Rattle.console.specs.Limit.{bad_limit}
 use Rattle.runner.proofs.Buffers.{reset_length, reset_front}
 use Rattle.runner.proofs.Reports.{report_is}
 use Rattle.runner.proofs.report.Goals as goal
@@ -12,4 +10,4 @@ slice_bounds-run-end-2 c = sym (ap length (reset_front _ _ c.reset_image-start.e
 
 pub returns : goal.returns
 returns c =
-    c.line.ensures ∙ report_is _ _ _ _ _ _ _ (reset_front _ _ c.reset_image-start.ensures) (c.unwrap_or-limit.ensures ∙ ap (λ o. unwrap_or o bad_limit) c.limit_of.ensures) c.run-answer.ensures
+    c.line.ensures ∙ report_is _ _ _ _ _ _ _ (reset_front _ _ c.reset_image-start.ensures) c.limit.ensures c.run-answer.ensures
