@@ -1,8 +1,8 @@
 -- Answers as numbers, for C (Manual 14.1). Assumes nothing.
-use Rattle.std.specs.Prelude.{Bool, Some, None, List, ℕ, ◌+◌, ◌^◌, ℤ, if◌then◌else◌}
+use Rattle.std.specs.Prelude.{Bool, List, ℕ, ◌+◌, ◌^◌, ℤ}
 use Rattle.machine.specs.Machine.{Memory}
 use Rattle.emulator.specs.Run.{Reply, RefusedWith, RanFor, Outcome}
-use Rattle.encoder.specs.Encode.{Choice, Encoding, Encodes, RefusedWith as EncodingRefused}
+use Rattle.encoder.specs.Encode.{Choice, Encoding, Encodes, RefusedWith as EncodingRefused, guard_by}
 use Rattle.coffee.specs.declared.CoffeeAnswer.{CoffeeAnswer}
 
 -- ---- a run call
@@ -30,7 +30,7 @@ in_numbers o = shown (answer_numbers o.answer) o.buffer o.memory
 -- what a word is to be made from, in numbers; without a condition, creg and condition are no part of it
 abbrev pub choice_by : (operation : ℕ) (conditional : Bool) (creg condition : ℕ) (a b c d : ℤ) → Choice
 choice_by operation conditional creg condition a b c d =
-    record { operation = operation; guard = if conditional then Some (record { creg = creg; condition = condition }) else None; first = a; second = b; third = c; fourth = d }
+    record { operation = operation; guard = guard_by conditional creg condition; first = a; second = b; third = c; fourth = d }
 
 -- the word, which has at most 32 bits; or 2 ^ 32 and the refusal's number
 unfoldable pub encoding_number : Encoding → ℕ

@@ -119,6 +119,7 @@ fn encoding_number(answer: Result<u32, Refusal>) -> u64
 }
 
 /// Makes an instruction word from what a listing shows of it; wide 0 is 16-bit words, conditional 0 is no condition.
+#[tactic(auto, unfolding(encoder::specs::Computed::encodings))]
 #[unsafe(no_mangle)]
 pub extern "C" fn coffee_encode(
     operation: u32,
