@@ -25,17 +25,14 @@ fn width(digits: &[u8]) -> Width {
 fn written(word: u32, width: Width) -> Result<u32, Refusal> {
     let i = Instruction::decode(word, width);
     let operation = Operation::from_number(i.opcode);
-    let shown = |role: Option<Role>| match role {
-        Some(role) => i.operand(role).cast_signed(),
-        None => 0,
-    };
+    let value = |role: Role| i.operand(role).cast_signed();
     let choice = Choice {
         operation: i.opcode,
         condition: i.conditional.then_some(Guard {
             creg: i.creg,
             condition: i.condition,
         }),
-        operands: operation.roles(width).map(shown),
+        operands: operation.roles(width).map(|role| role.map_or(0, value)),
     };
     encoder::encode(width, choice)
 }
