@@ -15,6 +15,7 @@ use Rattle.std.specs.Fmt.{signed_decimal}
 use Rattle.std.proofs.lemmas.Fmt.{decimal_digit, decimal_step}
 use Rattle.word.specs.Word.{word_of, signed_of}
 use Rattle.word.proofs.Tests.{either}
+use Rattle.word.proofs.Bounds.{word_below}
 use Rattle.word.proofs.Integers.{signed_word}
 use Rattle.codec.specs.Number.{put_at}
 use Rattle.codec.proofs.Laws.{put_at_append}
@@ -81,9 +82,13 @@ two_digits n l h =
 pub value_passed : (v : ℤ) → mag v < 2 ^ 31 → signed_of 32 (word_of 32 v) ≡ v
 value_passed v h = signed_word 32 (omega arith) v h
 
+-- what std writes of a value that was passed on as a word
+pub operand_std : (v : ℤ) → mag v < 2 ^ 31 → signed_decimal (to_z w32 (of_z w32 (to_z w32 (word_of 32 v)))) ≡ integer_text v
+operand_std v h = word_std (word_of 32 v) (word_below 32 v) ∙ ap integer_text (value_passed v h)
+
 pub ruleset text_rules = (length-append, append_assoc)
 
-pub ruleset operand_rules = (value_passed, length-append, append_assoc)
+pub ruleset operand_rules = (operand_std, value_passed, length-append, append_assoc)
 
 -- the condition register: a prefix and a digit
 pub length_creg : (i : Instruction) → i.creg < 8 → length (operand_text i Creg) ≤ 2
